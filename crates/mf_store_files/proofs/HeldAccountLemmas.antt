@@ -223,8 +223,8 @@ pub held_instalments : (i : Institution) → IsSound i → AllByRecursion (HasFi
     (map instalment_row (tables_of i).instalments)
 held_instalments i sound =
     stored_held (HasFields (table.instalments).columns) instalment_row (tables_of i).instalments
-    (kept_of_offices instalment_in instalments_kept HeldInstalment account_instalments i.catalogue sound.catalogue (is_staff i.offices) i.offices
-    sound.each)
+    (kept_of_offices instalment_in instalments_kept HeldInstalment account_instalments i.catalogue sound.catalogue
+    (is_staff i.offices) i.offices sound.each)
 
 -- ---- shares
 
@@ -438,4 +438,5 @@ pub held_shares : (i : Institution) → IsSound i → AllByRecursion (HasFields 
     (map share_row (tables_of i).shares)
 held_shares i sound =
     stored_held (HasFields (table.shares).columns) share_row (tables_of i).shares
-    (kept_of_offices share_in shares_kept HeldShare account_shares i.catalogue sound.catalogue (is_staff i.offices) i.offices sound.each)
+    (kept_of_offices share_in shares_kept HeldShare account_shares i.catalogue sound.catalogue
+    (is_staff i.offices) i.offices sound.each)

@@ -248,8 +248,8 @@ pub held_staff : (i : Institution) → IsSound i → AllByRecursion (HasFields (
     (map staff_row (tables_of i).staff)
 held_staff i sound =
     stored_held (HasFields (table.staff).columns) staff_row (tables_of i).staff
-    (rows_held (λ (s : Staff). IsName s.name) HeldStaff (IsSoundOffice i.catalogue (is_staff i.offices)) 9999 staff_in (λ rows. rows.staff)
-    (λ x n s low_x low_n name. record {
+    (rows_held (λ (s : Staff). IsName s.name) HeldStaff (IsSoundOffice i.catalogue (is_staff i.offices)) 9999
+    staff_in (λ rows. rows.staff) (λ x n s low_x low_n name. record {
       width = refl;
       values = (
         is_number x (omega arith),
@@ -790,4 +790,5 @@ pub held_receipts : (i : Institution) → IsSound i → AllByRecursion (HasField
     (map receipt_row (tables_of i).receipts)
 held_receipts i sound =
     stored_held (HasFields (table.receipts).columns) receipt_row (tables_of i).receipts
-    (all_sorted by_receipt HeldReceipt (receipts_carried i.offices) (carried_held i.catalogue (is_staff i.offices) i.offices sound.each))
+    (all_sorted by_receipt HeldReceipt (receipts_carried i.offices)
+    (carried_held i.catalogue (is_staff i.offices) i.offices sound.each))

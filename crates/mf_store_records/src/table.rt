@@ -140,9 +140,16 @@ impl Values for (u32, u32, u32, u32) {
         ask(connection, sql, params![self.0, self.1, self.2, self.3])
     }
 
-    ghost plain = { λ key.
-        ((Number, refl, (key.0, refl)), ((Number, refl, (key.1, refl)), ((Number, refl, (key.2, refl)),
-        ((Number, refl, (key.3, refl)), tt)))) };
+    ghost plain = { λ key. (
+      (Number, refl, (key.0, refl)),
+      (
+        (Number, refl, (key.1, refl)),
+        (
+          (Number, refl, (key.2, refl)),
+          ((Number, refl, (key.3, refl)), tt),
+        ),
+      ),
+    ) };
 }
 
 /// The rows of a table, each as the program holds it.

@@ -102,8 +102,31 @@ defines_shares = subst (λ s. Defines s (create_text shares) (sql_table 0 shares
 
 -- what holds of ten tables holds of the first nine
 firsts : (P : Table → Type 0) → AllByRecursion P ten_schema.tables → AllByRecursion P first_schema.tables
-firsts P h = (h.0, (h.1.0, (h.1.1.0, (h.1.1.1.0, (h.1.1.1.1.0, (h.1.1.1.1.1.0, (h.1.1.1.1.1.1.0, (h.1.1.1.1.1.1.1.0,
-    (h.1.1.1.1.1.1.1.1.0, tt)))))))))
+firsts P h = (
+  h.0,
+  (
+    h.1.0,
+    (
+      h.1.1.0,
+      (
+        h.1.1.1.0,
+        (
+          h.1.1.1.1.0,
+          (
+            h.1.1.1.1.1.0,
+            (
+              h.1.1.1.1.1.1.0,
+              (
+                h.1.1.1.1.1.1.1.0,
+                (h.1.1.1.1.1.1.1.1.0, tt),
+              ),
+            ),
+          ),
+        ),
+      ),
+    ),
+  ),
+)
 
 abbrev Stands : Database → KeptLists → Type 0
 Stands = Serves schema_kept Holds
@@ -133,12 +156,15 @@ making_accounts a b c first second = record { mode = second.mode; was_open = fir
             sound = subst (λ s. IsSound s c.now.trees) eleven_is two.sound;
             all = all_and c.now.trees (take 9 (conditions m)) (kept_in 19 instalment_row by_instalment []
                 ∷ kept_in 21 share_row by_share [] ∷ []) nine (
-              subst (λ t. Keeps instalment_row by_instalment t []) (sym (two.others.1.1.1.1.1.1.1.1.1.0
-                  ∙ (λ t. b.now.trees (sym nineteen t)) ∙ one.fresh)) (keeps_none by_instalment by_instalment_total
-                  instalment_row),
-              (subst (λ t. Keeps share_row by_share t []) (sym ((λ t. c.now.trees (sym twenty_one t)) ∙ two.fresh))
-                  (keeps_none by_share by_share_total share_row), tt),
-            );
+                  subst (λ t. Keeps instalment_row by_instalment t []) (sym (two.others.1.1.1.1.1.1.1.1.1.0
+                      ∙ (λ t. b.now.trees (sym nineteen t)) ∙ one.fresh)) (keeps_none by_instalment by_instalment_total
+                      instalment_row),
+                  (
+                    subst (λ t. Keeps share_row by_share t []) (sym ((λ t. c.now.trees (sym twenty_one t)) ∙ two.fresh))
+                        (keeps_none by_share by_share_total share_row),
+                    tt,
+                  ),
+                );
           };
         }
 

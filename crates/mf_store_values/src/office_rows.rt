@@ -59,8 +59,7 @@ impl Model for OfficeRows {
 
     ghost Value = { Rows };
 
-    ghost view =
-        { λ rows. record { staff = rows.staff.items; clients = rows.clients.items; loans = rows.loans.items } };
+    ghost view = { λ rows. record { staff = rows.staff.items; clients = rows.clients.items; loans = rows.loans.items } };
 }
 
 impl OfficeRows {

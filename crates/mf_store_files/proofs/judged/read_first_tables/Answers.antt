@@ -24,18 +24,20 @@ returns-in_default-clause-none g c clean ours lists held h =
     (nested_first lists) (
       ((held.offices, (held.staff, held.clients)), (held.meta, (held.charges, held.products))),
       (held.loans, (held.entries, held.receipts)),
+    ) (
+      ((h.all.1.0, (h.all.1.1.0, h.all.1.1.1.0)), (h.all.0, (h.all.1.1.1.1.0, h.all.1.1.1.1.1.0))),
+      (h.all.1.1.1.1.1.1.0, (h.all.1.1.1.1.1.1.1.0, h.all.1.1.1.1.1.1.1.1.0)),
     )
-    (((h.all.1.0, (h.all.1.1.0, h.all.1.1.1.0)), (h.all.0, (h.all.1.1.1.1.0, h.all.1.1.1.1.1.0))),
-    (h.all.1.1.1.1.1.1.0, (h.all.1.1.1.1.1.1.1.0, h.all.1.1.1.1.1.1.1.1.0)))
 
 pub returns-clause-only : goal.returns-clause-only
 returns-clause-only g c clean ours lists h =
     let none : c.new.result.items ≡ [] = search rules in
     let empty : c.new-2.result.items ≡ [] = search rules in
     same_lists _ (nested_first lists) c.new.result.items c.new-2.result.items (at_some c.in_ok-found.found _ _
-    c.in-Some.is (c.in_ok-found.ensures.only clean (under_first _ ours)) (nested_first lists)
-    (((h.all.1.0, (h.all.1.1.0, h.all.1.1.1.0)), (h.all.0, (h.all.1.1.1.1.0, h.all.1.1.1.1.1.0))),
-    (h.all.1.1.1.1.1.1.0, (h.all.1.1.1.1.1.1.1.0, h.all.1.1.1.1.1.1.1.1.0)))) none
+    c.in-Some.is (c.in_ok-found.ensures.only clean (under_first _ ours)) (nested_first lists) (
+      ((h.all.1.0, (h.all.1.1.0, h.all.1.1.1.0)), (h.all.0, (h.all.1.1.1.1.0, h.all.1.1.1.1.1.0))),
+      (h.all.1.1.1.1.1.1.0, (h.all.1.1.1.1.1.1.1.0, h.all.1.1.1.1.1.1.1.1.0)),
+    )) none
     empty
 
 pub returns-clause-keeps : goal.returns-clause-keeps

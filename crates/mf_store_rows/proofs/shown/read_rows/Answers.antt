@@ -6,9 +6,11 @@ use Rattle.mf_store_rows.proofs.shown.read_rows.Goals as goal
 
 pub rows-init : goal.rows-init
 rows-init g c =
-    let none = subst (λ l. AreReadAs g.T.Table.stored l []) (sym c.new.ensures.items) tt in
-    (refl, begin g.S.Store g.T.Table.stored (g.T.Table.columns).columns c.args.rows.now.conn.now
-        (Some c.new.result) none)
+    let none = subst (λ l. AreReadAs g.T.Table.stored l []) (sym c.new.ensures.items) tt in (
+      refl,
+      begin g.S.Store g.T.Table.stored (g.T.Table.columns).columns c.args.rows.now.conn.now
+          (Some c.new.result) none,
+    )
 
 pub rows-preserved : goal.rows-preserved
 rows-preserved g c =
