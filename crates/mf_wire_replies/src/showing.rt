@@ -16,6 +16,7 @@ mod entries;
 mod lists;
 mod loans;
 mod members;
+mod texts;
 
 use arrears::arrears_shown;
 use catalogue::{charge_shown, product_shown};
@@ -27,6 +28,7 @@ use mf_model::Reply;
 use mf_office::{Account, Name, Office};
 use serde_json::Value;
 use std::alloc::{AllocError, Global};
+use texts::text_in;
 
 /// A body before it is written: a value of JSON, or its text where that is written at once.
 #[derive(Drop)]
@@ -149,5 +151,5 @@ pub fn line_text(alloc: Global, reply: &Reply) -> Result<String, Fault>
 {
     let body = body_text(alloc, reply)?;
     let status = status(reply);
-    Ok(format!(in alloc; "{status} {body}\n")?)
+    Ok(text_in(alloc, body.len() + 5, format_args!("{status} {body}\n"))?)
 }

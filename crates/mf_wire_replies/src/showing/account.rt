@@ -7,6 +7,7 @@ ghost use Rattle.mf_wire_replies.specs.AccountTexts.{instalment_rest as instalme
 
 use super::lists::{Written, list_text};
 use super::loans::quoted_text;
+use super::texts::text_in;
 use mf_alloc::Portion;
 use mf_base::Fault;
 use mf_statement::InstalmentLine;
@@ -19,9 +20,10 @@ fn instalment_rest(alloc: Global, line: &InstalmentLine) -> Result<String, Alloc
     let outstanding = line.outstanding;
     let penalties = line.owed[Portion::Penalty.index()];
     let principal = line.owed[Portion::Principal.index()];
-    format!(in alloc;
+    let shown = format_args!(
         r#","outstanding":{outstanding},"penalties":{penalties},"principal":{principal}}}"#
-    )
+    );
+    text_in(alloc, 96, shown)
 }
 
 impl Written for InstalmentLine {
@@ -33,9 +35,10 @@ impl Written for InstalmentLine {
         let fees = self.owed[Portion::Fee.index()];
         let interest = self.owed[Portion::Interest.index()];
         let rest = instalment_rest(alloc, self)?;
-        let text = format!(in alloc;
+        let shown = format_args!(
             r#"{{"due":{due},"fees":{fees},"interest":{interest},"number":{number}{rest}"#
-        )?;
+        );
+        let text = text_in(alloc, 192, shown)?;
         Ok(text)
     }
 }

@@ -12,6 +12,7 @@ ghost use Rattle.mf_wire_replies.specs.AccountTexts.{share_data, entry_rest as e
 
 use super::lists::{Written, array_text, list_text};
 use super::loans::quoted_text;
+use super::texts::text_in;
 use mf_account::{Entry, Kind};
 use mf_alloc::{Portion, Share};
 use mf_base::Fault;
@@ -100,9 +101,10 @@ impl Written for Share {
         let amount = self.amount;
         let instalment = self.cell.instalment;
         let portion = quoted_portion(self.cell.portion);
-        let text = format!(in alloc;
+        let shown = format_args!(
             r#"{{"amount":{amount},"instalment":{instalment},"portion":{portion}}}"#
-        )?;
+        );
+        let text = text_in(alloc, 80, shown)?;
         Ok(text)
     }
 }
@@ -117,9 +119,10 @@ fn entry_rest(alloc: Global, entry: &Entry, shares: &[Share]) -> Result<String, 
     let reversed = truth(entry.reversed);
     let shares = array_text(alloc, shares)?;
     let staff = quoted_text(alloc, entry.staff.text(alloc)?.as_str())?;
-    let rest = format!(in alloc;
+    let shown = format_args!(
         r#","portion":{portion},"receipt":{receipt},"reversed":{reversed},"shares":{shares},"staff":{staff}}}"#
-    )?;
+    );
+    let rest = text_in(alloc, 384, shown)?;
     Ok(rest)
 }
 
@@ -133,9 +136,10 @@ impl Written for EntryLine {
         let instalment = instalment_of(alloc, &self.entry)?;
         let kind = quoted_kind(self.entry.kind);
         let rest = entry_rest(alloc, &self.entry, self.shares.as_slice())?;
-        let text = format!(in alloc;
+        let shown = format_args!(
             r#"{{"amount":{amount},"day":{day},"entry":{entry},"instalment":{instalment},"kind":{kind}{rest}"#
-        )?;
+        );
+        let text = text_in(alloc, 512, shown)?;
         Ok(text)
     }
 }

@@ -13,6 +13,7 @@ ghost use Rattle.mf_wire_replies.specs.LoanTexts.{lines_data};
 use super::account::instalments_text;
 use super::entries::entries_text;
 use super::lists::{Written, list_text};
+use super::texts::text_in;
 use super::{Body, single};
 use mf_alloc::Portion;
 use mf_base::{Day, Fault};
@@ -27,7 +28,11 @@ impl Written for LoanLine {
     fn text(&self, alloc: Global) -> Result<String, Fault> {
         let loan = quoted_text(alloc, self.loan.text(alloc)?.as_str())?;
         let status = self.status;
-        let text = format!(in alloc; r#"{{"loan":{loan},"status":{status}}}"#)?;
+        let text = text_in(
+            alloc,
+            48,
+            format_args!(r#"{{"loan":{loan},"status":{status}}}"#),
+        )?;
         Ok(text)
     }
 }
@@ -56,9 +61,10 @@ fn sums_text(alloc: Global, sums: &[u64; 4]) -> Result<String, AllocError>
     let interest = sums[Portion::Interest.index()];
     let penalties = sums[Portion::Penalty.index()];
     let principal = sums[Portion::Principal.index()];
-    format!(in alloc;
+    let shown = format_args!(
         r#"{{"fees":{fees},"interest":{interest},"penalties":{penalties},"principal":{principal}}}"#
-    )
+    );
+    text_in(alloc, 112, shown)
 }
 
 /// A loan's members from `product` on, and the closing bracket.
@@ -70,9 +76,10 @@ fn loan_end(alloc: Global, loan: &Statement) -> Result<String, AllocError>
     let refunded = loan.balances.refunded;
     let waived = sums_text(alloc, &loan.balances.waived)?;
     let written_off = sums_text(alloc, &loan.balances.written_off)?;
-    format!(in alloc;
+    let shown = format_args!(
         r#","product":{product},"refunded":{refunded},"status":{status},"waived":{waived},"written_off":{written_off}}}"#
-    )
+    );
+    text_in(alloc, 320, shown)
 }
 
 /// A loan's members from `outstanding` on, and the closing bracket, by the text of the last of them.
@@ -85,9 +92,10 @@ fn loan_rest(alloc: Global, loan: &Statement) -> Result<String, AllocError>
     let outstanding = sums_text(alloc, &loan.balances.outstanding)?;
     let paid = sums_text(alloc, &loan.balances.paid)?;
     let end = loan_end(alloc, loan)?;
-    format!(in alloc;
+    let shown = format_args!(
         r#","outstanding":{outstanding},"overpaid":{overpaid},"paid":{paid},"periods":{periods},"principal":{principal}{end}"#
-    )
+    );
+    text_in(alloc, 640, shown)
 }
 
 /// A day as JSON, in quotes, or null where there is none.
@@ -111,9 +119,10 @@ fn loan_body(alloc: Global, client: &str, account: &str, loan: &Statement) -> Re
     let fee = loan.balances.disbursement_fee;
     let day = day_text(alloc, loan.day)?;
     let rest = loan_rest(alloc, loan)?;
-    let body = format!(in alloc;
+    let shown = format_args!(
         r#"{{"client":{client},"day":{day},"disbursement_fee":{fee},"loan":{account}{rest}"#
-    )?;
+    );
+    let body = text_in(alloc, 768, shown)?;
     Ok(body)
 }
 

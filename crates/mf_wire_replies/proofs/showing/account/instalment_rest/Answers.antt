@@ -9,8 +9,8 @@ pub returns : goal.returns
 unfolding serde_json_on_literals
 returns c =
     let line = c.args.line.now in
-    IfOk-weaker c.format.result _ _
+    IfOk-weaker c.text_in.result _ _
     (λ s h. h ∙ (λ i. instalment_rest_by (decimal line.outstanding)
     (decimal (slice_index line.owed (c.index.ensures.value i)))
     (decimal (slice_index line.owed (c.index-2.ensures.value i)))))
-    c.format.ensures.ok
+    c.text_in.ensures.ok

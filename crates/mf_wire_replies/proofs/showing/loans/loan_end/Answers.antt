@@ -9,5 +9,5 @@ pub returns : goal.returns
 unfolding serde_json_on_literals
 returns c =
     let loan = c.args.loan.now in
-    IfOk-weaker c.format.result _ _ (λ s h. h ∙ (λ i. end_of (decimal loan.product) (decimal loan.balances.refunded)
-    (decimal loan.status) (c.in_ok-waived.ensures i) (c.in_ok-written_off.ensures i))) c.format.ensures.ok
+    IfOk-weaker c.text_in.result _ _ (λ s h. h ∙ (λ i. end_of (decimal loan.product) (decimal loan.balances.refunded)
+    (decimal loan.status) (c.in_ok-waived.ensures i) (c.in_ok-written_off.ensures i))) c.text_in.ensures.ok

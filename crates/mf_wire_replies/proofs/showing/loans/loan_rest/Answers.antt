@@ -9,6 +9,6 @@ pub returns : goal.returns
 unfolding serde_json_on_literals
 returns c =
     let loan = c.args.loan.now in
-    IfOk-weaker c.format.result _ _ (λ s h. h ∙ (λ i. rest_of (c.in_ok-outstanding.ensures i)
+    IfOk-weaker c.text_in.result _ _ (λ s h. h ∙ (λ i. rest_of (c.in_ok-outstanding.ensures i)
     (decimal loan.balances.overpaid) (c.in_ok-paid.ensures i) (decimal loan.periods) (decimal loan.principal)
-    (c.in_ok-end.ensures i))) c.format.ensures.ok
+    (c.in_ok-end.ensures i))) c.text_in.ensures.ok

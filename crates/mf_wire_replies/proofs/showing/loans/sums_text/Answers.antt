@@ -9,9 +9,9 @@ pub returns : goal.returns
 unfolding serde_json_on_literals
 returns c =
     let sums = c.args.sums.now in
-    IfOk-weaker c.format.result _ _
+    IfOk-weaker c.text_in.result _ _
     (λ s h. h ∙ (λ i. sums_by (decimal (slice_index sums (c.index.ensures.value i)))
     (decimal (slice_index sums (c.index-2.ensures.value i)))
     (decimal (slice_index sums (c.index-3.ensures.value i)))
     (decimal (slice_index sums (c.index-4.ensures.value i)))))
-    c.format.ensures.ok
+    c.text_in.ensures.ok
