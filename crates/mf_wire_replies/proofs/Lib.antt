@@ -1,3 +1,4 @@
 pub mod Pieces
 pub mod Whole
 mod Joined
+mod Quoted

@@ -1,5 +1,5 @@
 -- Values of JSON that several replies have.
-use Rattle.std.specs.Prelude.{ℕ, Bool, true, List, [], ◌∷◌, ◌++◌, Option, Some, None}
+use Rattle.std.specs.Prelude.{ℕ, ◌==◌, ◌&&◌, Bool, true, not, List, [], ◌∷◌, ◌++◌, nat_le, Option, Some, None}
 use Rattle.serde_json.specs.Data.{Data, null, number, unsigned, string}
 use Rattle.serde_json.specs.Written.{comma_if, compact_text}
 
@@ -21,3 +21,7 @@ text_or_null (Some text) = string text
 abbrev pub joined : Bool → List Data → List ℕ
 joined later [] = []
 joined later (d ∷ ds) = comma_if later ++ (compact_text d ++ joined true ds)
+
+-- a byte that stands in a text of JSON as it is: no quote, no backslash, and no control character
+abbrev pub is_plain_byte : ℕ → Bool
+is_plain_byte b = (not (b == 34) && not (b == 92)) && nat_le 32 b

@@ -6,8 +6,7 @@ ghost use Rattle.mf_wire_replies.specs.AccountTexts.{instalment_data, instalment
 ghost use Rattle.mf_wire_replies.specs.AccountTexts.{instalment_rest as instalment_rest_of};
 
 use super::lists::{Written, list_text};
-use super::loans::quoted_text;
-use super::texts::text_in;
+use super::texts::{quoted_text, text_in};
 use mf_alloc::Portion;
 use mf_base::Fault;
 use mf_statement::InstalmentLine;

@@ -11,8 +11,7 @@ ghost use Rattle.mf_wire_replies.specs.AccountTexts.{instalment_for, portion_wai
 ghost use Rattle.mf_wire_replies.specs.AccountTexts.{share_data, entry_rest as entry_rest_of, entry_data, entries_data};
 
 use super::lists::{Written, array_text, list_text};
-use super::loans::quoted_text;
-use super::texts::text_in;
+use super::texts::{quoted_text, text_in};
 use mf_account::{Entry, Kind};
 use mf_alloc::{Portion, Share};
 use mf_base::Fault;

@@ -13,13 +13,13 @@ ghost use Rattle.mf_wire_replies.specs.LoanTexts.{lines_data};
 use super::account::instalments_text;
 use super::entries::entries_text;
 use super::lists::{Written, list_text};
-use super::texts::text_in;
+use super::texts::{quoted_text, text_in};
 use super::{Body, single};
 use mf_alloc::Portion;
 use mf_base::{Day, Fault};
 use mf_model::{LoanLine, LoanReply, Statement};
 use mf_office::Account;
-use serde_json::{Value, json};
+use serde_json::Value;
 use std::alloc::{AllocError, Global};
 
 impl Written for LoanLine {
@@ -43,14 +43,6 @@ pub fn loans_text(alloc: Global, lines: &[LoanLine]) -> Result<String, Fault>
     ensures err { IfErr result (λ f. f ≡ Fault.F20) }
 {
     list_text(alloc, r#"{"loans":["#, lines)
-}
-
-/// A text as JSON, in quotes.
-pub fn quoted_text(alloc: Global, text: &str) -> Result<String, AllocError>
-    ensures { IfOk result (λ s. string_bytes s ≡ quoted text.now) }
-{
-    let value = json!(in alloc; text)?;
-    value.to_string(alloc)
 }
 
 /// Sums by portion as JSON, in whole cents.
