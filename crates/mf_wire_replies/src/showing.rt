@@ -1,12 +1,13 @@
 //! The text of a success, which is made before anything is changed.
 
 ghost use Rattle.std.specs.Prelude.{◌≡◌, false, IfOk, IfErr, string_bytes};
-ghost use Rattle.serde_json.specs.Data.{object, member, no_members};
+ghost use Rattle.serde_json.specs.Data.{string, object, member, no_members};
 ghost use Rattle.serde_json.specs.View.{view};
 ghost use Rattle.serde_json.specs.Written.{compact_text, has_float};
 ghost use Rattle.mf_model.specs.declared.reply.Reply.{Reply};
 ghost use Rattle.mf_model.specs.declared.reply.Reply.TheVariants.{ClientShown};
 ghost use Rattle.mf_wire_lines.specs.Replies.{reply_line};
+ghost use Rattle.mf_wire_replies.specs.Json.{whole};
 ghost use Rattle.mf_wire_replies.specs.Shown.{IsBodyOf, office_data, reply_data, reply_status, reply_body};
 
 mod account;
@@ -28,7 +29,7 @@ use mf_model::Reply;
 use mf_office::{Account, Name, Office};
 use serde_json::Value;
 use std::alloc::{AllocError, Global};
-use texts::text_in;
+use texts::{quoted_text, text_in};
 
 /// A body before it is written: a value of JSON, or its text where that is written at once.
 #[derive(Drop)]
@@ -51,6 +52,29 @@ impl Shown for Office {
         members.put_text(alloc, "name", self.name.as_str())?;
         Ok(members.into_value())
     }
+}
+
+/// A body that is an object of one member, a text.
+fn single_text(alloc: Global, name: &str, text: &str) -> Result<Body, Fault>
+    ensures ok { IfOk result (λ body. (reply : Reply) → object (member name.now (string text.now) no_members)
+        ≡ reply_data reply → IsBodyOf reply body) }
+    ensures err { IfErr result (λ f. f ≡ Fault.F20) }
+{
+    let name = quoted_text(alloc, name)?;
+    let text = quoted_text(alloc, text)?;
+    let body = text_in(alloc, 48, format_args!("{{{name}:{text}}}"))?;
+    Ok(Body::Text(body))
+}
+
+/// A body that is an object of one member, a number.
+fn single_number(alloc: Global, name: &str, number: u32) -> Result<Body, Fault>
+    ensures ok { IfOk result (λ body. (reply : Reply) → object (member name.now (whole number) no_members)
+        ≡ reply_data reply → IsBodyOf reply body) }
+    ensures err { IfErr result (λ f. f ≡ Fault.F20) }
+{
+    let name = quoted_text(alloc, name)?;
+    let body = text_in(alloc, 32, format_args!("{{{name}:{number}}}"))?;
+    Ok(Body::Text(body))
 }
 
 /// A body that is an object of one member.
@@ -79,21 +103,21 @@ fn reply_body(alloc: Global, reply: &Reply) -> Result<Body, Fault>
     ensures err { IfErr result (λ f. f ≡ Fault.F20) }
 {
     match reply {
-        Reply::OfficeMade(office) => single(alloc, "office", Value::from(office.get())),
+        Reply::OfficeMade(office) => single_number(alloc, "office", office.get()),
         Reply::Offices(list) => single(alloc, "offices", array_of(alloc, list.as_slice())?),
-        Reply::StaffMade(staff) => single(alloc, "staff", Value::String(staff.text(alloc)?)),
-        Reply::ClientMade(client) => single(alloc, "client", Value::String(client.text(alloc)?)),
+        Reply::StaffMade(staff) => single_text(alloc, "staff", staff.text(alloc)?.as_str()),
+        Reply::ClientMade(client) => single_text(alloc, "client", client.text(alloc)?.as_str()),
         Reply::ClientShown { client, name } => client_shown(alloc, *client, name),
         Reply::DayShown(day) | Reply::DaySet(day) => {
-            single(alloc, "day", Value::String(day.text(alloc)?))
+            single_text(alloc, "day", day.text(alloc)?.as_str())
         }
-        Reply::ChargeMade(charge) => single(alloc, "charge", Value::from(*charge)),
+        Reply::ChargeMade(charge) => single_number(alloc, "charge", *charge),
         Reply::ChargeShown(charge) => charge_shown(alloc, charge),
         Reply::ProductMade(product) | Reply::ProductRetired(product) => {
-            single(alloc, "product", Value::from(*product))
+            single_number(alloc, "product", *product)
         }
         Reply::ProductShown(product) => product_shown(alloc, product),
-        Reply::LoanMade(loan) => single(alloc, "loan", Value::String(loan.text(alloc)?)),
+        Reply::LoanMade(loan) => single_text(alloc, "loan", loan.text(alloc)?.as_str()),
         Reply::Loan { loan, told } => loan_told(alloc, *loan, told),
         Reply::LoansShown(lines) => Ok(Body::Text(loans_text(alloc, lines.as_slice())?)),
         Reply::ArrearsShown(lines) => arrears_shown(alloc, lines.as_slice()),

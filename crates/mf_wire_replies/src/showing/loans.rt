@@ -14,12 +14,11 @@ use super::account::instalments_text;
 use super::entries::entries_text;
 use super::lists::{Written, list_text};
 use super::texts::{quoted_text, text_in};
-use super::{Body, single};
+use super::{Body, single_number};
 use mf_alloc::Portion;
 use mf_base::{Day, Fault};
 use mf_model::{LoanLine, LoanReply, Statement};
 use mf_office::Account;
-use serde_json::Value;
 use std::alloc::{AllocError, Global};
 
 impl Written for LoanLine {
@@ -151,7 +150,7 @@ pub fn loan_told(alloc: Global, loan: Account, told: &LoanReply) -> Result<Body,
             Ok(Body::Text(LoanLine { loan, status }.text(alloc)?))
         }
         LoanReply::Entered(entry) | LoanReply::Repeated(entry) | LoanReply::Reversed(entry) => {
-            single(alloc, "entry", Value::from(*entry))
+            single_number(alloc, "entry", *entry)
         }
     }
 }
