@@ -7,6 +7,7 @@ ghost use Rattle.serde_json.specs.View.{view, items_of};
 ghost use Rattle.serde_json.specs.Written.{compact_text, comma_if};
 ghost use Rattle.mf_wire_replies.specs.Json.{joined};
 
+use super::texts::text_in;
 use mf_base::Fault;
 use serde_json::Value;
 use std::alloc::Global;
@@ -87,7 +88,7 @@ pub fn array_text<T: Written>(alloc: Global, lines: &[T]) -> Result<String, Faul
     ensures ok { IfOk result (λ s. string_bytes s ≡ compact_text (array (items_of (map T.json lines.now)))) }
     ensures err { IfErr result (λ f. f ≡ Fault.F20) }
 {
-    let mut text = String::from_str(alloc, "[")?;
+    let mut text = text_in(alloc, 192, "[")?;
     put_lines(alloc, &mut text, lines)?;
     text.push_str("]")?;
     Ok(text)
@@ -99,7 +100,7 @@ pub fn list_text<T: Written>(alloc: Global, opened: &str, lines: &[T]) -> Result
         → string_bytes s ≡ compact_text (object (member name (array (items_of (map T.json lines.now))) no_members))) }
     ensures err { IfErr result (λ f. f ≡ Fault.F20) }
 {
-    let mut text = String::from_str(alloc, opened)?;
+    let mut text = text_in(alloc, 2048, opened)?;
     put_lines(alloc, &mut text, lines)?;
     text.push_str("]}")?;
     Ok(text)
