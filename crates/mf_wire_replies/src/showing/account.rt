@@ -28,17 +28,16 @@ fn instalment_rest(alloc: Global, line: &InstalmentLine) -> Result<String, Alloc
 impl Written for InstalmentLine {
     ghost json = { instalment_data };
 
-    fn text(&self, alloc: Global) -> Result<String, Fault> {
+    fn put(&self, alloc: Global, text: &mut String) -> Result<(), Fault> {
         let due = quoted_text(alloc, self.due.text(alloc)?.as_str())?;
         let number = self.number;
         let fees = self.owed[Portion::Fee.index()];
         let interest = self.owed[Portion::Interest.index()];
         let rest = instalment_rest(alloc, self)?;
-        let shown = format_args!(
+        text.write(format_args!(
             r#"{{"due":{due},"fees":{fees},"interest":{interest},"number":{number}{rest}"#
-        );
-        let text = text_in(alloc, 192, shown)?;
-        Ok(text)
+        ))?;
+        Ok(())
     }
 }
 

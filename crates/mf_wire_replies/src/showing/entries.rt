@@ -96,15 +96,14 @@ fn receipt_of(alloc: Global, entry: &Entry) -> Result<String, AllocError>
 impl Written for Share {
     ghost json = { share_data };
 
-    fn text(&self, alloc: Global) -> Result<String, Fault> {
+    fn put(&self, _: Global, text: &mut String) -> Result<(), Fault> {
         let amount = self.amount;
         let instalment = self.cell.instalment;
         let portion = quoted_portion(self.cell.portion);
-        let shown = format_args!(
+        text.write(format_args!(
             r#"{{"amount":{amount},"instalment":{instalment},"portion":{portion}}}"#
-        );
-        let text = text_in(alloc, 80, shown)?;
-        Ok(text)
+        ))?;
+        Ok(())
     }
 }
 
@@ -128,18 +127,17 @@ fn entry_rest(alloc: Global, entry: &Entry, shares: &[Share]) -> Result<String, 
 impl Written for EntryLine {
     ghost json = { entry_data };
 
-    fn text(&self, alloc: Global) -> Result<String, Fault> {
+    fn put(&self, alloc: Global, text: &mut String) -> Result<(), Fault> {
         let amount = self.amount;
         let day = quoted_text(alloc, self.entry.day.text(alloc)?.as_str())?;
         let entry = self.entry.seq;
         let instalment = instalment_of(alloc, &self.entry)?;
         let kind = quoted_kind(self.entry.kind);
         let rest = entry_rest(alloc, &self.entry, self.shares.as_slice())?;
-        let shown = format_args!(
+        text.write(format_args!(
             r#"{{"amount":{amount},"day":{day},"entry":{entry},"instalment":{instalment},"kind":{kind}{rest}"#
-        );
-        let text = text_in(alloc, 512, shown)?;
-        Ok(text)
+        ))?;
+        Ok(())
     }
 }
 

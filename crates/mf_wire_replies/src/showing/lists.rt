@@ -40,9 +40,9 @@ pub trait Written {
     /// What it is shown as.
     ghost json: { Self → Data };
 
-    /// The text that shows it.
-    fn text(&self, alloc: Global) -> Result<String, Fault>
-        ensures ok { IfOk result (λ s. string_bytes s ≡ compact_text (json self.now)) }
+    /// Puts the text that shows it behind a text.
+    fn put(&self, alloc: Global, text: &mut String) -> Result<(), Fault>
+        ensures ok { OnOk result (string_bytes text.new ≡ string_bytes text.old ++ compact_text (json self.now)) }
         ensures err { IfErr result (λ f. f ≡ Fault.F20) };
 }
 
@@ -64,10 +64,8 @@ fn put_line<T: Written>(
         ++ compact_text (T.json line.now))) }
     ensures err { IfErr result (λ f. f ≡ Fault.F20) }
 {
-    let shown = line.text(alloc)?;
     text.push_str(comma_if(later))?;
-    text.push_str(shown.as_str())?;
-    Ok(())
+    line.put(alloc, text)
 }
 
 /// Puts the texts that show the lines behind a text, in their order, with commas between them.

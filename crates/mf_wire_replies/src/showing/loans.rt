@@ -24,16 +24,22 @@ use std::alloc::{AllocError, Global};
 impl Written for LoanLine {
     ghost json = { loan_line_data };
 
-    fn text(&self, alloc: Global) -> Result<String, Fault> {
+    fn put(&self, alloc: Global, text: &mut String) -> Result<(), Fault> {
         let loan = quoted_text(alloc, self.loan.text(alloc)?.as_str())?;
         let status = self.status;
-        let text = text_in(
-            alloc,
-            48,
-            format_args!(r#"{{"loan":{loan},"status":{status}}}"#),
-        )?;
-        Ok(text)
+        text.write(format_args!(r#"{{"loan":{loan},"status":{status}}}"#))?;
+        Ok(())
     }
+}
+
+/// The body of a loan that has come to a status.
+fn status_text(alloc: Global, line: &LoanLine) -> Result<String, Fault>
+    ensures ok { IfOk result (λ s. string_bytes s ≡ compact_text (loan_line_data line.now)) }
+    ensures err { IfErr result (λ f. f ≡ Fault.F20) }
+{
+    let mut text = String::with_capacity(alloc, 48)?;
+    line.put(alloc, &mut text)?;
+    Ok(text)
 }
 
 /// The body that lists loans.
@@ -147,7 +153,7 @@ pub fn loan_told(alloc: Global, loan: Account, told: &LoanReply) -> Result<Body,
         LoanReply::Entries(lines) => Ok(Body::Text(entries_text(alloc, lines.as_slice())?)),
         LoanReply::Status(status) => {
             let status = *status;
-            Ok(Body::Text(LoanLine { loan, status }.text(alloc)?))
+            Ok(Body::Text(status_text(alloc, &LoanLine { loan, status })?))
         }
         LoanReply::Entered(entry) | LoanReply::Repeated(entry) | LoanReply::Reversed(entry) => {
             single_number(alloc, "entry", *entry)
