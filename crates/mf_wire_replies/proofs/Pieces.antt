@@ -57,3 +57,7 @@ abbrev pub entry_by : (amount day entry instalment kind rest : List ℕ) → Lis
 entry_by amount day entry instalment kind rest = codes "{\"amount\":"
     ++ (amount ++ (codes ",\"day\":" ++ (day ++ (codes ",\"entry\":" ++ (entry ++ (codes ",\"instalment\":"
     ++ (instalment ++ (codes ",\"kind\":" ++ (kind ++ rest)))))))))
+
+-- a client, by how its account and its name are written
+abbrev pub client_by : (client name : List ℕ) → List ℕ
+client_by client name = codes "{\"client\":" ++ (client ++ (codes ",\"name\":" ++ (name ++ codes "}")))

@@ -92,10 +92,11 @@ fn client_shown(alloc: Global, client: Account, name: &Name) -> Result<Body, Fau
     ensures ok { IfOk result (IsBodyOf (ClientShown client name.now)) }
     ensures err { IfErr result (λ f. f ≡ Fault.F20) }
 {
-    let mut members = Members::new(alloc);
-    members.put_text(alloc, "name", name.as_str())?;
-    members.put(alloc, "client", Value::String(client.text(alloc)?))?;
-    Ok(Body::Value(members.into_value()))
+    let client = quoted_text(alloc, client.text(alloc)?.as_str())?;
+    let name = quoted_text(alloc, name.as_str())?;
+    let shown = format_args!(r#"{{"client":{client},"name":{name}}}"#);
+    let body = text_in(alloc, name.len() + 40, shown)?;
+    Ok(Body::Text(body))
 }
 
 fn reply_body(alloc: Global, reply: &Reply) -> Result<Body, Fault>
