@@ -9,8 +9,8 @@ use serde_json::json;
 use std::alloc::{AllocError, Global};
 use std::fmt::Display;
 
-/// The text of what is displayed, with room for so many bytes made first. It may be longer; but a text for which no room
-/// is made asks for memory each time that its room doubles, and that costs more than to write it.
+/// The text of what is displayed, written into room for so many bytes that is made first. It may be longer. A text that
+/// begins without room asks for memory each time that its room doubles, which costs more than to write it.
 pub fn text_in<D: Display + Drop>(
     alloc: Global,
     room: usize,
