@@ -4,7 +4,7 @@ ghost use Rattle.std.specs.Prelude.{◌≡◌, IfErr, IfOk, IfSome};
 ghost use Rattle.mf_account.specs.Change.{IsReplayed};
 
 use mf_account::status::ACTIVE;
-use mf_account::{Entry, Loan as DisbursedLoan, LoanAccount, Receipt};
+use mf_account::{Entry, LoanAccount, Receipt};
 use mf_arrears::{MOST_LOANS, OfficeLine, arrears};
 use mf_base::{Day, Fault};
 use mf_catalog::Terms;
@@ -147,7 +147,7 @@ impl Row {
             return Ok(None);
         };
         let entries = copy_entries(alloc, &self.entries)?;
-        let disbursed = DisbursedLoan {
+        let disbursed = mf_account::Loan {
             terms,
             principal: self.principal,
             periods: self.periods,

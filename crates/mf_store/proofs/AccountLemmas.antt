@@ -13,11 +13,11 @@ use Rattle.mf_model.specs.Store.{IsHandedOn, account_at, account_of, after_commi
 use Rattle.mf_model.specs.Tree.{is_there}
 use Rattle.mf_model.specs.declared.commit.Commit.TheVariants.{AddEntry}
 use Rattle.mf_model.proofs.AccountLemmas.{IsRunning, account_is}
-use Rattle.mf_store_changes.proofs.AccountCommitLemmas.{account_with}
-use Rattle.mf_store_changes.proofs.AccountRowLemmas.{TermsStand}
-use Rattle.mf_store_changes.proofs.EnteredLemmas.{IsAccountOf, account_of_loan}
-use Rattle.mf_store_changes.proofs.FlatLemmas.{numbered-suc, with_numbered_later}
-use Rattle.mf_store_changes.proofs.SoundLemmas.{own_rows}
+use Rattle.mf_store_commits.proofs.AccountCommitLemmas.{account_with}
+use Rattle.mf_store_commits.proofs.AccountRowLemmas.{TermsStand}
+use Rattle.mf_store_commits.proofs.EnteredLemmas.{IsAccountOf, account_of_loan}
+use Rattle.mf_store_commits.proofs.FlatLemmas.{numbered-suc, with_numbered_later}
+use Rattle.mf_store_commits.proofs.SoundLemmas.{own_rows}
 
 -- ---- things by number, where the one of a number is changed
 changed_at : {A : Type 0} (d : ℕ) (change : A → A) (xs : List A) (x : A) → slice_get xs d ≡ Some x

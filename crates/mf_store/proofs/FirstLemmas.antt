@@ -5,14 +5,14 @@ use Rattle.sqlite.specs.Held.{Held, state}
 use Rattle.sqlite.specs.Steps.{IsEmpty}
 use Rattle.sqlite_trees.specs.declared.store.Store.{Ghosts}
 use Rattle.sqlite_catalog.specs.Listing.{IsSound as IsSoundListing}
-use Rattle.mf_store_tables.specs.Writes.{Serves, AllFit, after_all, Turns, MayHold}
+use Rattle.mf_store_sql.specs.Writes.{Serves, AllFit, after_all, Turns, MayHold}
 use Rattle.mf_model.specs.Institution.{newly_made}
 use Rattle.mf_model.specs.Sound.{IsSound}
-use Rattle.mf_store_records.specs.Writes.{schema_of, Holds, after, Fits}
-use Rattle.mf_store_records.specs.declared.writes.StoreWrite.{StoreWrite}
-use Rattle.mf_store_records.proofs.CallLemmas.{only_faults_shut}
+use Rattle.mf_store_schema.specs.Writes.{schema_of, Holds, after, Fits}
+use Rattle.mf_store_schema.specs.declared.writes.StoreWrite.{StoreWrite}
+use Rattle.mf_store_schema.proofs.CallLemmas.{only_faults_shut}
 use Rattle.mf_store_commits.specs.Tabled.{IsTabled, IsUnfounded}
-use Rattle.mf_store_changes.specs.Becoming.{Begins}
+use Rattle.mf_store_commits.specs.Becoming.{Begins}
 
 module _ {S : Type 0} (g : Ghosts S) (old new : Held S) (writes : List StoreWrite) (day : ℕ) where
   pub founded_stands : Begins writes day → IsSound (newly_made day) → Turns (Serves schema_of Holds)

@@ -12,10 +12,10 @@ use Rattle.mf_model.specs.Institution.{Institution, Ledger}
 use Rattle.mf_model.specs.Sound.{IsSound, is_staff}
 use Rattle.mf_model.specs.Store.{ledger_at, rows_at}
 use Rattle.mf_model.proofs.AccountLemmas.{account_sound}
-use Rattle.mf_store_records.specs.Rows.{instalment_row, is_instalment_of}
-use Rattle.mf_store_accounts.specs.Flat.{tables_of, instalment_in, numbered_from, instalments_kept, kept_of, had_by}
-use Rattle.mf_store_changes.proofs.EnteredLemmas.{loan_sound}
-use Rattle.mf_store_changes.proofs.LoanRowLemmas.{loan_shown}
+use Rattle.mf_store_schema.specs.Rows.{instalment_row, is_instalment_of}
+use Rattle.mf_store_values.specs.Flat.{tables_of, instalment_in, numbered_from, instalments_kept, kept_of, had_by}
+use Rattle.mf_store_commits.proofs.EnteredLemmas.{loan_sound}
+use Rattle.mf_store_commits.proofs.LoanRowLemmas.{loan_shown}
 
 -- ---- four sums
 

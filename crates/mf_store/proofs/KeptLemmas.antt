@@ -26,9 +26,9 @@ use Rattle.mf_base.specs.declared.fault.Fault.{Fault}
 use Rattle.mf_base.specs.declared.fault.Fault.TheVariants.{F20}
 use Rattle.mf_model.specs.declared.commit.Commit.{Commit}
 use Rattle.mf_model.specs.Store.{Commits, IsAdmitted, after_commit, account_at, counts_at, role_of}
-use Rattle.mf_store_records.specs.Calls.{OnlyFaultsShut}
+use Rattle.mf_store_schema.specs.Calls.{OnlyFaultsShut}
 use Rattle.mf_store.specs.Facts.{Facts, KnownStore, AreTrueOf, account_key, caller_key, same_key, nothing_known}
-use Rattle.mf_store_accounts.specs.Flat.{key_at}
+use Rattle.mf_store_values.specs.Flat.{key_at}
 use Rattle.mf_store.specs.Learning.{Tells}
 use Rattle.mf_store.specs.declared.known.News.TheVariants.{Nothing, OfficeCounts, BusinessDay}
 use Rattle.mf_store.specs.declared.known.News.TheVariants as news

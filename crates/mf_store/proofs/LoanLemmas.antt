@@ -21,13 +21,13 @@ use Rattle.mf_model.specs.Loans.{lines_from, lines_above}
 use Rattle.mf_model.specs.Sound.{IsSound}
 use Rattle.mf_model.specs.Stages.{disbursed_on}
 use Rattle.mf_model.specs.Store.{rows_at, ledger_at, loan_at, account_at, account_of}
-use Rattle.mf_store_records.specs.Rows.{loan_row, is_loan_of, is_loan_above}
-use Rattle.mf_store_records.specs.declared.loans.LoanRow.{LoanRow}
-use Rattle.mf_store_accounts.specs.Flat.{tables_of, numbered_from, loan_in, loans_of, line_in, entries_of}
-use Rattle.mf_store_accounts.specs.Flat.{instalments_kept, kept_of}
-use Rattle.mf_store_changes.proofs.FlatLemmas.{numbered-suc}
+use Rattle.mf_store_schema.specs.Rows.{loan_row, is_loan_of, is_loan_above}
+use Rattle.mf_store_schema.specs.declared.loans.LoanRow.{LoanRow}
+use Rattle.mf_store_values.specs.Flat.{tables_of, numbered_from, loan_in, loans_of, line_in, entries_of}
+use Rattle.mf_store_values.specs.Flat.{instalments_kept, kept_of}
+use Rattle.mf_store_commits.proofs.FlatLemmas.{numbered-suc}
 use Rattle.mf_store.proofs.OfficeRowsLemmas.{rows_in_office}
-use Rattle.mf_store_changes.proofs.LoanLemmas.{loan_of}
+use Rattle.mf_store_commits.proofs.LoanLemmas.{loan_of}
 
 -- ---- lists of loans
 

@@ -5,15 +5,15 @@ use Rattle.std.specs.Option.{option_map, is_some}
 use Rattle.std.proofs.lemmas.Bool.Decides.{nat_tests}
 use Rattle.mf_model.specs.Institution.{Institution, Office, office_at, item_numbered}
 use Rattle.mf_model.specs.Sound.{IsSound, is_staff as is_staff_in}
-use Rattle.mf_store_records.specs.Rows.{is_office, is_staff, is_client, is_charge, is_product, is_loan}
-use Rattle.mf_store_accounts.specs.Flat.{office_under, staff_in, client_in, charge_as, product_as, loan_in, loans_of}
-use Rattle.mf_store_accounts.specs.Flat.{tables_of, staff_row_at, client_row_at, charge_row_at, product_row_at}
-use Rattle.mf_store_accounts.specs.Flat.{loan_row_at}
+use Rattle.mf_store_schema.specs.Rows.{is_office, is_staff, is_client, is_charge, is_product, is_loan}
+use Rattle.mf_store_values.specs.Flat.{office_under, staff_in, client_in, charge_as, product_as, loan_in, loans_of}
+use Rattle.mf_store_values.specs.Flat.{tables_of, staff_row_at, client_row_at, charge_row_at, product_row_at}
+use Rattle.mf_store_values.specs.Flat.{loan_row_at}
 use Rattle.mf_store.specs.Counts.{count_of}
 use Rattle.mf_store.specs.declared.counts.Kind.{Kind}
 use Rattle.mf_store.specs.declared.counts.Kind.TheVariants.{Staff, Clients, Loans, Charges, Products}
-use Rattle.mf_store_changes.proofs.FlatLemmas.{find_row, find_listed}
-use Rattle.mf_store_changes.proofs.SoundLemmas.{office_sound, has_number}
+use Rattle.mf_store_commits.proofs.FlatLemmas.{find_row, find_listed}
+use Rattle.mf_store_commits.proofs.SoundLemmas.{office_sound, has_number}
 
 pub office_by_number : (x : ℕ) (parents : ℕ → Option ℕ) (fs : List Office) → find (is_office x)
     (map (office_under parents) fs) ≡ option_map (office_under parents) (office_at x fs)

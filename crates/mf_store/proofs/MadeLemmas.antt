@@ -7,12 +7,12 @@ use Rattle.mf_base.specs.declared.fault.Fault.TheVariants.{F20}
 use Rattle.mf_model.specs.declared.commit.Commit.{Commit}
 use Rattle.mf_model.specs.Institution.{Institution}
 use Rattle.mf_model.specs.Store.{Commits, IsAdmitted, after_commit}
-use Rattle.mf_store_records.specs.declared.writes.StoreWrite.{StoreWrite}
+use Rattle.mf_store_schema.specs.declared.writes.StoreWrite.{StoreWrite}
 use Rattle.mf_store.specs.Facts.{KnownStore}
 use Rattle.mf_store.specs.Learning.{Tells}
 use Rattle.mf_store.specs.declared.known.News.{News}
 use Rattle.mf_store.specs.Stands.{StandsFor, IsClean, Leaves, IsOpen, Stays, FaultsAloneShut, MakesCommit}
-use Rattle.mf_store_changes.specs.Becoming.{Becomes}
+use Rattle.mf_store_commits.specs.Becoming.{Becomes}
 
 module _ {S : Type 0} (g : Ghosts S) (commit : Commit) where
   -- the call made its writes after look-ups

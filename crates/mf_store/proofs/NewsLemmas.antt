@@ -30,17 +30,17 @@ use Rattle.mf_model.specs.Tree.{is_there, parent_of}
 use Rattle.mf_model.proofs.Confined.{others_stay, old_stay}
 use Rattle.mf_model.proofs.Growing.{length_with, numbered_push, numbered_with, terms_charge, terms_push, terms_with}
 use Rattle.mf_model.proofs.Offices.{is_there_with_rows}
-use Rattle.mf_store_records.specs.declared.offices.OfficeRow.{OfficeRow}
-use Rattle.mf_store_records.specs.Rows.{is_office}
-use Rattle.mf_store_accounts.specs.Flat.{key_at, office_under}
+use Rattle.mf_store_schema.specs.declared.offices.OfficeRow.{OfficeRow}
+use Rattle.mf_store_schema.specs.Rows.{is_office}
+use Rattle.mf_store_values.specs.Flat.{key_at, office_under}
 use Rattle.mf_store.specs.Facts.{account_key, same_key}
 use Rattle.mf_store.specs.Learning.{Tells}
 use Rattle.mf_store.specs.declared.known.News.TheVariants.{Nothing, OfficeCounts, Catalogue, BusinessDay, Retirement}
 use Rattle.mf_store.specs.declared.known.News.TheVariants as news
-use Rattle.mf_store_changes.proofs.CommitLemmas.{none_there, number_at, offices-with_rows, office_key_kept}
+use Rattle.mf_store_commits.proofs.CommitLemmas.{none_there, number_at, offices-with_rows, office_key_kept}
 use Rattle.mf_store.proofs.AccountLemmas.{account_kept, others_numbered}
 use Rattle.mf_store.proofs.LookLemmas.{office_by_number}
-use Rattle.mf_store_changes.proofs.SoundLemmas.{own_rows}
+use Rattle.mf_store_commits.proofs.SoundLemmas.{own_rows}
 
 abbrev counts_in : Rows → Counts
 counts_in rows = record { staff = length rows.staff; clients = length rows.clients; loans = length rows.loans }

@@ -21,15 +21,15 @@ use Rattle.mf_model.specs.Sound.{IsSound, IsSoundLoan, is_staff}
 use Rattle.mf_model.specs.Store.{rows_of, rows_at}
 use Rattle.mf_model.specs.Tree.{Above, Ascending}
 use Rattle.mf_model.proofs.AccountLemmas.{account_sound}
-use Rattle.mf_store_records.specs.Rows.{is_instalment_in}
-use Rattle.mf_store_accounts.specs.Flat.{tables_of, instalment_in, instalments_kept, kept_of, rows_of_loans}
-use Rattle.mf_store_accounts.specs.Flat.{rows_by_loan}
+use Rattle.mf_store_schema.specs.Rows.{is_instalment_in}
+use Rattle.mf_store_values.specs.Flat.{tables_of, instalment_in, instalments_kept, kept_of, rows_of_loans}
+use Rattle.mf_store_values.specs.Flat.{rows_by_loan}
 use Rattle.mf_store_values.specs.Arrears.{NumberedLoan, AreAbove, AreWholeLoans, rows_of_office, aged_rows, aged_loans}
 use Rattle.mf_store_values.specs.Folding.{principal_of, AreWithinSums}
 use Rattle.mf_store.proofs.ArrearsLemmas.{aged_told}
 use Rattle.mf_store.proofs.InstalmentReadLemmas.{numbered_whole, sums_kept}
-use Rattle.mf_store_changes.proofs.LoanRowLemmas.{all_loans, all_offices}
-use Rattle.mf_store_changes.proofs.SoundLemmas.{office_sound}
+use Rattle.mf_store_commits.proofs.LoanRowLemmas.{all_loans, all_offices}
+use Rattle.mf_store_commits.proofs.SoundLemmas.{office_sound}
 
 -- ---- one office's rows among all, where they stand loan by loan
 

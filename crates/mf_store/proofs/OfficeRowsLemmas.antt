@@ -9,8 +9,8 @@ use Rattle.mf_model.specs.Institution.{Institution, Office, Rows, office_at, no_
 use Rattle.mf_model.specs.Sound.{IsSound}
 use Rattle.mf_model.specs.Store.{rows_of, rows_at}
 use Rattle.mf_model.specs.Tree.{Above, Ascending}
-use Rattle.mf_store_records.specs.Rows.{staff_row, client_row, is_staff_of, is_client_of}
-use Rattle.mf_store_accounts.specs.Flat.{numbered_from, all_rows, staff_in, client_in, tables_of}
+use Rattle.mf_store_schema.specs.Rows.{staff_row, client_row, is_staff_of, is_client_of}
+use Rattle.mf_store_values.specs.Flat.{numbered_from, all_rows, staff_in, client_in, tables_of}
 
 -- ---- one office's rows among all
 

@@ -33,25 +33,25 @@ use Rattle.mf_model.specs.Institution.{Institution, Charge, Ledger, Offer, Offic
 use Rattle.mf_model.specs.Sound.{IsSound}
 use Rattle.mf_model.specs.Tree.{Above, Ascending, parent_of}
 use Rattle.mf_model.specs.declared.loan.Loan.{Loan}
-use Rattle.mf_store_records.specs.declared.meta.MetaRow.{MetaRow}
-use Rattle.mf_store_records.specs.declared.staff.StaffRow.{StaffRow}
-use Rattle.mf_store_records.specs.declared.clients.ClientRow.{ClientRow}
-use Rattle.mf_store_records.specs.declared.charges.ChargeRow.{ChargeRow}
-use Rattle.mf_store_records.specs.declared.products.ProductRow.{ProductRow}
-use Rattle.mf_store_records.specs.declared.loans.LoanRow.{LoanRow}
-use Rattle.mf_store_records.specs.declared.entries.EntryRow.{EntryRow}
-use Rattle.mf_store_changes.proofs.FlatLemmas.{portion_same}
-use Rattle.mf_store_accounts.specs.Flat.{entry_kind_number, meta_on, staff_in, client_in, charge_as, product_as}
-use Rattle.mf_store_accounts.specs.Flat.{loan_in, loans_of, entry_in, own_entries, numbered_from, all_rows}
-use Rattle.mf_store_accounts.specs.Flat.{rows_of_loans, entry_rows, tables_of}
-use Rattle.mf_store_accounts.specs.Parts.{own, later, office_of, bare}
-use Rattle.mf_store_accounts.proofs.PartLemmas.{own_of_first, later_of_first, heads_of}
+use Rattle.mf_store_schema.specs.declared.meta.MetaRow.{MetaRow}
+use Rattle.mf_store_schema.specs.declared.staff.StaffRow.{StaffRow}
+use Rattle.mf_store_schema.specs.declared.clients.ClientRow.{ClientRow}
+use Rattle.mf_store_schema.specs.declared.charges.ChargeRow.{ChargeRow}
+use Rattle.mf_store_schema.specs.declared.products.ProductRow.{ProductRow}
+use Rattle.mf_store_schema.specs.declared.loans.LoanRow.{LoanRow}
+use Rattle.mf_store_schema.specs.declared.entries.EntryRow.{EntryRow}
+use Rattle.mf_store_commits.proofs.FlatLemmas.{portion_same}
+use Rattle.mf_store_values.specs.Flat.{entry_kind_number, meta_on, staff_in, client_in, charge_as, product_as}
+use Rattle.mf_store_values.specs.Flat.{loan_in, loans_of, entry_in, own_entries, numbered_from, all_rows}
+use Rattle.mf_store_values.specs.Flat.{rows_of_loans, entry_rows, tables_of}
+use Rattle.mf_store_values.specs.Parts.{own, later, office_of, bare}
+use Rattle.mf_store_values.proofs.PartLemmas.{own_of_first, later_of_first, heads_of}
 use Rattle.mf_store_values.proofs.CatalogueLemmas.{flag_is, amount_is}
-use Rattle.mf_store_changes.proofs.EnteredLemmas.{HaveCallers, AreCalled, all_called}
-use Rattle.mf_store_changes.proofs.LoanRowLemmas.{all_loans, all_offices}
-use Rattle.mf_store_changes.proofs.LoanLemmas.{loan_of}
+use Rattle.mf_store_commits.proofs.EnteredLemmas.{HaveCallers, AreCalled, all_called}
+use Rattle.mf_store_commits.proofs.LoanRowLemmas.{all_loans, all_offices}
+use Rattle.mf_store_commits.proofs.LoanLemmas.{loan_of}
 use Rattle.mf_store_values.proofs.LoanLemmas.{stage_is}
-use Rattle.mf_store_records.specs.Rows.{Lists}
+use Rattle.mf_store_schema.specs.Rows.{Lists}
 
 -- ---- numbers that stand for choices
 

@@ -15,12 +15,12 @@ use Rattle.mf_model.specs.Institution.{Institution, Ledger}
 use Rattle.mf_model.specs.Sound.{IsSound}
 use Rattle.mf_model.specs.Stages.{disbursed_on}
 use Rattle.mf_model.specs.Store.{ledger_at, loan_at}
-use Rattle.mf_store_records.specs.Rows.{share_row, is_share_of}
-use Rattle.mf_store_accounts.specs.Flat.{tables_of, share_in, shares_kept, kept_of, had_by, entries_of}
-use Rattle.mf_store_accounts.specs.Kept.{part_told}
-use Rattle.mf_store_accounts.proofs.KeptLemmas.{shares_told}
+use Rattle.mf_store_schema.specs.Rows.{share_row, is_share_of}
+use Rattle.mf_store_values.specs.Flat.{tables_of, share_in, shares_kept, kept_of, had_by, entries_of}
+use Rattle.mf_store_values.specs.Kept.{part_told}
+use Rattle.mf_store_values.proofs.KeptLemmas.{shares_told}
 use Rattle.mf_store.proofs.InstalmentReadLemmas.{loan_account_sound}
-use Rattle.mf_store_changes.proofs.LoanRowLemmas.{loan_shown}
+use Rattle.mf_store_commits.proofs.LoanRowLemmas.{loan_shown}
 
 -- the rows of a loan are those of its account's shares
 pub shares_shown : (loan : Account) (l : Ledger) (i : Institution) → IsSound i → ledger_at loan i ≡ Some l

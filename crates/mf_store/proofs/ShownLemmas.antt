@@ -20,13 +20,13 @@ use Rattle.mf_model.specs.Institution.{Institution, Catalogue, Ledger}
 use Rattle.mf_model.specs.Sound.{IsSound}
 use Rattle.mf_model.specs.Stages.{disbursed_on}
 use Rattle.mf_model.specs.Store.{ledger_at, loan_at, account_at, account_of, loan_with_account_at, with_account}
-use Rattle.mf_store_records.specs.Rows.{is_instalment, is_instalment_of}
-use Rattle.mf_store_records.specs.declared.instalments.InstalmentRow.{InstalmentRow}
-use Rattle.mf_store_accounts.specs.Flat.{tables_of, instalment_in, instalments_kept, kept_of, had_by}
+use Rattle.mf_store_schema.specs.Rows.{is_instalment, is_instalment_of}
+use Rattle.mf_store_schema.specs.declared.instalments.InstalmentRow.{InstalmentRow}
+use Rattle.mf_store_values.specs.Flat.{tables_of, instalment_in, instalments_kept, kept_of, had_by}
 use Rattle.mf_store_values.specs.Principal.{IsOpenRow, IsFirstOpen}
 use Rattle.mf_store.proofs.InstalmentReadLemmas.{sums_of, sums_kept, loan_account_sound}
 use Rattle.mf_store.proofs.PartReadLemmas.{ledger_of}
-use Rattle.mf_store_changes.proofs.LoanRowLemmas.{loan_shown}
+use Rattle.mf_store_commits.proofs.LoanRowLemmas.{loan_shown}
 
 -- ---- the last instalment
 

@@ -12,7 +12,7 @@ use Rattle.mf_model.specs.Stages.{stage_number, disbursed_on}
 use Rattle.mf_model.specs.Store.{ledger_at}
 use Rattle.mf_model.proofs.AccountLemmas.{account_is, account_there}
 use Rattle.mf_store.proofs.ArrearsLemmas.{rows_of_account}
-use Rattle.mf_store_changes.proofs.EnteredLemmas.{loan_sound}
+use Rattle.mf_store_commits.proofs.EnteredLemmas.{loan_sound}
 use Rattle.mf_store.proofs.InstalmentReadLemmas.{loan_account_sound}
 
 -- what entries and rows tell of a loan that has them

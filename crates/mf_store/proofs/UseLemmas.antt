@@ -9,12 +9,12 @@ use Rattle.mf_model.specs.Institution.{Institution, Ledger, item_numbered}
 use Rattle.mf_model.specs.Receipts.{Use, use_by, use_of, uses_in, uses_from, first_use}
 use Rattle.mf_model.specs.Sound.{IsSound}
 use Rattle.mf_model.specs.Store.{rows_at, use_at}
-use Rattle.mf_store_records.specs.Rows.{is_entry}
-use Rattle.mf_store_accounts.specs.Flat.{entry_in, tables_of}
-use Rattle.mf_store_changes.proofs.EnteredLemmas.{loan_numbered}
-use Rattle.mf_store_changes.proofs.EntryLemmas.{AreNumbered, later_numbered}
-use Rattle.mf_store_changes.proofs.FlatLemmas.{numbered-suc}
-use Rattle.mf_store_changes.proofs.FoundLemmas.{other_number, same_number, has_seq, entry_by_number}
+use Rattle.mf_store_schema.specs.Rows.{is_entry}
+use Rattle.mf_store_values.specs.Flat.{entry_in, tables_of}
+use Rattle.mf_store_commits.proofs.EnteredLemmas.{loan_numbered}
+use Rattle.mf_store_commits.proofs.EntryLemmas.{AreNumbered, later_numbered}
+use Rattle.mf_store_commits.proofs.FlatLemmas.{numbered-suc}
+use Rattle.mf_store_commits.proofs.FoundLemmas.{other_number, same_number, has_seq, entry_by_number}
 
 -- ---- an entry by its number
 

@@ -15,10 +15,10 @@ use Rattle.mf_office.proofs.KeyLemmas.{range_below}
 use Rattle.mf_model.specs.Institution.{Institution, Office, office_at}
 use Rattle.mf_model.specs.Tree.{parent_of, is_there, seen_by, seen_office}
 use Rattle.mf_model.specs.Sound.{IsSound}
-use Rattle.mf_store_records.specs.Rows.{office_row, is_in_range}
-use Rattle.mf_store_records.specs.declared.offices.OfficeRow.{OfficeRow}
-use Rattle.mf_store_accounts.specs.Flat.{office_under, tables_of, key_at, sees, has_room}
-use Rattle.mf_store_changes.proofs.CommitLemmas.{number_at, all_there}
+use Rattle.mf_store_schema.specs.Rows.{office_row, is_in_range}
+use Rattle.mf_store_schema.specs.declared.offices.OfficeRow.{OfficeRow}
+use Rattle.mf_store_values.specs.Flat.{office_under, tables_of, key_at, sees, has_room}
+use Rattle.mf_store_commits.proofs.CommitLemmas.{number_at, all_there}
 
 -- ---- ranges of texts
 

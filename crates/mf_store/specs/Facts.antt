@@ -17,7 +17,7 @@ use Rattle.mf_model.specs.contracts.store.Counts as counts_row
 use Rattle.mf_model.specs.contracts.store.CatalogueCounts as catalogue_row
 use Rattle.mf_model.specs.Institution.{Institution, product_in}
 use Rattle.mf_model.specs.Store.{counts_at, catalogue_counts, role_of, account_at}
-use Rattle.mf_store_accounts.specs.Flat.{key_at}
+use Rattle.mf_store_values.specs.Flat.{key_at}
 
 -- the key of what is known of a caller: the office's number, and the staff number in it
 abbrev pub caller_key : Caller → ℕ × ℕ

@@ -9,7 +9,7 @@ use Rattle.mf_model.specs.declared.store.Counts.{Counts}
 use Rattle.mf_model.specs.declared.store.CatalogueCounts.{CatalogueCounts}
 use Rattle.mf_model.specs.Institution.{Institution, product_in}
 use Rattle.mf_model.specs.Store.{counts_at, catalogue_counts, role_of, account_at}
-use Rattle.mf_store_accounts.specs.Flat.{key_at}
+use Rattle.mf_store_values.specs.Flat.{key_at}
 use Rattle.mf_store.specs.Facts.{account_key, same_key}
 use Rattle.mf_store.specs.declared.known.News.{News}
 use Rattle.mf_store.specs.declared.known.News.TheVariants.{OfficeCounts, Catalogue, BusinessDay, Retirement, Account}

@@ -4,15 +4,15 @@ use Rattle.mf_base.specs.declared.fault.Fault.{Fault}
 use Rattle.mf_base.specs.declared.fault.Fault.TheVariants.{F20}
 use Rattle.sqlite.specs.Held.{Held, state}
 use Rattle.sqlite_trees.specs.declared.store.Store.{Ghosts}
-use Rattle.mf_store_tables.specs.Writes.{Serves}
+use Rattle.mf_store_sql.specs.Writes.{Serves}
 use Rattle.mf_model.specs.Institution.{Institution}
 use Rattle.mf_model.specs.Sound.{IsSound}
 use Rattle.mf_model.specs.Store.{Commits}
 use Rattle.mf_model.specs.declared.commit.Commit.{Commit}
-use Rattle.mf_store_records.specs.Calls.{IsOpenUpTo}
+use Rattle.mf_store_schema.specs.Calls.{IsOpenUpTo}
 use Rattle.mf_store.specs.Facts.{KnownStore, AreTrueOf}
-use Rattle.mf_store_accounts.specs.Flat.{tables_of}
-use Rattle.mf_store_records.specs.Writes.{schema_of, Holds}
+use Rattle.mf_store_values.specs.Flat.{tables_of}
+use Rattle.mf_store_schema.specs.Writes.{schema_of, Holds}
 use Rattle.mf_store_commits.specs.Tabled.{HasGoodDisk, LeavesTables}
 
 module _ {S : Type 0} (g : Ghosts S) where

@@ -14,20 +14,19 @@ ghost use Rattle.mf_model.specs.Accounts.{running_from, terms_in, status_in, acc
 ghost use Rattle.mf_model.specs.Institution.{Institution, Ledger as ModelLedger, charge_in};
 ghost use Rattle.mf_model.specs.Stages.{disbursed_on};
 ghost use Rattle.mf_model.specs.Store.{loan_at, ledger_at, account_at, loan_with_account_at, loans_at};
-ghost use Rattle.mf_store_changes.specs.ChangeWrites.{schedule_put};
-ghost use Rattle.mf_store_accounts.specs.Flat.{loan_in, line_in, entries_of, instalments_kept, kept_of};
-ghost use Rattle.mf_store_records.specs.Rows.{loan_row as loan_stored};
+ghost use Rattle.mf_store_commits.specs.ChangeWrites.{schedule_put};
+ghost use Rattle.mf_store_values.specs.Flat.{loan_in, line_in, entries_of, instalments_kept, kept_of};
+ghost use Rattle.mf_store_schema.specs.Rows.{loan_row as loan_stored};
 
 use crate::store::Store;
 use mf_account::status::ACTIVE;
-use mf_account::{Entry, Loan as DisbursedLoan, LoanAccount, settled_status};
-use mf_alloc::Row as Instalment;
+use mf_account::{Entry, LoanAccount, settled_status};
 use mf_base::{Day, Fault};
 use mf_catalog::{ChargeDef, Terms};
 use mf_model::{Loan, LoanLine, LoanList};
 use mf_office::{Account, OfficeNo};
-use mf_store_changes::put_schedule;
-use mf_store_records::{EntryRow, StoreWrite};
+use mf_store_commits::put_schedule;
+use mf_store_schema::{EntryRow, StoreWrite};
 use mf_store_values::{entries_from, is_active, loan_in_row, stored};
 use sqlite::{Alter, Row};
 use std::alloc::Global;
@@ -89,7 +88,7 @@ impl<S: Alter> Store<S> {
     {
         let named = self.terms_of(loan.product)?;
         let terms = stored(named)?;
-        let disbursed = DisbursedLoan {
+        let disbursed = mf_account::Loan {
             terms,
             principal: loan.principal,
             periods: loan.periods,
@@ -108,7 +107,7 @@ impl<S: Alter> Store<S> {
         account: Account,
         loan: &Loan,
         day: Day,
-        rows: Vec<Instalment>,
+        rows: Vec<mf_alloc::Row>,
     ) -> Result<LoanAccount, Fault>
         requires whole { AreWhole rows.items }
         requires within { AreWithin rows.items }
@@ -125,7 +124,7 @@ impl<S: Alter> Store<S> {
         let terms = stored(named)?;
         let entries = self.entries_at(alloc, Account { office, number })?;
         let parts = self.parts_at(alloc, Account { office, number })?;
-        let disbursed = DisbursedLoan {
+        let disbursed = mf_account::Loan {
             terms,
             principal: loan.principal,
             periods: loan.periods,

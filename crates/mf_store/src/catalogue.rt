@@ -6,7 +6,7 @@ ghost use Rattle.mf_model.specs.Institution.{Institution, charge_in, product_in}
 ghost use Rattle.mf_model.specs.Sound.{IsSound};
 ghost use Rattle.mf_model.specs.Store.{catalogue_counts, IsAdmitted};
 ghost use Rattle.mf_model.specs.declared.commit.Commit.TheVariants.{SetDay, AddCharge, AddProduct, RetireProduct};
-ghost use Rattle.mf_store_changes.specs.Suiting.{Carries};
+ghost use Rattle.mf_store_commits.specs.Suiting.{Carries};
 
 use crate::counts::{Kind, MOST};
 use crate::known::News;
@@ -14,8 +14,8 @@ use crate::store::Store;
 use mf_base::{Day, Fault, Name};
 use mf_catalog::{Calc, ChargeDef, ChargeKind, Product, ProductMembers};
 use mf_model::CatalogueCounts;
-use mf_store_changes::{charge_row, product_row, retired};
-use mf_store_records::{MetaRow, SCHEMA, StoreWrite, Text};
+use mf_store_commits::{charge_row, product_row, retired};
+use mf_store_schema::{MetaRow, SCHEMA, StoreWrite, Text};
 use mf_store_values::{charge_from, product_from};
 use sqlite::Alter;
 use std::alloc::Global;

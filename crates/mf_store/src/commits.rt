@@ -12,7 +12,7 @@ use crate::store::Store;
 use mf_base::{Choice, Fault};
 use mf_model::{Counts, laws};
 use mf_office::{Name, OfficeNo, Role};
-use mf_store_records::{ClientRow, OfficeRow, StaffRow, StoreWrite, Text};
+use mf_store_schema::{ClientRow, OfficeRow, StaffRow, StoreWrite, Text};
 use sqlite::Alter;
 use std::alloc::Global;
 

@@ -8,10 +8,10 @@ ghost use Rattle.mf_model.specs.Institution.{Institution, Ledger as ModelLedger}
 ghost use Rattle.mf_model.specs.Store.{ledger_at};
 
 use crate::store::Store;
-use mf_alloc::Row as Instalment;
+use mf_alloc::Row;
 use mf_base::Fault;
 use mf_office::Account;
-use mf_store_records::InstalmentRow;
+use mf_store_schema::InstalmentRow;
 use mf_store_values::instalments_from;
 use sqlite::Alter;
 use std::alloc::Global;
@@ -21,11 +21,7 @@ impl<S: Alter> Store<S> {
 
     /// The instalments of a loan, as the replay of its entries leaves them; none where it is not disbursed, or not
     /// there.
-    pub(crate) fn instalments_at(
-        &mut self,
-        alloc: Global,
-        loan: Account,
-    ) -> Result<Vec<Instalment>, Fault>
+    pub(crate) fn instalments_at(&mut self, alloc: Global, loan: Account) -> Result<Vec<Row>, Fault>
         ensures asks { AsksTables S.Store self.old self.new result }
         ensures whole { IfOk result (λ rows. AreWhole rows.items) }
         ensures within { IfOk result (λ rows. AreWithin rows.items) }

@@ -10,7 +10,7 @@ ghost use Rattle.mf_account.specs.Change.{no_change};
 ghost use Rattle.mf_model.specs.Store.{role_of, account_at};
 ghost use Rattle.mf_store.specs.Facts.{AreTrueOf, caller_key, account_key, same_key, nothing_known};
 ghost use Rattle.mf_store.specs.declared.known.News.TheVariants as news;
-ghost use Rattle.mf_store_accounts.specs.Flat.{key_at};
+ghost use Rattle.mf_store_values.specs.Flat.{key_at};
 ghost use Rattle.mf_store.specs.Learning.{Tells};
 
 use lru::LruCache;

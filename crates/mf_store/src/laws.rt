@@ -3,7 +3,7 @@
 ghost use Rattle.std.specs.Prelude.{◌≡◌};
 ghost use Rattle.mf_model.specs.Institution.{Institution};
 ghost use Rattle.mf_model.specs.Sound.{IsSound};
-ghost use Rattle.mf_store_accounts.specs.Flat.{tables_of};
+ghost use Rattle.mf_store_values.specs.Flat.{tables_of};
 
 /// The tables determine the institution: two sound ones that have the same rows are one and the same.
 pub fn one_institution()

@@ -4,13 +4,13 @@ ghost use Rattle.std.specs.Prelude.{◌≡◌, ℕ, List, map, Some, IfOk};
 ghost use Rattle.std.specs.List.{AllByRecursion};
 ghost use Rattle.mf_model.specs.Institution.{Institution, Ledger as ModelLedger};
 ghost use Rattle.mf_model.specs.Store.{rows_at, ledger_at};
-ghost use Rattle.mf_store_records.specs.Rows.{loan_row};
-ghost use Rattle.mf_store_accounts.specs.Flat.{loan_in};
+ghost use Rattle.mf_store_schema.specs.Rows.{loan_row};
+ghost use Rattle.mf_store_values.specs.Flat.{loan_in};
 
 use crate::store::Store;
 use mf_base::Fault;
 use mf_office::{Name, OfficeNo};
-use mf_store_records::{ClientRow, LoanRow, StaffRow};
+use mf_store_schema::{ClientRow, LoanRow, StaffRow};
 use mf_store_values::{Ledger, OfficeRows, StaffMember, loan_in_row, names_from, staff_from};
 use sqlite::{Alter, Row};
 use std::alloc::Global;

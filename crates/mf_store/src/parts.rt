@@ -3,14 +3,14 @@
 ghost use Rattle.std.specs.Prelude.{◌≡◌, map, Some, IfOk};
 ghost use Rattle.mf_model.specs.Institution.{Institution, Ledger as ModelLedger};
 ghost use Rattle.mf_model.specs.Store.{ledger_at};
-ghost use Rattle.mf_store_accounts.specs.Flat.{shares_kept, kept_of};
-ghost use Rattle.mf_store_accounts.specs.Kept.{part_told};
+ghost use Rattle.mf_store_values.specs.Flat.{shares_kept, kept_of};
+ghost use Rattle.mf_store_values.specs.Kept.{part_told};
 
 use crate::store::Store;
 use mf_account::Settled;
 use mf_base::Fault;
 use mf_office::Account;
-use mf_store_records::ShareRow;
+use mf_store_schema::ShareRow;
 use mf_store_values::parts_from;
 use sqlite::Alter;
 use std::alloc::Global;

@@ -4,13 +4,13 @@ ghost use Rattle.std.specs.Prelude.{◌≡◌, ◌≤◌, ℕ, IfOk, IfErr, Some
 ghost use Rattle.mf_base.specs.declared.fault.Fault.TheVariants.{F20};
 ghost use Rattle.mf_base.specs.DayText.{last_day};
 ghost use Rattle.mf_model.specs.Institution.{Institution};
-ghost use Rattle.mf_store_accounts.specs.Flat.{meta_on, office_row_at, staff_row_at, client_row_at, charge_row_at};
-ghost use Rattle.mf_store_accounts.specs.Flat.{product_row_at, loan_row_at};
+ghost use Rattle.mf_store_values.specs.Flat.{meta_on, office_row_at, staff_row_at, client_row_at, charge_row_at};
+ghost use Rattle.mf_store_values.specs.Flat.{product_row_at, loan_row_at};
 
 use crate::known::News;
 use crate::store::Store;
 use mf_base::{Day, Fault};
-use mf_store_records::{ChargeRow, ClientRow, LoanRow, MetaRow, OfficeRow, ProductRow, StaffRow};
+use mf_store_schema::{ChargeRow, ClientRow, LoanRow, MetaRow, OfficeRow, ProductRow, StaffRow};
 use sqlite::Alter;
 
 /// The day that the table meta holds.

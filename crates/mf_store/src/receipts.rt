@@ -3,15 +3,15 @@
 ghost use Rattle.std.specs.Prelude.{◌≡◌, find, IfOk};
 ghost use Rattle.mf_model.specs.Institution.{Institution};
 ghost use Rattle.mf_model.specs.Store.{receipt_at};
-ghost use Rattle.mf_store_records.specs.Rows.{is_entry};
-ghost use Rattle.mf_store_accounts.specs.Flat.{tables_of};
+ghost use Rattle.mf_store_schema.specs.Rows.{is_entry};
+ghost use Rattle.mf_store_values.specs.Flat.{tables_of};
 
 use crate::store::Store;
 use mf_account::Receipt;
 use mf_base::Fault;
 use mf_model::ReceiptUse;
 use mf_office::OfficeNo;
-use mf_store_records::EntryRow;
+use mf_store_schema::EntryRow;
 use mf_store_values::{stored, use_from};
 use sqlite::Alter;
 

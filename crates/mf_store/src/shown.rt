@@ -16,7 +16,7 @@ ghost use Rattle.mf_model.specs.Store.{ledger_at, statement_at, instalments_at};
 use crate::store::Store;
 use mf_account::status::ACTIVE;
 use mf_account::{Balances, open_balances};
-use mf_alloc::Row as Instalment;
+use mf_alloc::Row;
 use mf_base::{Day, Fault};
 use mf_model::{Loan, Statement};
 use mf_office::Account;
@@ -26,7 +26,7 @@ use sqlite::Alter;
 use std::alloc::Global;
 
 /// Instalments that were read, as they stand. F20 is also for such as are no loan's.
-fn lines_of_rows(alloc: Global, rows: &[Instalment]) -> Result<InstalmentList, Fault>
+fn lines_of_rows(alloc: Global, rows: &[Row]) -> Result<InstalmentList, Fault>
     ensures lines { IfOk result (λ lines. lines ≡ instalments_from 1 rows.now) }
     ensures only { IsOkUnless result Fault.F20 }
 {
@@ -44,7 +44,7 @@ impl<S: Alter> Store<S> {
         alloc: Global,
         loan: &Loan,
         day: Day,
-        rows: &[Instalment],
+        rows: &[Row],
     ) -> Result<Balances, Fault>
         requires whole { AreWhole rows.now }
         requires within { AreWithin rows.now }

@@ -5,26 +5,26 @@ ghost use Rattle.std.specs.Prelude.{IfOk, IfErr, IfSome, map, filter, find, opti
 ghost use Rattle.mf_base.specs.declared.fault.Fault.TheVariants.{F20};
 ghost use Rattle.mf_base.specs.DayText.{last_entered_day};
 ghost use Rattle.sqlite.specs.Held.{state};
-ghost use Rattle.mf_store_tables.specs.Writes.{Serves};
+ghost use Rattle.mf_store_sql.specs.Writes.{Serves};
 ghost use Rattle.mf_model.specs.Institution.{Institution, newly_made, product_in};
 ghost use Rattle.mf_model.specs.Store.{counts_at, catalogue_counts, role_of, use_at, account_at};
 ghost use Rattle.mf_model.specs.declared.commit.Commit.TheVariants.{AddEntry, ReverseEntry};
 ghost use Rattle.mf_model.specs.Tree.{is_there};
-ghost use Rattle.mf_store_accounts.specs.Flat.{key_at, tables_of};
-ghost use Rattle.mf_store_accounts.specs.ReceiptRows.{receipt_in};
-ghost use Rattle.mf_store_records.specs.Rows.{loan_row, office_row, is_loan_above, is_in_range, is_instalment_in};
-ghost use Rattle.mf_store_records.specs.Rows.{is_instalment};
+ghost use Rattle.mf_store_values.specs.Flat.{key_at, tables_of};
+ghost use Rattle.mf_store_values.specs.ReceiptRows.{receipt_in};
+ghost use Rattle.mf_store_schema.specs.Rows.{loan_row, office_row, is_loan_above, is_in_range, is_instalment_in};
+ghost use Rattle.mf_store_schema.specs.Rows.{is_instalment};
 ghost use Rattle.mf_store_values.specs.Principal.{IsFirstOpen};
 ghost use Rattle.mf_arrears.specs.Line.{line_of as line_of_loans};
 ghost use Rattle.mf_store_values.specs.Arrears.{NumberedLoan, AreAbove, AreWholeLoans, rows_of_office, aged_loans};
-ghost use Rattle.mf_store_records.specs.Calls.{OnlyFaultsShut};
-ghost use Rattle.mf_store_records.specs.Writes.{schema_of, Holds};
+ghost use Rattle.mf_store_schema.specs.Calls.{OnlyFaultsShut};
+ghost use Rattle.mf_store_schema.specs.Writes.{schema_of, Holds};
 ghost use Rattle.mf_store.specs.Facts.{nothing_known};
 ghost use Rattle.mf_store.specs.Learning.{Tells};
 ghost use Rattle.mf_store_commits.specs.Tabled.{IsTabled, HasGoodDisk, LeavesTables, IsUnfounded};
 ghost use Rattle.mf_store.specs.Stands.{StandsFor, IsClean, Leaves, IsOpen, FaultsAloneShut, Stays, AsksTables};
 ghost use Rattle.mf_store.specs.Stands.{MakesCommit};
-ghost use Rattle.mf_store_changes.specs.Becoming.{Becomes};
+ghost use Rattle.mf_store_commits.specs.Becoming.{Becomes};
 
 use crate::known::{Known, News};
 use mf_account::LoanAccount;
@@ -33,13 +33,12 @@ use mf_base::{Day, Fault};
 use mf_catalog::Product;
 use mf_model::{CatalogueCounts, Counts, laws};
 use mf_office::{Account, Caller, Key, OfficeNo, Role};
-use mf_store_changes::first_writes;
-use mf_store_commits::{add_entry, reverse_entry, write};
-use mf_store_records::{
+use mf_store_commits::{add_entry, first_writes, reverse_entry, write};
+use mf_store_schema::{
     Listed, ReceiptRow, StoreWrite, Table, find_receipt, find_row, list_rows, loans_above,
     offices_within,
 };
-use mf_store_tables::apply;
+use mf_store_sql::apply;
 use mf_store_values::{NoLine, is_principal_open, line_of_office, see_open};
 use sqlite::{Alter, Connection, Row};
 use std::alloc::Global;

@@ -6,7 +6,7 @@ ghost use Rattle.mf_office.specs.Tree.{is_within};
 ghost use Rattle.mf_model.specs.Institution.{Institution};
 ghost use Rattle.mf_model.specs.Tree.{parent_of, seen_by, seen_office};
 ghost use Rattle.mf_model.specs.Desk.{line_of};
-ghost use Rattle.mf_store_accounts.specs.Flat.{key_at, sees, has_room};
+ghost use Rattle.mf_store_values.specs.Flat.{key_at, sees, has_room};
 
 use crate::store::Store;
 use mf_base::Fault;

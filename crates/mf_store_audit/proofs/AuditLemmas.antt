@@ -4,14 +4,14 @@ use Rattle.std.specs.Prelude.{cond, map}
 use Rattle.sqlite.specs.Effect.{Database}
 use Rattle.mf_model.specs.Institution.{Institution}
 use Rattle.mf_model.specs.Sound.{IsSound}
-use Rattle.mf_store_records.specs.Rows.{Lists}
-use Rattle.mf_store_records.specs.Tables.{schema}
-use Rattle.mf_store_records.specs.Writes.{Holds}
-use Rattle.mf_store_records.specs.Tables.{first_schema}
-use Rattle.mf_store_accounts.specs.Flat.{tables_of}
+use Rattle.mf_store_schema.specs.Rows.{Lists}
+use Rattle.mf_store_schema.specs.Tables.{schema}
+use Rattle.mf_store_schema.specs.Writes.{Holds}
+use Rattle.mf_store_schema.specs.Tables.{first_schema}
+use Rattle.mf_store_values.specs.Flat.{tables_of}
 use Rattle.mf_store_sound.specs.Schemas.{first_tables_of, tables_under, without_accounts}
-use Rattle.mf_store_upgrade.specs.Upgrade.{HoldsFirst}
-use Rattle.mf_store_findings.specs.Findings.{AllBreak, AreOfNone, AreOfOne, rows_under}
+use Rattle.mf_store_schema.specs.Upgrade.{HoldsFirst}
+use Rattle.mf_store_audit.specs.Findings.{AllBreak, AreOfNone, AreOfOne, rows_under}
 use Rattle.mf_store_files.specs.Held.{CanBeHeld, DoRise}
 use Rattle.mf_store_files.proofs.JudgedLemmas.{can_be_held, first_can_be_held, holds_sound, holds_sound_first}
 use Rattle.mf_store_files.proofs.TakenLemmas.{not_first}

@@ -7,10 +7,10 @@ use Rattle.sqlite.specs.State.{State}
 use Rattle.sqlite.specs.Tree.{Trees}
 use Rattle.sqlite_catalog.specs.Listing.{IsSound}
 use Rattle.sqlite_wal.specs.Recovery.{Image}
-use Rattle.mf_store_tables.specs.Tables.{no_schema}
-use Rattle.mf_store_records.specs.Tables.{schema}
-use Rattle.mf_store_rows.specs.Schemas.{IsKnown}
-use Rattle.mf_store_records.specs.Tables.{first_schema}
+use Rattle.mf_store_sql.specs.Tables.{no_schema}
+use Rattle.mf_store_schema.specs.Tables.{schema}
+use Rattle.mf_store_schema.specs.Schemas.{IsKnown}
+use Rattle.mf_store_schema.specs.Tables.{first_schema}
 use Rattle.mf_store_files.specs.Opened.{ShowsFile}
 use Rattle.mf_store_files.proofs.OpenedLemmas.{under, seen}
 use Rattle.mf_store_audit.specs.Audits.{IsAuditOf, IsAuditOfFile}

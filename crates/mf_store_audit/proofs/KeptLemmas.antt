@@ -1,10 +1,10 @@
 -- What is unchanged under the schema that there is stays so over two steps, and under any schema.
-use Rattle.std.proofs.Common.{◌≡◌}
+use Rattle.std.proofs.Common.{◌≡◌, inl, inr}
 use Rattle.sqlite.specs.Schema.{Schema}
 use Rattle.sqlite.specs.State.{State}
-use Rattle.mf_store_records.specs.Calls.{IsUnchanged}
-use Rattle.mf_store_rows.specs.Schemas.{IsPresent, IsUnchangedUnder}
-use Rattle.mf_store_rows.proofs.ReadLemmas.{unchanged_then}
+use Rattle.mf_store_schema.specs.Calls.{IsUnchanged}
+use Rattle.mf_store_schema.specs.Schemas.{IsFirst, IsKnown, IsPresent, IsUnchangedUnder}
+use Rattle.mf_store_schema.proofs.ReadLemmas.{unchanged_then}
 use Rattle.mf_store_files.specs.Told.{IsAny}
 use Rattle.mf_store_files.proofs.TableLemmas.{unchanged_fewer}
 
@@ -32,3 +32,18 @@ under_any P old new ours u = record {
   shuts = u.shuts;
   stop = λ clean any. u.stop clean (λ live. ours);
 }
+
+-- ---- the schemas that have all tables searched, in the order of the search
+
+abbrev Six : Type 0 → Type 0
+Six P = (P × (P × P)) × (P × (P × P))
+
+abbrev Three : Type 0 → Type 0
+Three P = P × (P × P)
+
+pub under_present : (k : Schema) → IsPresent k → Six (IsKnown k) × (Three (IsKnown k) × (IsPresent k × IsPresent k))
+under_present k is = let one : IsKnown k =
+    inl is in (((one, (one, one)), (one, (one, one))), ((one, (one, one)), (is, is)))
+
+pub under_first : (k : Schema) → IsFirst k → Six (IsKnown k) × Three (IsKnown k)
+under_first k is = let one : IsKnown k = inr is in (((one, (one, one)), (one, (one, one))), (one, (one, one)))

@@ -1,3 +1,20 @@
+pub mod DifferenceLemmas
+pub mod EntryFlawLemmas
+pub mod EveryLemmas
+pub mod FlawLemmas
+pub mod LoanFlawLemmas
+pub mod NoneLemmas
+pub mod OfficeLemmas
+pub mod PlaceLemmas
+pub mod ReceiptFlawLemmas
+pub mod AddedLemmas
+pub mod LoanLemmas
+pub mod BalancedLemmas
+pub mod FitLemmas
+pub mod LimitLemmas
+pub mod WalkLemmas
+pub mod TableLemmas
+mod WorkedRows
 pub mod AuditLemmas
 pub mod KeptLemmas
 pub mod FileLemmas

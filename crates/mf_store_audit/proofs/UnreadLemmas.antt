@@ -8,9 +8,9 @@ use Rattle.std.proofs.Math.Dec.{ltb}
 use Rattle.sqlite.specs.declared.types.Value.{Value}
 use Rattle.sqlite.specs.declared.types.Value.TheVariants.{Null, Int, Text as Words}
 use Rattle.sqlite.specs.Order.{Row, column}
-use Rattle.mf_store_tables.specs.Columns.{Field, Named, Number, Amount, Text, MaybeNumber, MaybeText}
-use Rattle.mf_store_records.specs.Fields.{IsNumber, IsText, CanHold, CanHoldFrom, HasFields}
-use Rattle.mf_store_rows.proofs.TreeLemmas.{past_end}
+use Rattle.mf_store_sql.specs.Columns.{Field, Named, Number, Amount, Text, MaybeNumber, MaybeText}
+use Rattle.mf_store_schema.specs.Fields.{IsNumber, IsText, CanHold, CanHoldFrom, HasFields}
+use Rattle.mf_store_schema.proofs.TreeLemmas.{past_end}
 use Rattle.mf_store_audit.specs.Unread.{IsBadText, HasBadText, IsOfType, AreOfTypesFrom, IsTyped, IsBadNumber, IsBadIn}
 use Rattle.mf_store_audit.specs.Unread.{HasBadNumberFrom}
 

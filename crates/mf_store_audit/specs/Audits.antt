@@ -9,19 +9,19 @@ use Rattle.sqlite_catalog.specs.Listing.{IsSound as IsSoundDatabase}
 use Rattle.sqlite_wal.specs.Recovery.{Image}
 use Rattle.mf_model.specs.Institution.{Institution}
 use Rattle.mf_model.specs.Sound.{IsSound}
-use Rattle.mf_store_tables.specs.Tables.{no_schema}
-use Rattle.mf_store_records.specs.Rows.{Lists}
-use Rattle.mf_store_records.specs.Tables.{schema}
-use Rattle.mf_store_records.specs.Writes.{Holds}
-use Rattle.mf_store_rows.specs.Schemas.{IsKnown}
-use Rattle.mf_store_records.specs.Tables.{first_schema}
-use Rattle.mf_store_accounts.specs.Flat.{tables_of}
+use Rattle.mf_store_sql.specs.Tables.{no_schema}
+use Rattle.mf_store_schema.specs.Rows.{Lists}
+use Rattle.mf_store_schema.specs.Tables.{schema}
+use Rattle.mf_store_schema.specs.Writes.{Holds}
+use Rattle.mf_store_schema.specs.Schemas.{IsKnown}
+use Rattle.mf_store_schema.specs.Tables.{first_schema}
+use Rattle.mf_store_values.specs.Flat.{tables_of}
 use Rattle.mf_store_sound.specs.Schemas.{first_tables_of, without_accounts}
-use Rattle.mf_store_upgrade.specs.Upgrade.{HoldsFirst}
-use Rattle.mf_store_findings.specs.Findings.{AllBreak, AreOfNone, rows_under}
-use Rattle.mf_store_findings.specs.declared.finding.Finding.{Finding}
-use Rattle.mf_store_sums.specs.Sums.{sums_of}
-use Rattle.mf_store_sums.specs.declared.totals.OfficeSums.{OfficeSums}
+use Rattle.mf_store_schema.specs.Upgrade.{HoldsFirst}
+use Rattle.mf_store_audit.specs.Findings.{AllBreak, AreOfNone, rows_under}
+use Rattle.mf_store_audit.specs.declared.finding.Finding.{Finding}
+use Rattle.mf_store_audit.specs.Sums.{sums_of}
+use Rattle.mf_store_audit.specs.declared.totals.OfficeSums.{OfficeSums}
 use Rattle.mf_store_files.specs.Files.{HasNoTables}
 use Rattle.mf_store_audit.specs.Unread.{IsUnread}
 use Rattle.mf_store_audit.specs.declared.audits.Audit.{Audit}

@@ -1,2 +1,10 @@
+pub mod Places
+pub mod Catalogue
+pub mod Offices
+pub mod Loans
+pub mod Entries
+pub mod Findings
+pub mod Sums
+pub mod OfficeSums
 pub mod Unread
 pub mod Audits

@@ -6,14 +6,14 @@ use Rattle.sqlite.specs.declared.types.Value.{Value}
 use Rattle.sqlite.specs.declared.types.Value.TheVariants.{Null, Int, Text as Words}
 use Rattle.sqlite.specs.Order.{Row, column}
 use Rattle.sqlite.specs.Tree.{Trees}
-use Rattle.mf_store_records.specs.Tables as table
-use Rattle.mf_store_tables.specs.Columns.{Field, Named, Number, Amount, Text, MaybeNumber, MaybeText}
-use Rattle.mf_store_records.specs.Fields.{HasFields}
-use Rattle.mf_store_records.specs.Rows.{meta_row, office_row, staff_row, client_row, charge_row, product_row, loan_row}
-use Rattle.mf_store_records.specs.Rows.{entry_row, receipt_row, instalment_row, share_row, by_meta, by_office, by_staff}
-use Rattle.mf_store_records.specs.Rows.{by_client, by_charge, by_product, by_loan, by_entry, by_receipt, by_instalment}
-use Rattle.mf_store_records.specs.Rows.{by_share}
-use Rattle.mf_store_rows.specs.Whole.{ShowsTable}
+use Rattle.mf_store_schema.specs.Tables as table
+use Rattle.mf_store_sql.specs.Columns.{Field, Named, Number, Amount, Text, MaybeNumber, MaybeText}
+use Rattle.mf_store_schema.specs.Fields.{HasFields}
+use Rattle.mf_store_schema.specs.Rows.{meta_row, office_row, staff_row, client_row, charge_row, product_row, loan_row}
+use Rattle.mf_store_schema.specs.Rows.{entry_row, receipt_row, instalment_row, share_row, by_meta, by_office, by_staff}
+use Rattle.mf_store_schema.specs.Rows.{by_client, by_charge, by_product, by_loan, by_entry, by_receipt, by_instalment}
+use Rattle.mf_store_schema.specs.Rows.{by_share}
+use Rattle.mf_store_schema.specs.Whole.{ShowsTable}
 use Rattle.mf_store_audit.specs.declared.unread.UnreadValue.{UnreadValue}
 use Rattle.mf_store_audit.specs.declared.unread.UnreadValue.TheVariants.{NotUtf8, OutOfRange}
 use Rattle.mf_store_audit.specs.declared.unread.TableName.{TableName}

@@ -9,7 +9,7 @@ ghost use Rattle.mf_store_audit.specs.Audits.{IsAuditOfFile};
 
 use crate::audits::{Audit, audit_tables};
 use mf_store_files::{Finding as FileFinding, reach};
-use mf_store_rows::{Progress, remove_bare_log};
+use mf_store_schema::{Progress, remove_bare_log};
 use sqlite::{Connection, FileFrom, FileStore, Start, Unknown};
 use std::rt::HostRuntime;
 

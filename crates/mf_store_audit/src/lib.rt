@@ -1,11 +1,39 @@
-//! Audits of tables that were found: what a sound institution's rows come to, or which row breaks which condition.
+//! Audits of tables that were found: what a sound institution's rows come to, office by office and in all, or which row
+//! breaks which condition.
 #![tactic(auto)]
 
+mod accounts;
 mod audits;
+mod books;
+mod charges;
+mod clients;
+mod entries;
 mod files;
+mod find;
+mod finding;
+mod loans;
+mod meta;
+mod offices;
+mod parts;
+mod places;
+mod products;
+mod receipts;
+mod rows;
+mod seals;
 mod searched;
+mod staff;
+mod sums_by_loan;
+mod sums_by_office;
+mod totals;
 mod unread;
 
 pub use audits::{Audit, audit_tables};
 pub use files::{audit_file, audit_file_with};
+pub use find::findings;
+pub use finding::{
+    ChargeFlaw, ClientFlaw, EntryFlaw, Finding, LoanFlaw, MetaFlaw, OfficeFlaw, ProductFlaw,
+    ReceiptFlaw, StaffFlaw,
+};
+pub use sums_by_office::office_sums;
+pub use totals::{EntryCounts, LoanCounts, MoneySums, OfficeSums, PrincipalSums, Sums, total};
 pub use unread::{TableName, Unread, UnreadValue};

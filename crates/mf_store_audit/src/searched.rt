@@ -1,16 +1,16 @@
-//! Several tables searched for a row that no record can hold, in the order in which opening reads them.
+//! Several tables searched for a row that no record can hold, one after the other.
 
 ghost use Rattle.std.specs.Prelude.{◌≡◌, false, IsTrue, OnOk, IfOk, IfErr, IfSome};
 ghost use Rattle.mf_base.specs.declared.fault.Fault.TheVariants.{F20};
 ghost use Rattle.sqlite.specs.Held.{state};
 ghost use Rattle.sqlite.specs.Schema.{Schema};
 ghost use Rattle.sqlite.specs.State.{HasCleanDisk};
-ghost use Rattle.mf_store_rows.specs.Schemas.{IsUnchangedUnder};
+ghost use Rattle.mf_store_schema.specs.Schemas.{IsUnchangedUnder};
 ghost use Rattle.mf_store_audit.specs.Unread.{IsUnread};
 
 use crate::unread::{TableName, Unread, unread_in};
 use mf_base::Fault;
-use mf_store_records::{
+use mf_store_schema::{
     ChargeRow, ClientRow, EntryRow, InstalmentRow, LoanRow, MetaRow, OfficeRow, ProductRow,
     ReceiptRow, ShareRow, StaffRow,
 };
@@ -72,7 +72,7 @@ impl<A: Searched, B: Searched> Searched for (A, B) {
 }
 
 impl Searched for MetaRow {
-    ghost use Rattle.mf_store_rows.specs.Schemas.{IsKnown};
+    ghost use Rattle.mf_store_schema.specs.Schemas.{IsKnown};
 
     ghost IsUnder = { IsKnown };
 
@@ -85,7 +85,7 @@ impl Searched for MetaRow {
 }
 
 impl Searched for OfficeRow {
-    ghost use Rattle.mf_store_rows.specs.Schemas.{IsKnown};
+    ghost use Rattle.mf_store_schema.specs.Schemas.{IsKnown};
 
     ghost IsUnder = { IsKnown };
 
@@ -98,7 +98,7 @@ impl Searched for OfficeRow {
 }
 
 impl Searched for StaffRow {
-    ghost use Rattle.mf_store_rows.specs.Schemas.{IsKnown};
+    ghost use Rattle.mf_store_schema.specs.Schemas.{IsKnown};
 
     ghost IsUnder = { IsKnown };
 
@@ -111,7 +111,7 @@ impl Searched for StaffRow {
 }
 
 impl Searched for ClientRow {
-    ghost use Rattle.mf_store_rows.specs.Schemas.{IsKnown};
+    ghost use Rattle.mf_store_schema.specs.Schemas.{IsKnown};
 
     ghost IsUnder = { IsKnown };
 
@@ -124,7 +124,7 @@ impl Searched for ClientRow {
 }
 
 impl Searched for ChargeRow {
-    ghost use Rattle.mf_store_rows.specs.Schemas.{IsKnown};
+    ghost use Rattle.mf_store_schema.specs.Schemas.{IsKnown};
 
     ghost IsUnder = { IsKnown };
 
@@ -137,7 +137,7 @@ impl Searched for ChargeRow {
 }
 
 impl Searched for ProductRow {
-    ghost use Rattle.mf_store_rows.specs.Schemas.{IsKnown};
+    ghost use Rattle.mf_store_schema.specs.Schemas.{IsKnown};
 
     ghost IsUnder = { IsKnown };
 
@@ -150,7 +150,7 @@ impl Searched for ProductRow {
 }
 
 impl Searched for LoanRow {
-    ghost use Rattle.mf_store_rows.specs.Schemas.{IsKnown};
+    ghost use Rattle.mf_store_schema.specs.Schemas.{IsKnown};
 
     ghost IsUnder = { IsKnown };
 
@@ -163,7 +163,7 @@ impl Searched for LoanRow {
 }
 
 impl Searched for EntryRow {
-    ghost use Rattle.mf_store_rows.specs.Schemas.{IsKnown};
+    ghost use Rattle.mf_store_schema.specs.Schemas.{IsKnown};
 
     ghost IsUnder = { IsKnown };
 
@@ -176,7 +176,7 @@ impl Searched for EntryRow {
 }
 
 impl Searched for ReceiptRow {
-    ghost use Rattle.mf_store_rows.specs.Schemas.{IsKnown};
+    ghost use Rattle.mf_store_schema.specs.Schemas.{IsKnown};
 
     ghost IsUnder = { IsKnown };
 
@@ -189,7 +189,7 @@ impl Searched for ReceiptRow {
 }
 
 impl Searched for InstalmentRow {
-    ghost use Rattle.mf_store_rows.specs.Schemas.{IsPresent};
+    ghost use Rattle.mf_store_schema.specs.Schemas.{IsPresent};
 
     ghost IsUnder = { IsPresent };
 
@@ -202,7 +202,7 @@ impl Searched for InstalmentRow {
 }
 
 impl Searched for ShareRow {
-    ghost use Rattle.mf_store_rows.specs.Schemas.{IsPresent};
+    ghost use Rattle.mf_store_schema.specs.Schemas.{IsPresent};
 
     ghost IsUnder = { IsPresent };
 

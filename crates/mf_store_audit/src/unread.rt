@@ -5,15 +5,14 @@ ghost use Rattle.mf_base.specs.declared.fault.Fault.TheVariants.{F20};
 ghost use Rattle.sqlite.specs.Held.{state};
 ghost use Rattle.sqlite.specs.State.{HasCleanDisk};
 ghost use Rattle.sqlite_value.specs.Value.{owned};
-ghost use Rattle.mf_store_rows.specs.Schemas.{IsUnchangedUnder};
-ghost use Rattle.mf_store_tables.specs.Columns.{Named};
-ghost use Rattle.mf_store_records.specs.Fields.{HasFields};
+ghost use Rattle.mf_store_schema.specs.Schemas.{IsUnchangedUnder};
+ghost use Rattle.mf_store_sql.specs.Columns.{Named};
+ghost use Rattle.mf_store_schema.specs.Fields.{HasFields};
 ghost use Rattle.mf_store_audit.specs.Unread.{IsBadText, HasBadText, IsUnreadAt, IsUnreadFor, IsUnreadIn};
 
 use mf_base::Fault;
-use mf_store_records::Table;
-use mf_store_rows::{Whole, read_any};
-use mf_store_tables::query;
+use mf_store_schema::{Table, read_any, whole_text};
+use mf_store_sql::query;
 use sqlite::types::ValueRef;
 use sqlite::{Alter, Connection, Error, Row};
 use std::alloc::Global;
@@ -125,7 +124,7 @@ fn numbers_of(alloc: Global, row: &Row, columns: usize) -> Result<Vec<i64>, Faul
 ///
 /// The clause on what is found speaks of a connection whose tables are those of a schema with this table, whatever rows
 /// stand there.
-pub(crate) fn unread_in<T: Whole + Drop, S: Alter>(
+pub(crate) fn unread_in<T: Table + Drop, S: Alter>(
     alloc: Global,
     connection: &mut Connection<S>,
     table: TableName,
@@ -143,7 +142,7 @@ pub(crate) fn unread_in<T: Whole + Drop, S: Alter>(
     ensures mode { connection.new.in_transaction ≡ false }
 {
     let _schema = connection.schema();
-    let Ok(rows) = query(connection, T::whole_text(), &[]) else {
+    let Ok(rows) = query(connection, whole_text::<T>(), &[]) else {
         return Err(Fault::F20);
     };
     let Some((place, value)) = first_unread::<T>(&rows)? else {

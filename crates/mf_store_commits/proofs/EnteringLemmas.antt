@@ -8,8 +8,8 @@ use Rattle.mf_base.specs.declared.fault.Fault.TheVariants.{F20}
 use Rattle.mf_model.specs.declared.commit.Commit.{Commit}
 use Rattle.mf_model.specs.Institution.{Institution}
 use Rattle.mf_model.specs.Store.{Commits, IsAdmitted, after_commit}
-use Rattle.mf_store_records.specs.declared.writes.StoreWrite.{StoreWrite}
-use Rattle.mf_store_changes.specs.Becoming.{Becomes}
+use Rattle.mf_store_schema.specs.declared.writes.StoreWrite.{StoreWrite}
+use Rattle.mf_store_commits.specs.Becoming.{Becomes}
 use Rattle.mf_store_commits.specs.Tabled.{IsTabled, HasGoodDisk, LeavesTables}
 
 -- writes that make the change of each institution that admits it commit it

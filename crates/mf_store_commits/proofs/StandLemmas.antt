@@ -9,15 +9,15 @@ use Rattle.sqlite.specs.declared.error.Error.{Error}
 use Rattle.sqlite_trees.specs.declared.store.Store.{Ghosts}
 use Rattle.mf_base.specs.declared.fault.Fault.{Fault}
 use Rattle.mf_base.specs.declared.fault.Fault.TheVariants.{F20}
-use Rattle.mf_store_tables.specs.Writes.{Serves, AllFit, after_all, Turns, IsSettled, MayHold}
+use Rattle.mf_store_sql.specs.Writes.{Serves, AllFit, after_all, Turns, IsSettled, MayHold}
 use Rattle.mf_model.specs.Institution.{Institution}
-use Rattle.mf_store_records.specs.Tables.{schema}
-use Rattle.mf_store_accounts.specs.Flat.{tables_of}
-use Rattle.mf_store_records.specs.Calls.{IsUnchanged}
-use Rattle.mf_store_records.specs.Writes.{schema_of, Holds, after, Fits}
-use Rattle.mf_store_records.specs.declared.writes.StoreWrite.{StoreWrite}
+use Rattle.mf_store_schema.specs.Tables.{schema}
+use Rattle.mf_store_values.specs.Flat.{tables_of}
+use Rattle.mf_store_schema.specs.Calls.{IsUnchanged}
+use Rattle.mf_store_schema.specs.Writes.{schema_of, Holds, after, Fits}
+use Rattle.mf_store_schema.specs.declared.writes.StoreWrite.{StoreWrite}
 use Rattle.mf_store_commits.specs.Tabled.{IsTabled, HasGoodDisk, LeavesTables, StayTabled}
-use Rattle.mf_store_changes.specs.Becoming.{Becomes}
+use Rattle.mf_store_commits.specs.Becoming.{Becomes}
 
 -- ---- F20 in place of the store's own error
 

@@ -1,1 +1,4 @@
+pub mod Becoming
+pub mod ChangeWrites
+pub mod Suiting
 pub mod Tabled

@@ -4,13 +4,13 @@ use Rattle.sqlite.specs.Tree.{Trees}
 use Rattle.sqlite.specs.State.{HasCleanDisk}
 use Rattle.sqlite.specs.Held.{Held, state}
 use Rattle.sqlite_trees.specs.declared.store.Store.{Ghosts}
-use Rattle.mf_store_tables.specs.Writes.{Serves}
+use Rattle.mf_store_sql.specs.Writes.{Serves}
 use Rattle.mf_model.specs.Institution.{Institution, newly_made}
 use Rattle.mf_model.specs.Sound.{IsSound}
-use Rattle.mf_store_records.specs.Calls.{OnlyFaultsShut}
-use Rattle.mf_store_records.specs.Tables.{schema}
-use Rattle.mf_store_accounts.specs.Flat.{tables_of}
-use Rattle.mf_store_records.specs.Writes.{schema_of, Holds}
+use Rattle.mf_store_schema.specs.Calls.{OnlyFaultsShut}
+use Rattle.mf_store_schema.specs.Tables.{schema}
+use Rattle.mf_store_values.specs.Flat.{tables_of}
+use Rattle.mf_store_schema.specs.Writes.{schema_of, Holds}
 
 -- the trees hold one of these institutions, whole
 abbrev pub HoldsOneOf : List Institution → Trees → Type 0

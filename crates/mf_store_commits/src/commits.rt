@@ -4,13 +4,13 @@ ghost use Rattle.std.specs.Prelude.{◌≡◌, ◌<◌, List, ◌∷◌, [], len
 ghost use Rattle.mf_base.specs.declared.fault.Fault.TheVariants.{F20};
 ghost use Rattle.sqlite.specs.Held.{state};
 ghost use Rattle.mf_model.specs.Institution.{Institution};
-ghost use Rattle.mf_store_changes.specs.Becoming.{Becomes};
-ghost use Rattle.mf_store_records.specs.Calls.{OnlyFaultsShut};
+ghost use Rattle.mf_store_commits.specs.Becoming.{Becomes};
+ghost use Rattle.mf_store_schema.specs.Calls.{OnlyFaultsShut};
 ghost use Rattle.mf_store_commits.specs.Tabled.{IsTabled, HasGoodDisk, LeavesTables};
 
 use mf_base::Fault;
-use mf_store_records::StoreWrite;
-use mf_store_tables::apply;
+use mf_store_schema::StoreWrite;
+use mf_store_sql::apply;
 use sqlite::{Alter, Connection, Error};
 
 /// What the store could not do is F20, whatever the cause.

@@ -8,16 +8,18 @@ ghost use Rattle.mf_model.specs.Institution.{Institution};
 ghost use Rattle.mf_model.specs.Sound.{IsSound};
 ghost use Rattle.mf_model.specs.Store.{Commits, IsAdmitted};
 ghost use Rattle.mf_model.specs.declared.commit.Commit.TheVariants.{AddEntry, ReverseEntry};
-ghost use Rattle.mf_store_records.specs.Calls.{OnlyFaultsShut};
-ghost use Rattle.mf_store_changes.specs.Suiting.{Carries};
+ghost use Rattle.mf_store_schema.specs.Calls.{OnlyFaultsShut};
+ghost use Rattle.mf_store_commits.specs.Suiting.{Carries};
 ghost use Rattle.mf_store_commits.specs.Tabled.{IsTabled, HasGoodDisk, LeavesTables};
 
+use crate::changes::put_change;
 use crate::commits::write;
+use crate::entries::row_of_entry;
+use crate::receipts::writes_of;
 use mf_account::LoanAccount;
 use mf_base::Fault;
 use mf_office::Account;
-use mf_store_changes::{put_change, row_of_entry, writes_of};
-use mf_store_records::StoreWrite;
+use mf_store_schema::StoreWrite;
 use sqlite::{Alter, Connection};
 use std::alloc::Global;
 

@@ -5,17 +5,17 @@ use Rattle.sqlite.specs.Tree.{Trees}
 use Rattle.sqlite_trees.specs.declared.store.Store.{Ghosts}
 use Rattle.mf_model.specs.Institution.{Institution}
 use Rattle.mf_model.specs.Sound.{IsSound}
-use Rattle.mf_store_records.specs.Calls.{IsUnchanged, OnlyFaultsShut}
-use Rattle.mf_store_records.specs.Rows.{Lists}
-use Rattle.mf_store_records.specs.Writes.{Holds}
-use Rattle.mf_store_accounts.specs.Flat.{tables_of}
-use Rattle.mf_store_rows.specs.Schemas.{IsFirst, IsUnchangedUnder}
-use Rattle.mf_store_records.specs.Tables.{first_schema}
-use Rattle.mf_store_rows.specs.Whole.{HaveFirstRowids}
+use Rattle.mf_store_schema.specs.Calls.{IsUnchanged, OnlyFaultsShut}
+use Rattle.mf_store_schema.specs.Rows.{Lists}
+use Rattle.mf_store_schema.specs.Writes.{Holds}
+use Rattle.mf_store_values.specs.Flat.{tables_of}
+use Rattle.mf_store_schema.specs.Schemas.{IsFirst, IsUnchangedUnder}
+use Rattle.mf_store_schema.specs.Tables.{first_schema}
+use Rattle.mf_store_schema.specs.Whole.{HaveFirstRowids}
 use Rattle.mf_store_sound.specs.Schemas.{first_tables_of}
-use Rattle.mf_store_tables.specs.Writes.{Serves}
-use Rattle.mf_store_upgrade.specs.Upgrade.{First as Kept_first, schema_kept, Holds as HoldsKept}
-use Rattle.mf_store_upgrade.specs.Upgraded.{IsKeepingFirst, IsUpgradedTo}
+use Rattle.mf_store_sql.specs.Writes.{Serves}
+use Rattle.mf_store_schema.specs.Upgrade.{First as Kept_first, schema_kept, HoldsKept}
+use Rattle.mf_store_schema.specs.Upgraded.{IsKeepingFirst, IsUpgradedTo}
 use Rattle.mf_store.specs.Facts.{KnownStore}
 use Rattle.mf_store_commits.specs.Tabled.{HasGoodDisk, IsTabled}
 use Rattle.mf_store.specs.Stands.{StandsFor, IsClean, IsOpen, Leaves}

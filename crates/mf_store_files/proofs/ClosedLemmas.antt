@@ -14,8 +14,8 @@ use Rattle.sqlite_trees.specs.View.{IsClean as IsCleanView}
 use Rattle.sqlite_wal.specs.Files.{outcomes}
 use Rattle.sqlite_wal.specs.Recovery.{Image}
 use Rattle.mf_model.specs.Institution.{Institution}
-use Rattle.mf_store_records.specs.Writes.{Holds}
-use Rattle.mf_store_accounts.specs.Flat.{tables_of}
+use Rattle.mf_store_schema.specs.Writes.{Holds}
+use Rattle.mf_store_values.specs.Flat.{tables_of}
 use Rattle.mf_store_commits.specs.Tabled.{HasGoodDisk, IsTabled, LeavesTables, HoldsOneOf}
 use Rattle.mf_store_files.specs.Closed.{HoldsInstitution, HoldsByItself}
 use Rattle.mf_store_files.specs.Held.{HoldsSound}

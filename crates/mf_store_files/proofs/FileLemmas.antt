@@ -8,11 +8,11 @@ use Rattle.sqlite.specs.Tree.{Trees}
 use Rattle.sqlite_trees.specs.Objects.{catalog_tree}
 use Rattle.sqlite_catalog.specs.Listing.{IsSound}
 use Rattle.sqlite_wal.specs.Recovery.{Image}
-use Rattle.mf_store_tables.specs.Writes.{Serves}
-use Rattle.mf_store_records.specs.Tables.{schema}
-use Rattle.mf_store_records.specs.Writes.{schema_of, Holds}
-use Rattle.mf_store_records.specs.Tables.{first_schema}
-use Rattle.mf_store_rows.specs.Whole.{HaveRowids, HaveFirstRowids}
+use Rattle.mf_store_sql.specs.Writes.{Serves}
+use Rattle.mf_store_schema.specs.Tables.{schema}
+use Rattle.mf_store_schema.specs.Writes.{schema_of, Holds}
+use Rattle.mf_store_schema.specs.Tables.{first_schema}
+use Rattle.mf_store_schema.specs.Whole.{HaveRowids, HaveFirstRowids}
 use Rattle.mf_store_files.specs.Files.{HasNoTables}
 use Rattle.mf_store_files.specs.Opened.{ShowsFile}
 use Rattle.mf_store_files.proofs.BlankLemmas.{empty_if_nothing}

@@ -45,14 +45,14 @@ use Rattle.mf_model.specs.Accounts.{account_in, of_account}
 use Rattle.mf_model.specs.Institution.{Institution, Catalogue, Ledger, Office}
 use Rattle.mf_model.specs.Sound.{IsSound, IsSoundOffice, IsSoundCatalogue, IsSoundLoan, is_staff}
 use Rattle.mf_model.proofs.AccountLemmas.{account_sound}
-use Rattle.mf_store_records.specs.Tables as table
-use Rattle.mf_store_records.specs.Fields.{HasFields}
-use Rattle.mf_store_records.specs.Rows.{instalment_row, share_row}
-use Rattle.mf_store_records.specs.declared.instalments.InstalmentRow.{InstalmentRow}
-use Rattle.mf_store_records.specs.declared.shares.ShareRow.{ShareRow}
-use Rattle.mf_store_accounts.specs.Flat.{numbered_from, tables_of, instalment_in, share_in, how_number, portion_number}
-use Rattle.mf_store_accounts.specs.Flat.{instalments_kept, shares_kept, placed_parts, parts_from, kept_of}
-use Rattle.mf_store_accounts.specs.Flat.{rows_of_loans, rows_by_loan}
+use Rattle.mf_store_schema.specs.Tables as table
+use Rattle.mf_store_schema.specs.Fields.{HasFields}
+use Rattle.mf_store_schema.specs.Rows.{instalment_row, share_row}
+use Rattle.mf_store_schema.specs.declared.instalments.InstalmentRow.{InstalmentRow}
+use Rattle.mf_store_schema.specs.declared.shares.ShareRow.{ShareRow}
+use Rattle.mf_store_values.specs.Flat.{numbered_from, tables_of, instalment_in, share_in, how_number, portion_number}
+use Rattle.mf_store_values.specs.Flat.{instalments_kept, shares_kept, placed_parts, parts_from, kept_of}
+use Rattle.mf_store_values.specs.Flat.{rows_of_loans, rows_by_loan}
 use Rattle.mf_store_files.proofs.HeldLemmas.{is_number, is_amount, is_text, stored_held, low_bytes, digits_low}
 use Rattle.mf_store_files.proofs.HeldLemmas.{portion_low}
 

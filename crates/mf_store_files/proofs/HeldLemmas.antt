@@ -60,31 +60,31 @@ use Rattle.mf_model.specs.Tree.{parent_of, Above, Ascending}
 use Rattle.mf_model.specs.declared.loan.Loan.{Loan}
 use Rattle.mf_model.specs.declared.loan.Stage.{Stage}
 use Rattle.mf_model.specs.declared.loan.Stage.TheVariants.{Submitted, Approved, Disbursed, Withdrawn, Rejected}
-use Rattle.mf_store_tables.specs.Values.{or_null, or_text}
-use Rattle.mf_store_records.specs.Tables as table
-use Rattle.mf_store_tables.specs.Columns.{Number, Amount, Text, MaybeNumber, MaybeText}
-use Rattle.mf_store_records.specs.Fields.{CanHold, HasFields}
-use Rattle.mf_store_records.specs.Rows.{by_receipt, meta_row, office_row}
-use Rattle.mf_store_records.specs.Rows.{staff_row, client_row, charge_row}
-use Rattle.mf_store_records.specs.Rows.{product_row, loan_row, entry_row}
-use Rattle.mf_store_records.specs.Rows.{receipt_row}
-use Rattle.mf_store_records.specs.declared.offices.OfficeRow.{OfficeRow}
-use Rattle.mf_store_records.specs.declared.staff.StaffRow.{StaffRow}
-use Rattle.mf_store_records.specs.declared.clients.ClientRow.{ClientRow}
-use Rattle.mf_store_records.specs.declared.charges.ChargeRow.{ChargeRow}
-use Rattle.mf_store_records.specs.declared.products.ProductRow.{ProductRow}
-use Rattle.mf_store_records.specs.declared.loans.LoanRow.{LoanRow}
-use Rattle.mf_store_records.specs.declared.entries.EntryRow.{EntryRow}
-use Rattle.mf_store_records.specs.declared.receipts.ReceiptRow.{ReceiptRow}
-use Rattle.mf_store_accounts.specs.Flat.{numbered_from, all_rows, schema_number, tables_of, office_under, client_in}
-use Rattle.mf_store_accounts.specs.Flat.{staff_in, charge_as, product_as, loan_in, entry_in, entry_kind_number}
-use Rattle.mf_store_accounts.specs.Flat.{portion_number, flag_number, approval_text, disbursal_text, loans_of}
-use Rattle.mf_store_accounts.specs.Flat.{rows_of_loans, own_entries, entry_rows}
-use Rattle.mf_store_accounts.specs.ReceiptRows.{receipt_in, receipts_carried}
+use Rattle.mf_store_sql.specs.Values.{or_null, or_text}
+use Rattle.mf_store_schema.specs.Tables as table
+use Rattle.mf_store_sql.specs.Columns.{Number, Amount, Text, MaybeNumber, MaybeText}
+use Rattle.mf_store_schema.specs.Fields.{CanHold, HasFields}
+use Rattle.mf_store_schema.specs.Rows.{by_receipt, meta_row, office_row}
+use Rattle.mf_store_schema.specs.Rows.{staff_row, client_row, charge_row}
+use Rattle.mf_store_schema.specs.Rows.{product_row, loan_row, entry_row}
+use Rattle.mf_store_schema.specs.Rows.{receipt_row}
+use Rattle.mf_store_schema.specs.declared.offices.OfficeRow.{OfficeRow}
+use Rattle.mf_store_schema.specs.declared.staff.StaffRow.{StaffRow}
+use Rattle.mf_store_schema.specs.declared.clients.ClientRow.{ClientRow}
+use Rattle.mf_store_schema.specs.declared.charges.ChargeRow.{ChargeRow}
+use Rattle.mf_store_schema.specs.declared.products.ProductRow.{ProductRow}
+use Rattle.mf_store_schema.specs.declared.loans.LoanRow.{LoanRow}
+use Rattle.mf_store_schema.specs.declared.entries.EntryRow.{EntryRow}
+use Rattle.mf_store_schema.specs.declared.receipts.ReceiptRow.{ReceiptRow}
+use Rattle.mf_store_values.specs.Flat.{numbered_from, all_rows, schema_number, tables_of, office_under, client_in}
+use Rattle.mf_store_values.specs.Flat.{staff_in, charge_as, product_as, loan_in, entry_in, entry_kind_number}
+use Rattle.mf_store_values.specs.Flat.{portion_number, flag_number, approval_text, disbursal_text, loans_of}
+use Rattle.mf_store_values.specs.Flat.{rows_of_loans, own_entries, entry_rows}
+use Rattle.mf_store_values.specs.ReceiptRows.{receipt_in, receipts_carried}
 use Rattle.mf_model.proofs.StaffLemmas.{staff_are_callers}
-use Rattle.mf_store_changes.proofs.FlatLemmas.{numbered-suc}
-use Rattle.mf_store_changes.proofs.SoundLemmas.{has_number}
-use Rattle.mf_store_accounts.proofs.SortedLemmas.{all_sorted}
+use Rattle.mf_store_commits.proofs.FlatLemmas.{numbered-suc}
+use Rattle.mf_store_commits.proofs.SoundLemmas.{has_number}
+use Rattle.mf_store_values.proofs.SortedLemmas.{all_sorted}
 
 -- ---- one column
 

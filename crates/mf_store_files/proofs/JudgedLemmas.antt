@@ -3,13 +3,13 @@ use Rattle.std.proofs.Common.{◌≡◌, Some, refl, sym, subst, arith}
 use Rattle.sqlite.specs.Tree.{Trees}
 use Rattle.mf_model.specs.Institution.{Institution}
 use Rattle.mf_model.specs.Sound.{IsSound}
-use Rattle.mf_store_records.specs.Rows.{Lists}
-use Rattle.mf_store_records.specs.Writes.{Holds}
-use Rattle.mf_store_accounts.specs.Flat.{tables_of}
+use Rattle.mf_store_schema.specs.Rows.{Lists}
+use Rattle.mf_store_schema.specs.Writes.{Holds}
+use Rattle.mf_store_values.specs.Flat.{tables_of}
 use Rattle.mf_base.specs.DayText.{day_text}
 use Rattle.mf_store_sound.specs.Schemas.{first_tables_of, without_accounts}
 use Rattle.mf_store_sound.specs.Sound.{AreOfSound, AreOfSoundFirst}
-use Rattle.mf_store_upgrade.specs.Upgrade.{HoldsFirst}
+use Rattle.mf_store_schema.specs.Upgrade.{HoldsFirst}
 use Rattle.mf_store_files.specs.Held.{CanBeHeld, DoRise, HoldsSound, HoldsSoundFirst}
 use Rattle.mf_store_files.proofs.HeldAccountLemmas.{held_instalments, held_shares}
 use Rattle.mf_store_files.proofs.HeldLemmas.{is_number, is_text, day_utf8, held_meta, held_offices, held_staff}

@@ -14,14 +14,14 @@ use Rattle.sqlite_disk.specs.declared.Disk.{Ghosts}
 use Rattle.sqlite_store.specs.declared.store.FileStore.{FileStore}
 use Rattle.sqlite_trees.specs.declared.store.Store.{Ghosts as StoreGhosts}
 use Rattle.sqlite_wal.specs.Recovery.{Image}
-use Rattle.mf_store_tables.specs.Tables.{no_schema}
-use Rattle.mf_store_records.specs.Tables.{schema}
-use Rattle.mf_store_records.specs.Writes.{Holds}
-use Rattle.mf_store_rows.specs.Schemas.{IsKnown}
-use Rattle.mf_store_records.specs.Tables.{first_schema}
-use Rattle.mf_store_accounts.specs.Flat.{tables_of}
+use Rattle.mf_store_sql.specs.Tables.{no_schema}
+use Rattle.mf_store_schema.specs.Tables.{schema}
+use Rattle.mf_store_schema.specs.Writes.{Holds}
+use Rattle.mf_store_schema.specs.Schemas.{IsKnown}
+use Rattle.mf_store_schema.specs.Tables.{first_schema}
+use Rattle.mf_store_values.specs.Flat.{tables_of}
 use Rattle.mf_store_sound.specs.Schemas.{first_tables_of}
-use Rattle.mf_store_upgrade.specs.Upgrade.{HoldsFirst}
+use Rattle.mf_store_schema.specs.Upgrade.{HoldsFirst}
 use Rattle.mf_store_commits.specs.Tabled.{IsTabled}
 use Rattle.mf_store.specs.Facts.{KnownStore}
 use Rattle.mf_store.specs.Stands.{IsClean}

@@ -17,19 +17,19 @@ use Rattle.mf_model.specs.Institution.{Institution, Ledger, Office}
 use Rattle.mf_model.specs.Sound.{IsSound, IsSoundOffice, IsSoundLoan, AreEntriesBy, is_staff}
 use Rattle.mf_model.specs.Stages.{disbursed_on}
 use Rattle.mf_model.specs.Tree.{Above, Ascending, parent_of}
-use Rattle.mf_store_records.specs.Rows.{by_meta, by_office, by_staff, by_client, by_charge, by_product, by_loan}
-use Rattle.mf_store_records.specs.Rows.{by_entry, by_receipt, by_instalment, by_share}
-use Rattle.mf_store_records.specs.declared.offices.OfficeRow.{OfficeRow}
-use Rattle.mf_store_records.proofs.OrderLemmas.{by_receipt_total}
-use Rattle.mf_store_accounts.specs.Flat.{numbered_from, tables_of, office_under, staff_in, client_in, charge_as}
-use Rattle.mf_store_accounts.specs.Flat.{product_as, loan_in, entry_in, instalment_in, share_in, instalments_kept}
-use Rattle.mf_store_accounts.specs.Flat.{placed_parts, parts_from, shares_kept, kept_of, loans_of, rows_of_loans}
-use Rattle.mf_store_accounts.specs.Flat.{rows_by_loan, own_entries}
-use Rattle.mf_store_accounts.specs.ReceiptRows.{receipts_carried}
-use Rattle.mf_store_accounts.proofs.ReceiptLemmas.{receipts_apart}
-use Rattle.mf_store_accounts.proofs.SortedLemmas.{first_less, rises_sorted}
+use Rattle.mf_store_schema.specs.Rows.{by_meta, by_office, by_staff, by_client, by_charge, by_product, by_loan}
+use Rattle.mf_store_schema.specs.Rows.{by_entry, by_receipt, by_instalment, by_share}
+use Rattle.mf_store_schema.specs.declared.offices.OfficeRow.{OfficeRow}
+use Rattle.mf_store_schema.proofs.OrderLemmas.{by_receipt_total}
+use Rattle.mf_store_values.specs.Flat.{numbered_from, tables_of, office_under, staff_in, client_in, charge_as}
+use Rattle.mf_store_values.specs.Flat.{product_as, loan_in, entry_in, instalment_in, share_in, instalments_kept}
+use Rattle.mf_store_values.specs.Flat.{placed_parts, parts_from, shares_kept, kept_of, loans_of, rows_of_loans}
+use Rattle.mf_store_values.specs.Flat.{rows_by_loan, own_entries}
+use Rattle.mf_store_values.specs.ReceiptRows.{receipts_carried}
+use Rattle.mf_store_values.proofs.ReceiptLemmas.{receipts_apart}
+use Rattle.mf_store_values.proofs.SortedLemmas.{first_less, rises_sorted}
 use Rattle.mf_store_files.proofs.HeldLemmas.{AreNumberedFrom, numbers_by_place}
-use Rattle.mf_store_changes.proofs.LoanRowLemmas.{all_loans, all_offices}
+use Rattle.mf_store_commits.proofs.LoanRowLemmas.{all_loans, all_offices}
 use Rattle.mf_store_sound.proofs.ReceiptLemmas.{no_ties_of}
 use Rattle.mf_store_sound.proofs.StaffLemmas.{rows_rise}
 

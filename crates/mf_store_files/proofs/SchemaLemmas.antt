@@ -20,7 +20,7 @@ use Rattle.sqlite_catalog.specs.Listing.{IsSound, AreListed, IsTableRow, IsIndex
 use Rattle.sqlite_catalog.specs.Listing.{automatic, is_table_row, is_index_row, is_view_row}
 use Rattle.sqlite_catalog.proofs.SoundLemmas.{lowered}
 use Rattle.sqlite_catalog.proofs.StepLemmas.{named_once}
-use Rattle.mf_store_tables.specs.Tables.{no_schema}
+use Rattle.mf_store_sql.specs.Tables.{no_schema}
 
 same_zipped : {A B : Type 0} (R : A → B → Type 0) → ((x : A) (y z : B) → R x y → R x z → y ≡ z)
     → (xs : List A) (ys zs : List B) → AllZip R xs ys → AllZip R xs zs → ys ≡ zs

@@ -15,9 +15,9 @@ use Rattle.mf_model.specs.declared.request.Call.{Call}
 use Rattle.mf_model.specs.Run.{Line, change_of, next, last}
 use Rattle.mf_model.specs.Sound.{IsSound, IsInRange, AreInRange}
 use Rattle.mf_model.specs.Store.{left_by, left_after}
-use Rattle.mf_store_records.specs.Tables.{schema}
-use Rattle.mf_store_records.specs.Writes.{Holds}
-use Rattle.mf_store_accounts.specs.Flat.{tables_of}
+use Rattle.mf_store_schema.specs.Tables.{schema}
+use Rattle.mf_store_schema.specs.Writes.{Holds}
+use Rattle.mf_store_values.specs.Flat.{tables_of}
 use Rattle.mf_store_commits.specs.Tabled.{HoldsOneOf}
 use Rattle.mf_store_files.specs.Held.{HoldsSound}
 use Rattle.mf_store_files.specs.Stops.{NoneChanges, IsLeftBy}

@@ -8,12 +8,12 @@ use Rattle.sqlite.specs.Schema.{Schema}
 use Rattle.sqlite.specs.State.{HasCleanDisk}
 use Rattle.sqlite_trees.specs.declared.store.Store.{Ghosts}
 use Rattle.mf_model.specs.Institution.{Institution}
-use Rattle.mf_store_tables.specs.Tables.{no_schema}
-use Rattle.mf_store_records.specs.Calls.{IsUnchanged}
-use Rattle.mf_store_records.specs.Tables.{schema}
-use Rattle.mf_store_rows.specs.Schemas.{IsKnown}
-use Rattle.mf_store_records.specs.Tables.{first_schema}
-use Rattle.mf_store_rows.specs.Whole.{HaveRowids, HaveFirstRowids}
+use Rattle.mf_store_sql.specs.Tables.{no_schema}
+use Rattle.mf_store_schema.specs.Calls.{IsUnchanged}
+use Rattle.mf_store_schema.specs.Tables.{schema}
+use Rattle.mf_store_schema.specs.Schemas.{IsKnown}
+use Rattle.mf_store_schema.specs.Tables.{first_schema}
+use Rattle.mf_store_schema.specs.Whole.{HaveRowids, HaveFirstRowids}
 use Rattle.mf_store_commits.specs.Tabled.{IsTabled, IsUnfounded}
 use Rattle.mf_store.specs.Facts.{KnownStore}
 use Rattle.mf_store.specs.Stands.{StandsFor, IsClean, Leaves, IsOpen}

@@ -8,11 +8,11 @@ use Rattle.sqlite.specs.State.{State}
 use Rattle.sqlite.specs.Tree.{Trees}
 use Rattle.sqlite_catalog.specs.Listing.{IsSound}
 use Rattle.sqlite_wal.specs.Recovery.{Image}
-use Rattle.mf_store_tables.specs.Tables.{no_schema}
-use Rattle.mf_store_records.specs.Calls.{IsUnchanged}
-use Rattle.mf_store_records.specs.Tables.{schema}
-use Rattle.mf_store_rows.specs.Schemas.{IsFirst, IsKnown, IsUnchangedUnder}
-use Rattle.mf_store_records.specs.Tables.{first_schema}
+use Rattle.mf_store_sql.specs.Tables.{no_schema}
+use Rattle.mf_store_schema.specs.Calls.{IsUnchanged}
+use Rattle.mf_store_schema.specs.Tables.{schema}
+use Rattle.mf_store_schema.specs.Schemas.{IsFirst, IsKnown, IsUnchangedUnder}
+use Rattle.mf_store_schema.specs.Tables.{first_schema}
 use Rattle.mf_store_files.specs.Held.{HoldsSound, HoldsSoundFirst}
 use Rattle.mf_store_files.specs.Opened.{ShowsFile}
 use Rattle.mf_store_files.specs.Told.{IsAny, IsToldOf, IsToldOfFile}

@@ -4,12 +4,12 @@ use Rattle.std.specs.declared.cmp.Ordering.TheVariants.{Less}
 use Rattle.sqlite_trees.specs.Tree.{IsAscending}
 use Rattle.mf_model.specs.Institution.{Institution}
 use Rattle.mf_model.specs.Sound.{IsSound}
-use Rattle.mf_store_records.specs.Rows.{Lists, by_instalment, by_share}
-use Rattle.mf_store_records.specs.declared.instalments.InstalmentRow.{InstalmentRow}
-use Rattle.mf_store_records.specs.declared.meta.MetaRow.{MetaRow}
-use Rattle.mf_store_records.specs.declared.shares.ShareRow.{ShareRow}
-use Rattle.mf_store_upgrade.specs.Upgrade.{upgraded_lists, CanUpgrade}
-use Rattle.mf_store_accounts.specs.Flat.{tables_of, meta_on}
+use Rattle.mf_store_schema.specs.Rows.{Lists, by_instalment, by_share}
+use Rattle.mf_store_schema.specs.declared.instalments.InstalmentRow.{InstalmentRow}
+use Rattle.mf_store_schema.specs.declared.meta.MetaRow.{MetaRow}
+use Rattle.mf_store_schema.specs.declared.shares.ShareRow.{ShareRow}
+use Rattle.mf_store_schema.specs.Upgrade.{upgraded_lists, CanUpgrade}
+use Rattle.mf_store_values.specs.Flat.{tables_of, meta_on}
 use Rattle.mf_store_sound.specs.Schemas.{first_tables_of, meta_under}
 use Rattle.mf_store_files.proofs.RiseLemmas.{instalments_rise, shares_rise}
 

@@ -6,12 +6,12 @@ use Rattle.sqlite.specs.Tree.{Trees}
 use Rattle.sqlite_trees.specs.declared.store.Store.{Ghosts}
 use Rattle.mf_model.specs.Institution.{Institution}
 use Rattle.mf_model.specs.Sound.{IsSound}
-use Rattle.mf_store_accounts.specs.Flat.{tables_of}
-use Rattle.mf_store_records.specs.Calls.{OnlyFaultsShut}
-use Rattle.mf_store_records.specs.Writes.{Holds}
-use Rattle.mf_store_rows.specs.Whole.{HaveFirstRowids}
+use Rattle.mf_store_values.specs.Flat.{tables_of}
+use Rattle.mf_store_schema.specs.Calls.{OnlyFaultsShut}
+use Rattle.mf_store_schema.specs.Writes.{Holds}
+use Rattle.mf_store_schema.specs.Whole.{HaveFirstRowids}
 use Rattle.mf_store_sound.specs.Schemas.{first_tables_of}
-use Rattle.mf_store_upgrade.specs.Upgraded.{IsKeepingFirst}
+use Rattle.mf_store_schema.specs.Upgraded.{IsKeepingFirst}
 use Rattle.mf_store_files.specs.Held.{HoldsSoundFirst}
 
 module _ {S : Type 0} (g : Ghosts S) where

@@ -8,17 +8,17 @@ use Rattle.sqlite.specs.Tree.{Trees}
 use Rattle.sqlite_trees.specs.Tree.{IsAscending}
 use Rattle.mf_model.specs.Institution.{Institution}
 use Rattle.mf_model.specs.Sound.{IsSound}
-use Rattle.mf_store_records.specs.Tables as table
-use Rattle.mf_store_tables.specs.Columns.{Named}
-use Rattle.mf_store_records.specs.Fields.{HasFields}
-use Rattle.mf_store_records.specs.Rows.{Lists, meta_row, office_row, staff_row, client_row, charge_row, product_row}
-use Rattle.mf_store_records.specs.Rows.{loan_row, entry_row, receipt_row, instalment_row, share_row, by_meta, by_office}
-use Rattle.mf_store_records.specs.Rows.{by_staff, by_client, by_charge, by_product, by_loan, by_entry, by_receipt}
-use Rattle.mf_store_records.specs.Rows.{by_instalment, by_share}
-use Rattle.mf_store_records.specs.Writes.{Holds}
-use Rattle.mf_store_accounts.specs.Flat.{tables_of}
+use Rattle.mf_store_schema.specs.Tables as table
+use Rattle.mf_store_sql.specs.Columns.{Named}
+use Rattle.mf_store_schema.specs.Fields.{HasFields}
+use Rattle.mf_store_schema.specs.Rows.{Lists, meta_row, office_row, staff_row, client_row, charge_row, product_row}
+use Rattle.mf_store_schema.specs.Rows.{loan_row, entry_row, receipt_row, instalment_row, share_row, by_meta, by_office}
+use Rattle.mf_store_schema.specs.Rows.{by_staff, by_client, by_charge, by_product, by_loan, by_entry, by_receipt}
+use Rattle.mf_store_schema.specs.Rows.{by_instalment, by_share}
+use Rattle.mf_store_schema.specs.Writes.{Holds}
+use Rattle.mf_store_values.specs.Flat.{tables_of}
 use Rattle.mf_store_sound.specs.Schemas.{first_tables_of}
-use Rattle.mf_store_upgrade.specs.Upgrade.{HoldsFirst}
+use Rattle.mf_store_schema.specs.Upgrade.{HoldsFirst}
 
 -- each comes before the next
 abbrev pub Rises : {A : Type 0} → (A → A → Ordering) → List A → Type 0

@@ -11,14 +11,14 @@ use Rattle.sqlite_catalog.specs.Listing.{IsSound}
 use Rattle.sqlite_disk.specs.declared.Disk.{Ghosts}
 use Rattle.sqlite_store.specs.declared.store.FileStore.{FileStore}
 use Rattle.sqlite_wal.specs.Recovery.{Image}
-use Rattle.mf_store_tables.specs.Tables.{no_schema}
-use Rattle.mf_store_tables.specs.Writes.{Serves}
-use Rattle.mf_store_records.specs.Tables.{schema}
-use Rattle.mf_store_records.specs.Writes.{schema_of, Holds}
-use Rattle.mf_store_rows.specs.Schemas.{IsKnown}
-use Rattle.mf_store_records.specs.Tables.{first_schema}
-use Rattle.mf_store_rows.specs.Whole.{HaveRowids, HaveFirstRowids}
-use Rattle.mf_store_accounts.specs.Flat.{tables_of}
+use Rattle.mf_store_sql.specs.Tables.{no_schema}
+use Rattle.mf_store_sql.specs.Writes.{Serves}
+use Rattle.mf_store_schema.specs.Tables.{schema}
+use Rattle.mf_store_schema.specs.Writes.{schema_of, Holds}
+use Rattle.mf_store_schema.specs.Schemas.{IsKnown}
+use Rattle.mf_store_schema.specs.Tables.{first_schema}
+use Rattle.mf_store_schema.specs.Whole.{HaveRowids, HaveFirstRowids}
+use Rattle.mf_store_values.specs.Flat.{tables_of}
 use Rattle.mf_store.specs.Facts.{KnownStore}
 use Rattle.mf_store.specs.Stands.{StandsFor, IsClean, Leaves, IsOpen}
 use Rattle.mf_store_files.specs.Files.{HasNoTables}

@@ -6,11 +6,11 @@ use Rattle.sqlite.specs.Schema.{Schema}
 use Rattle.sqlite.specs.Tree.{Trees}
 use Rattle.sqlite_catalog.specs.Listing.{IsSound}
 use Rattle.sqlite_wal.specs.Recovery.{Image}
-use Rattle.mf_store_tables.specs.Tables.{no_schema}
-use Rattle.mf_store_records.specs.Tables.{schema}
-use Rattle.mf_store_rows.specs.Schemas.{IsKnown}
-use Rattle.mf_store_records.specs.Tables.{first_schema}
-use Rattle.mf_store_rows.specs.Whole.{HaveRowids, HaveFirstRowids}
+use Rattle.mf_store_sql.specs.Tables.{no_schema}
+use Rattle.mf_store_schema.specs.Tables.{schema}
+use Rattle.mf_store_schema.specs.Schemas.{IsKnown}
+use Rattle.mf_store_schema.specs.Tables.{first_schema}
+use Rattle.mf_store_schema.specs.Whole.{HaveRowids, HaveFirstRowids}
 use Rattle.mf_store_files.specs.Files.{HasNoTables}
 use Rattle.mf_store_files.specs.Held.{HoldsSound, HoldsSoundFirst}
 use Rattle.mf_store_files.specs.declared.judging.Contents.{Contents}

@@ -11,8 +11,8 @@ ghost use Rattle.sqlite.specs.State.{HasCleanDisk};
 ghost use Rattle.sqlite.specs.Tree.{Trees};
 ghost use Rattle.sqlite_wal.specs.Files.{image_at};
 ghost use Rattle.mf_model.specs.Institution.{newly_made};
-ghost use Rattle.mf_store_accounts.specs.Flat.{tables_of};
-ghost use Rattle.mf_store_records.specs.Writes.{Holds};
+ghost use Rattle.mf_store_values.specs.Flat.{tables_of};
+ghost use Rattle.mf_store_schema.specs.Writes.{Holds};
 ghost use Rattle.mf_store.specs.Stands.{StandsFor, IsClean, Leaves, IsOpen};
 ghost use Rattle.mf_store_files.specs.Files.{HasNoTables};
 ghost use Rattle.mf_store_files.specs.Opened.{ShowsFile, HoldsNoneSound, OpensAsFound, StaysAsFound};
@@ -20,7 +20,7 @@ ghost use Rattle.mf_store_files.specs.Opened.{ShowsFile, HoldsNoneSound, OpensAs
 use crate::adopted::{Refused, adopt, adopt_existing};
 use mf_base::{Day, Fault};
 use mf_store::Store;
-use mf_store_rows::{Progress, open_file, remove_bare_log};
+use mf_store_schema::{Progress, open_file, remove_bare_log};
 use sqlite::{Alter, Connection, Error, File, FileFrom, FileStore, Start, Unknown};
 use std::rt::HostRuntime;
 

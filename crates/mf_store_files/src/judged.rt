@@ -4,38 +4,64 @@ ghost use Rattle.std.specs.Prelude.{◌≡◌, IsTrue, OnOk, IfOk, IfErr, IfSome
 ghost use Rattle.mf_base.specs.declared.fault.Fault.TheVariants.{F20};
 ghost use Rattle.sqlite.specs.Held.{state};
 ghost use Rattle.sqlite.specs.State.{HasCleanDisk};
-ghost use Rattle.mf_store_records.specs.Calls.{IsUnchanged};
-ghost use Rattle.mf_store_records.specs.Rows.{Lists};
-ghost use Rattle.mf_store_records.specs.Tables.{schema};
-ghost use Rattle.mf_store_records.specs.Writes.{Holds};
-ghost use Rattle.mf_store_rows.specs.Schemas.{IsFirst, IsUnchangedUnder};
-ghost use Rattle.mf_store_records.specs.Tables.{first_schema};
-ghost use Rattle.mf_store_rows.specs.Whole.{HaveFirstRowids, HaveRowids};
+ghost use Rattle.mf_store_schema.specs.Calls.{IsUnchanged};
+ghost use Rattle.mf_store_schema.specs.Rows.{Lists};
+ghost use Rattle.mf_store_schema.specs.Tables.{schema};
+ghost use Rattle.mf_store_schema.specs.Writes.{Holds};
+ghost use Rattle.mf_store_schema.specs.Schemas.{IsFirst, IsUnchangedUnder};
+ghost use Rattle.mf_store_schema.specs.Tables.{first_schema};
+ghost use Rattle.mf_store_schema.specs.Whole.{HaveFirstRowids, HaveRowids};
 ghost use Rattle.mf_store_sound.specs.Schemas.{first_tables_of, without_accounts};
-ghost use Rattle.mf_store_upgrade.specs.Upgrade.{HoldsFirst};
+ghost use Rattle.mf_store_schema.specs.Upgrade.{HoldsFirst};
 ghost use Rattle.mf_store_files.specs.Held.{CanBeHeld, DoRise, HoldsSound, HoldsSoundFirst};
 
 use mf_base::Fault;
-use mf_store_records::{
-    ChargeRow, ClientRow, EntryRow, InstalmentRow, LoanRow, MetaRow, OfficeRow, ProductRow,
-    ReceiptRow, ShareRow, StaffRow,
+use mf_store_schema::{
+    ChargeRow, ClientRow, EntryRow, Group, InstalmentRow, Last, LoanRow, MetaRow, OfficeRow,
+    ProductRow, Progress, ReceiptRow, ShareRow, StaffRow,
 };
-use mf_store_rows::{Group, Progress};
 use mf_store_sound::{Tables, is_sound, is_sound_first};
 use sqlite::{Alter, Connection};
 use std::alloc::Global;
 
-/// The tables of offices and their people, and those of the catalogue.
-type Frame = (
-    (Vec<OfficeRow>, (Vec<StaffRow>, Vec<ClientRow>)),
-    (Vec<MetaRow>, (Vec<ChargeRow>, Vec<ProductRow>)),
+/// The tables of loans, of what was entered for them, and of what is kept of their accounts.
+type Books = (
+    Vec<LoanRow>,
+    (
+        Vec<EntryRow>,
+        (Vec<ReceiptRow>, (Vec<InstalmentRow>, Last<ShareRow>)),
+    ),
 );
 
-/// The tables of loans and of what was entered for them.
-type Entered = (Vec<LoanRow>, (Vec<EntryRow>, Vec<ReceiptRow>));
+/// Those of the first schema.
+type FirstBooks = (Vec<LoanRow>, (Vec<EntryRow>, Last<ReceiptRow>));
 
-/// These, and what is kept of their accounts.
-type Books = (Entered, (Vec<InstalmentRow>, Vec<ShareRow>));
+/// Today's tables, in the order of the schema.
+type Present = (
+    Vec<MetaRow>,
+    (
+        Vec<OfficeRow>,
+        (
+            Vec<StaffRow>,
+            (Vec<ClientRow>, (Vec<ChargeRow>, (Vec<ProductRow>, Books))),
+        ),
+    ),
+);
+
+/// Those of the first schema.
+type First = (
+    Vec<MetaRow>,
+    (
+        Vec<OfficeRow>,
+        (
+            Vec<StaffRow>,
+            (
+                Vec<ClientRow>,
+                (Vec<ChargeRow>, (Vec<ProductRow>, FirstBooks)),
+            ),
+        ),
+    ),
+);
 
 /// What the tables hold, and none where they hold nothing that records can hold. The error is F20.
 ///
@@ -63,12 +89,12 @@ pub fn read_tables<S: Alter, P: Progress>(
     ensures mode { connection.new.in_transaction ≡ false }
 {
     let _schema = connection.schema();
-    let found = <(Frame, Books)>::read_group(alloc, connection, progress)?;
-    let Some((frame, books)) = found else {
+    let found = Present::read_group(alloc, connection, progress)?;
+    let Some(tables) = found else {
         return Ok(None);
     };
-    let ((offices, (staff, clients)), (meta, (charges, products))) = frame;
-    let ((loans, (entries, receipts)), (instalments, shares)) = books;
+    let (meta, (offices, (staff, (clients, (charges, (products, books)))))) = tables;
+    let (loans, (entries, (receipts, (instalments, shares)))) = books;
     Ok(Some(Tables {
         meta,
         offices,
@@ -80,7 +106,7 @@ pub fn read_tables<S: Alter, P: Progress>(
         entries,
         receipts,
         instalments,
-        shares,
+        shares: shares.rows,
     }))
 }
 
@@ -140,12 +166,12 @@ pub fn read_first_tables<S: Alter, P: Progress>(
     ensures mode { connection.new.in_transaction ≡ false }
 {
     let _schema = connection.schema();
-    let found = <(Frame, Entered)>::read_group(alloc, connection, progress)?;
-    let Some((frame, entered)) = found else {
+    let found = First::read_group(alloc, connection, progress)?;
+    let Some(tables) = found else {
         return Ok(None);
     };
-    let ((offices, (staff, clients)), (meta, (charges, products))) = frame;
-    let (loans, (entries, receipts)) = entered;
+    let (meta, (offices, (staff, (clients, (charges, (products, books)))))) = tables;
+    let (loans, (entries, receipts)) = books;
     Ok(Some(Tables {
         meta,
         offices,
@@ -155,7 +181,7 @@ pub fn read_first_tables<S: Alter, P: Progress>(
         products,
         loans,
         entries,
-        receipts,
+        receipts: receipts.rows,
         instalments: Vec::new(alloc),
         shares: Vec::new(alloc),
     }))

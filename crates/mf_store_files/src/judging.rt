@@ -4,16 +4,15 @@ ghost use Rattle.std.specs.Prelude.{◌≡◌, ◌↔◌, IsTrue, IfOk, IfErr, f
 ghost use Rattle.mf_base.specs.declared.fault.Fault.TheVariants.{F20};
 ghost use Rattle.sqlite.specs.Held.{state};
 ghost use Rattle.sqlite.specs.State.{HasCleanDisk};
-ghost use Rattle.mf_store_rows.specs.Schemas.{IsFirst, IsUnchangedUnder};
-ghost use Rattle.mf_store_records.specs.Tables.{first_schema};
-ghost use Rattle.mf_store_rows.specs.Whole.{HaveFirstRowids};
+ghost use Rattle.mf_store_schema.specs.Schemas.{IsFirst, IsUnchangedUnder};
+ghost use Rattle.mf_store_schema.specs.Tables.{first_schema};
+ghost use Rattle.mf_store_schema.specs.Whole.{HaveFirstRowids};
 ghost use Rattle.mf_store_files.specs.Held.{HoldsSoundFirst};
 ghost use Rattle.mf_store_files.specs.Told.{IsAny, HaveOwnRowids, IsToldOf};
 
 use crate::judged::{holds_sound, read_sound_first};
-use crate::tables::{has_no_tables, is_first, is_present};
 use mf_base::Fault;
-use mf_store_rows::Unfollowed;
+use mf_store_schema::{Unfollowed, has_no_tables, is_first, is_present};
 use sqlite::{Alter, Connection};
 use std::alloc::Global;
 

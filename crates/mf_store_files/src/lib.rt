@@ -8,7 +8,6 @@ mod judged;
 mod judging;
 pub mod laws;
 mod looking;
-mod tables;
 mod upgraded;
 
 pub use adopted::{Refused, adopt, adopt_existing};
@@ -17,5 +16,4 @@ pub use files::{PARTS, open, open_existing, open_existing_with, open_with};
 pub use judged::{read_first_tables, read_tables};
 pub use judging::{Contents, judge};
 pub use looking::{Finding, look, look_with, reach};
-pub use mf_store_rows::{Progress, Unfollowed};
-pub use tables::{has_no_tables, is_first, is_present};
+pub use mf_store_schema::{Progress, Unfollowed, has_no_tables, is_first, is_present};

@@ -10,7 +10,7 @@ ghost use Rattle.mf_store_files.specs.Told.{IsToldOfFile, finding_of};
 
 use crate::files::connect;
 use crate::judging::{Contents, judge};
-use mf_store_rows::remove_bare_log;
+use mf_store_schema::remove_bare_log;
 use sqlite::{Connection, Error, ErrorCode, FileFrom, FileStore, Start, Unknown};
 use std::rt::HostRuntime;
 

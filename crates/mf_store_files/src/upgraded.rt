@@ -7,16 +7,15 @@ ghost use Rattle.sqlite.specs.State.{HasCleanDisk};
 ghost use Rattle.sqlite.specs.Tree.{Trees};
 ghost use Rattle.mf_model.specs.Institution.{Institution};
 ghost use Rattle.mf_model.specs.Sound.{IsSound};
-ghost use Rattle.mf_store_records.specs.Calls.{OnlyFaultsShut};
-ghost use Rattle.mf_store_records.specs.Writes.{Holds};
-ghost use Rattle.mf_store_upgrade.specs.Upgraded.{IsKeepingFirst, IsUpgradedTo};
-ghost use Rattle.mf_store_accounts.specs.Flat.{tables_of};
+ghost use Rattle.mf_store_schema.specs.Calls.{OnlyFaultsShut};
+ghost use Rattle.mf_store_schema.specs.Writes.{Holds};
+ghost use Rattle.mf_store_schema.specs.Upgraded.{IsKeepingFirst, IsUpgradedTo};
+ghost use Rattle.mf_store_values.specs.Flat.{tables_of};
 ghost use Rattle.mf_store_sound.specs.Schemas.{first_tables_of};
 
 use mf_base::Fault;
-use mf_store_records::{MetaRow, SCHEMA};
+use mf_store_schema::{MetaRow, SCHEMA, upgrade};
 use mf_store_sound::{Tables, account_rows};
-use mf_store_upgrade::upgrade;
 use sqlite::{Alter, Connection};
 use std::alloc::Global;
 

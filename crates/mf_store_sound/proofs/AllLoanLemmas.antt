@@ -4,10 +4,10 @@ use Rattle.std.specs.List.{AllByRecursion}
 use Rattle.sqlite_keyed.proofs.ListLemmas.{all-append}
 use Rattle.mf_model.specs.Institution.{Catalogue, Ledger, Office}
 use Rattle.mf_model.specs.Tree.{Above, Ascending}
-use Rattle.mf_store_accounts.specs.Accounts.{PlacedLoan, placed_loans, all_placed, rows_of, row_of, IsOther}
-use Rattle.mf_store_accounts.specs.Accounts.{AreApartLoans, IsPlainPlaced}
-use Rattle.mf_store_accounts.specs.Flat.{numbered_from, all_rows, rows_of_loans, rows_by_loan, loans_of, loan_in}
-use Rattle.mf_store_accounts.specs.Ledgers.{IsPlainLoan}
+use Rattle.mf_store_values.specs.Accounts.{PlacedLoan, placed_loans, all_placed, rows_of, row_of, IsOther}
+use Rattle.mf_store_values.specs.Accounts.{AreApartLoans, IsPlainPlaced}
+use Rattle.mf_store_values.specs.Flat.{numbered_from, all_rows, rows_of_loans, rows_by_loan, loans_of, loan_in}
+use Rattle.mf_store_values.specs.Ledgers.{IsPlainLoan}
 use Rattle.mf_store_sound.specs.Sound.{IsPlainRows}
 
 module _ {A R : Type 0} (make : ℕ → ℕ → A → R) (of : Ledger → List A) where

@@ -10,10 +10,10 @@ use Rattle.mf_account.specs.Lawful.{are_seals_last}
 use Rattle.mf_account.specs.Loan.{IsEntry}
 use Rattle.mf_account.specs.Standing.{entry_at}
 use Rattle.mf_account.proofs.LawfulLemmas.{seals_last, seals_pass}
-use Rattle.mf_store_records.specs.declared.entries.EntryRow.{EntryRow}
-use Rattle.mf_store_accounts.specs.Ledgers.{IsReadable, IsEnteredBy}
+use Rattle.mf_store_schema.specs.declared.entries.EntryRow.{EntryRow}
+use Rattle.mf_store_values.specs.Ledgers.{IsReadable, IsEnteredBy}
 use Rattle.mf_store_sound.specs.Entries.{IsEntryRow, AreLoanEntries}
-use Rattle.mf_store_accounts.specs.Flat.{entry_in}
+use Rattle.mf_store_values.specs.Flat.{entry_in}
 use Rattle.mf_store_sound.specs.Stored.{AllFrom}
 use Rattle.mf_store_sound.proofs.EntryLemmas.{IsPlainEntry, gathered, parted}
 

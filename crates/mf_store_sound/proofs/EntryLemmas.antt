@@ -8,11 +8,11 @@ use Rattle.mf_model.specs.Institution.{Ledger, Office}
 use Rattle.mf_account.specs.Loan.{IsEntry}
 use Rattle.mf_account.specs.Receipts.{IsReceipt}
 use Rattle.mf_model.specs.Receipts.{use_of, uses_in, uses_from}
-use Rattle.mf_store_records.specs.declared.entries.EntryRow.{EntryRow}
+use Rattle.mf_store_schema.specs.declared.entries.EntryRow.{EntryRow}
 use Rattle.mf_store_sound.specs.Entries.{IsEntryRow}
-use Rattle.mf_store_accounts.specs.Flat.{entry_in, own_entries, rows_of_loans, entry_rows}
-use Rattle.mf_store_accounts.specs.Ledgers.{IsReadable}
-use Rattle.mf_store_accounts.specs.ReceiptRows.{receipt_in, receipts_carried, receipt_of, carried_by}
+use Rattle.mf_store_values.specs.Flat.{entry_in, own_entries, rows_of_loans, entry_rows}
+use Rattle.mf_store_values.specs.Ledgers.{IsReadable}
+use Rattle.mf_store_values.specs.ReceiptRows.{receipt_in, receipts_carried, receipt_of, carried_by}
 use Rattle.mf_store_sound.specs.Stored.{AllFrom}
 
 -- an entry of a loan of n instalments that was disbursed on a day, whoever entered it

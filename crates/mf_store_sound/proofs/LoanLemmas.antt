@@ -6,18 +6,18 @@ use Rattle.mf_base.specs.DayText.{day_text, last_entered_day}
 use Rattle.mf_catalog.specs.Product.{allows}
 use Rattle.mf_model.specs.Institution.{Catalogue, Offer, product_in, product_of, item_numbered}
 use Rattle.mf_model.specs.Stages.{stage_number, disbursed_on}
-use Rattle.mf_store_records.specs.declared.entries.EntryRow.{EntryRow}
+use Rattle.mf_store_schema.specs.declared.entries.EntryRow.{EntryRow}
 use Rattle.mf_store_sound.specs.Entries.{AreLoanEntries}
 use Rattle.mf_model.specs.Sound.{IsStageBy, lends}
 use Rattle.mf_model.specs.declared.loan.Loan.{Loan}
 use Rattle.mf_model.specs.declared.loan.Stage.{Stage}
 use Rattle.mf_model.specs.declared.loan.Stage.TheVariants.{Submitted, Approved, Disbursed, Withdrawn, Rejected}
-use Rattle.mf_store_records.specs.declared.loans.LoanRow.{LoanRow}
-use Rattle.mf_store_records.specs.declared.products.ProductRow.{ProductRow}
-use Rattle.mf_store_accounts.specs.Flat.{loan_in, product_as, numbered_from, approval_text, disbursal_text}
+use Rattle.mf_store_schema.specs.declared.loans.LoanRow.{LoanRow}
+use Rattle.mf_store_schema.specs.declared.products.ProductRow.{ProductRow}
+use Rattle.mf_store_values.specs.Flat.{loan_in, product_as, numbered_from, approval_text, disbursal_text}
 use Rattle.mf_store_sound.specs.Stages.{IsApproval, IsDisbursal, IsStageOf, AreEntriesOf}
 use Rattle.mf_store_sound.specs.Stored.{IsRowOf}
-use Rattle.mf_store_accounts.proofs.NumberedLemmas.{numbered_row}
+use Rattle.mf_store_values.proofs.NumberedLemmas.{numbered_row}
 
 -- a product that is there
 pub lent : (k : Catalogue) (rows : List ProductRow) (product : ProductRow) (row : LoanRow) (l : Loan) (b : Bool)

@@ -8,17 +8,17 @@ use Rattle.mf_model.specs.Institution.{Catalogue, Ledger}
 use Rattle.mf_model.specs.Sound.{IsStageBy}
 use Rattle.mf_model.specs.Stages.{disbursed_on}
 use Rattle.mf_model.specs.declared.loan.Loan.{Loan}
-use Rattle.mf_store_records.specs.declared.entries.EntryRow.{EntryRow}
-use Rattle.mf_store_records.specs.declared.loans.LoanRow.{LoanRow}
-use Rattle.mf_store_accounts.specs.Flat.{numbered_from, loan_in, entry_in, own_entries, rows_of_loans}
-use Rattle.mf_store_accounts.specs.Parts.{own_count, own, later}
-use Rattle.mf_store_accounts.specs.Ledgers.{AreEntriesIn, IsPlainLoan}
+use Rattle.mf_store_schema.specs.declared.entries.EntryRow.{EntryRow}
+use Rattle.mf_store_schema.specs.declared.loans.LoanRow.{LoanRow}
+use Rattle.mf_store_values.specs.Flat.{numbered_from, loan_in, entry_in, own_entries, rows_of_loans}
+use Rattle.mf_store_values.specs.Parts.{own_count, own, later}
+use Rattle.mf_store_values.specs.Ledgers.{AreEntriesIn, IsPlainLoan}
 use Rattle.mf_store_sound.specs.Sound.{IsLoanPart, AreLoanParts}
-use Rattle.mf_store_accounts.specs.Ledgers.{IsOwnLoan}
+use Rattle.mf_store_values.specs.Ledgers.{IsOwnLoan}
 use Rattle.mf_store_sound.specs.Stages.{AreEntriesOf}
 use Rattle.mf_store_sound.specs.Stored.{IsRowOf}
-use Rattle.mf_store_accounts.proofs.PartLemmas.{own_of_loan, later_of_loan}
-use Rattle.mf_store_accounts.proofs.MadeLemmas.{at_row}
+use Rattle.mf_store_values.proofs.PartLemmas.{own_of_loan, later_of_loan}
+use Rattle.mf_store_values.proofs.MadeLemmas.{at_row}
 
 abbrev pub loan_of : EntryRow → ℕ
 loan_of r = r.loan

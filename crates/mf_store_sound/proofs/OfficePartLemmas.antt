@@ -6,18 +6,18 @@ use Rattle.std.proofs.lemmas.List.{drop_all, take-append-drop, length-map}
 use Rattle.mf_model.specs.Institution.{Catalogue, Ledger, Office, Staff}
 use Rattle.mf_model.specs.Sound.{IsName}
 use Rattle.mf_model.specs.Tree.{Above, Ascending}
-use Rattle.mf_store_records.specs.declared.clients.ClientRow.{ClientRow}
-use Rattle.mf_store_records.specs.declared.entries.EntryRow.{EntryRow}
-use Rattle.mf_store_records.specs.declared.loans.LoanRow.{LoanRow}
-use Rattle.mf_store_records.specs.declared.offices.OfficeRow.{OfficeRow}
-use Rattle.mf_store_records.specs.declared.staff.StaffRow.{StaffRow}
-use Rattle.mf_store_accounts.specs.Flat.{numbered_from, all_rows, rows_of_loans, entry_rows, own_entries, loans_of}
-use Rattle.mf_store_accounts.specs.Flat.{staff_in, client_in, loan_in, entry_in}
-use Rattle.mf_store_accounts.specs.Parts.{own_count, own, later, office_of, bare}
+use Rattle.mf_store_schema.specs.declared.clients.ClientRow.{ClientRow}
+use Rattle.mf_store_schema.specs.declared.entries.EntryRow.{EntryRow}
+use Rattle.mf_store_schema.specs.declared.loans.LoanRow.{LoanRow}
+use Rattle.mf_store_schema.specs.declared.offices.OfficeRow.{OfficeRow}
+use Rattle.mf_store_schema.specs.declared.staff.StaffRow.{StaffRow}
+use Rattle.mf_store_values.specs.Flat.{numbered_from, all_rows, rows_of_loans, entry_rows, own_entries, loans_of}
+use Rattle.mf_store_values.specs.Flat.{staff_in, client_in, loan_in, entry_in}
+use Rattle.mf_store_values.specs.Parts.{own_count, own, later, office_of, bare}
 use Rattle.mf_store_sound.specs.Sound.{AreLoanParts, IsPlainRows, IsOfficePart, AreOfficeParts}
 use Rattle.mf_store_sound.specs.Stored.{IsRowOf, AllFrom}
-use Rattle.mf_store_accounts.proofs.PartLemmas.{own_of_first, later_of_first, own_of_office, later_of_office}
-use Rattle.mf_store_accounts.proofs.MadeLemmas.{at_row}
+use Rattle.mf_store_values.proofs.PartLemmas.{own_of_first, later_of_first, own_of_office, later_of_office}
+use Rattle.mf_store_values.proofs.MadeLemmas.{at_row}
 use Rattle.mf_store_sound.proofs.StoredLemmas.{gathered, parted}
 
 pub length_numbered : {A R : Type 0} (make : ℕ → A → R) (n : ℕ) (xs : List A) → length (numbered_from make n xs)

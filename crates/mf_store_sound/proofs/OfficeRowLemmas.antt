@@ -11,9 +11,9 @@ use Rattle.std.proofs.lemmas.List.{drop_all}
 use Rattle.std.proofs.lemmas.List.Recursion.{found_at, found_nowhere}
 use Rattle.std.proofs.lemmas.List.Sorted.{IsNonDecreasingBy-from_default}
 use Rattle.mf_office.specs.Keys.{child_key}
-use Rattle.mf_store_records.specs.declared.offices.OfficeRow.{OfficeRow}
+use Rattle.mf_store_schema.specs.declared.offices.OfficeRow.{OfficeRow}
 use Rattle.mf_store_sound.specs.Offices.{AscendFrom, row_at, HasParentsText}
-use Rattle.mf_store_accounts.proofs.MadeLemmas.{at_row}
+use Rattle.mf_store_values.proofs.MadeLemmas.{at_row}
 
 -- ---- numbers that go up
 

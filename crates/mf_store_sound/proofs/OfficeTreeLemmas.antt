@@ -9,11 +9,11 @@ use Rattle.mf_office.specs.Numbers.{IsNumberUpTo}
 use Rattle.mf_office.specs.Tree.{IsTreeOf}
 use Rattle.mf_model.specs.Institution.{office_at}
 use Rattle.mf_model.specs.Tree.{Above, Ascending, parent_of, is_there}
-use Rattle.mf_store_records.specs.declared.offices.OfficeRow.{OfficeRow}
-use Rattle.mf_store_accounts.specs.Flat.{above_of, office_under}
+use Rattle.mf_store_schema.specs.declared.offices.OfficeRow.{OfficeRow}
+use Rattle.mf_store_values.specs.Flat.{above_of, office_under}
 use Rattle.mf_store_sound.specs.Offices.{IsNumberedAndNamed, AreOffices, AscendFrom, row_at, HasParentsText}
 use Rattle.mf_store_sound.specs.Offices.{IsOfficeRow, AreOfficeRows}
-use Rattle.mf_store_accounts.specs.Parts.{office_of}
+use Rattle.mf_store_values.specs.Parts.{office_of}
 
 -- texts that grow by parents are the keys of a tree, and only they
 abbrev pub KeysLaw : Type 0

@@ -7,10 +7,10 @@ use Rattle.mf_catalog.specs.declared.charge.ChargeKind.{ChargeKind}
 use Rattle.mf_catalog.specs.declared.charge.ChargeKind.TheVariants.{Disbursement, Instalment, Overdue, DueDate}
 use Rattle.mf_catalog.specs.Product.{same_kind, has_kind}
 use Rattle.mf_model.specs.Institution.{Catalogue, Charge, charge_in, charge_def, item_numbered}
-use Rattle.mf_store_records.specs.declared.charges.ChargeRow.{ChargeRow}
-use Rattle.mf_store_accounts.specs.Flat.{charge_as, numbered_from}
-use Rattle.mf_store_accounts.proofs.AnswerLemmas.{no_answer}
-use Rattle.mf_store_accounts.proofs.NumberedLemmas.{numbered_row}
+use Rattle.mf_store_schema.specs.declared.charges.ChargeRow.{ChargeRow}
+use Rattle.mf_store_values.specs.Flat.{charge_as, numbered_from}
+use Rattle.mf_store_values.proofs.AnswerLemmas.{no_answer}
+use Rattle.mf_store_values.proofs.NumberedLemmas.{numbered_row}
 use Rattle.mf_catalog.specs.Names.{kind_number}
 use Rattle.mf_store_sound.specs.Charges.{HasRowOfKind}
 

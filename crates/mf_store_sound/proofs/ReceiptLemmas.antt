@@ -17,14 +17,14 @@ use Rattle.sqlite_trees.specs.Tree.{IsAscending}
 use Rattle.mf_model.specs.Institution.{Office}
 use Rattle.mf_model.specs.Receipts.{Use, uses_from, AreApart}
 use Rattle.mf_model.specs.Tree.{Ascending}
-use Rattle.mf_store_records.specs.Rows.{by_receipt, is_receipt, is_receipt_before, AreReceiptsInOrder}
-use Rattle.mf_store_records.specs.declared.entries.EntryRow.{EntryRow}
-use Rattle.mf_store_records.specs.declared.receipts.ReceiptRow.{ReceiptRow}
-use Rattle.mf_store_records.proofs.ReceiptLemmas.{less, before_later, is_receipt-bytes}
-use Rattle.mf_store_records.proofs.OrderLemmas.{by_receipt_total}
-use Rattle.mf_store_accounts.specs.ReceiptRows.{receipt_in, receipts_carried, carried_by, AreReceiptsOf}
-use Rattle.mf_store_accounts.proofs.ReceiptLemmas.{others_of, others_above, AreAllApart}
-use Rattle.mf_store_accounts.proofs.SortedLemmas.{rises_sorted}
+use Rattle.mf_store_schema.specs.Rows.{by_receipt, is_receipt, is_receipt_before, AreReceiptsInOrder}
+use Rattle.mf_store_schema.specs.declared.entries.EntryRow.{EntryRow}
+use Rattle.mf_store_schema.specs.declared.receipts.ReceiptRow.{ReceiptRow}
+use Rattle.mf_store_schema.proofs.ReceiptLemmas.{less, before_later, is_receipt-bytes}
+use Rattle.mf_store_schema.proofs.OrderLemmas.{by_receipt_total}
+use Rattle.mf_store_values.specs.ReceiptRows.{receipt_in, receipts_carried, carried_by, AreReceiptsOf}
+use Rattle.mf_store_values.proofs.ReceiptLemmas.{others_of, others_above, AreAllApart}
+use Rattle.mf_store_values.proofs.SortedLemmas.{rises_sorted}
 use Rattle.mf_store_sound.proofs.StaffLemmas.{rising_is_sorted}
 
 -- ---- lists with no ties

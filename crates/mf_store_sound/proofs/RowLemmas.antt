@@ -5,9 +5,9 @@ use Rattle.mf_catalog.specs.declared.charge.ChargeKind.{ChargeKind}
 use Rattle.mf_catalog.specs.declared.charge.Calc.{Calc}
 use Rattle.mf_model.specs.Institution.{Staff}
 use Rattle.mf_model.specs.Sound.{IsName, IsSoundCharge, IsValue}
-use Rattle.mf_store_records.specs.declared.staff.StaffRow.{StaffRow}
-use Rattle.mf_store_records.specs.declared.charges.ChargeRow.{ChargeRow}
-use Rattle.mf_store_accounts.specs.Flat.{staff_in, charge_as}
+use Rattle.mf_store_schema.specs.declared.staff.StaffRow.{StaffRow}
+use Rattle.mf_store_schema.specs.declared.charges.ChargeRow.{ChargeRow}
+use Rattle.mf_store_values.specs.Flat.{staff_in, charge_as}
 use Rattle.mf_office.specs.Roles.{role_number}
 use Rattle.mf_catalog.specs.Names.{kind_number, calc_number}
 use Rattle.mf_store_sound.specs.Stored.{IsRowOf}

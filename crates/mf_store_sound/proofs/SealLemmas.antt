@@ -5,8 +5,8 @@ use Rattle.std.specs.Prelude.{◌||◌}
 use Rattle.std.specs.List.{AllByRecursion, list_all}
 use Rattle.std.proofs.lemmas.List.{drop_all, length-map}
 use Rattle.mf_account.specs.declared.entry.Entry.{Entry}
-use Rattle.mf_store_records.specs.declared.entries.EntryRow.{EntryRow}
-use Rattle.mf_store_accounts.specs.Flat.{entry_in}
+use Rattle.mf_store_schema.specs.declared.entries.EntryRow.{EntryRow}
+use Rattle.mf_store_values.specs.Flat.{entry_in}
 
 -- the first of two tests in three
 pub either_passed : (a b c v : Bool) → v ≡ (a || b) → v ≡ true → v ≡ (a || (b || c))

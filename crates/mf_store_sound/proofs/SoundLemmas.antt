@@ -20,20 +20,20 @@ use Rattle.mf_model.specs.Sound.{IsSoundLoan, IsEntryBy, AreEntriesBy, is_staff}
 use Rattle.mf_model.specs.Stages.{disbursed_on}
 use Rattle.mf_model.specs.Tree.{Above, Ascending, IsTree, parent_of, is_there}
 use Rattle.mf_model.proofs.StaffLemmas.{staff_are_callers}
-use Rattle.mf_store_records.specs.Rows.{Lists, by_receipt, AreReceiptsInOrder}
-use Rattle.mf_store_records.specs.declared.entries.EntryRow.{EntryRow}
-use Rattle.mf_store_records.specs.declared.offices.OfficeRow.{OfficeRow}
-use Rattle.mf_store_accounts.specs.Accounts.{all_placed, AreLoansOf}
+use Rattle.mf_store_schema.specs.Rows.{Lists, by_receipt, AreReceiptsInOrder}
+use Rattle.mf_store_schema.specs.declared.entries.EntryRow.{EntryRow}
+use Rattle.mf_store_schema.specs.declared.offices.OfficeRow.{OfficeRow}
+use Rattle.mf_store_values.specs.Accounts.{all_placed, AreLoansOf}
 use Rattle.mf_store_sound.specs.Callers.{is_named_staff, is_by_staff}
-use Rattle.mf_store_accounts.specs.Ledgers.{IsEnteredBy}
-use Rattle.mf_store_accounts.specs.Flat.{charge_as, product_as, office_under, numbered_from, all_rows, staff_in}
-use Rattle.mf_store_accounts.specs.Flat.{entry_in, own_entries, rows_of_loans, entry_rows}
+use Rattle.mf_store_values.specs.Ledgers.{IsEnteredBy}
+use Rattle.mf_store_values.specs.Flat.{charge_as, product_as, office_under, numbered_from, all_rows, staff_in}
+use Rattle.mf_store_values.specs.Flat.{entry_in, own_entries, rows_of_loans, entry_rows}
 use Rattle.mf_store_sound.specs.Offices.{IsNumberedAndNamed, AreOffices}
-use Rattle.mf_store_accounts.specs.Parts.{office_of, bare}
-use Rattle.mf_store_accounts.proofs.PartLemmas.{heads_of}
-use Rattle.mf_store_accounts.specs.ReceiptRows.{carried_by, receipt_rows, AreReceiptsOf}
-use Rattle.mf_store_accounts.specs.Ledgers.{AreEntriesIn, IsPlainLoan}
-use Rattle.mf_store_accounts.proofs.ReceiptLemmas.{AreAllApart, receipts_apart}
+use Rattle.mf_store_values.specs.Parts.{office_of, bare}
+use Rattle.mf_store_values.proofs.PartLemmas.{heads_of}
+use Rattle.mf_store_values.specs.ReceiptRows.{carried_by, receipt_rows, AreReceiptsOf}
+use Rattle.mf_store_values.specs.Ledgers.{AreEntriesIn, IsPlainLoan}
+use Rattle.mf_store_values.proofs.ReceiptLemmas.{AreAllApart, receipts_apart}
 use Rattle.mf_store_sound.specs.Schemas.{meta_under}
 use Rattle.mf_store_sound.specs.Sound.{IsPlainRows, AreOfficeParts, AreUnder}
 use Rattle.mf_store_sound.specs.Stored.{IsRowOf, AllFrom}

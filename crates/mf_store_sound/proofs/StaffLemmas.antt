@@ -14,11 +14,11 @@ use Rattle.sqlite_trees.specs.Tree.{IsAscending}
 use Rattle.mf_model.specs.Institution.{Office, Rows, office_at, item_numbered}
 use Rattle.mf_model.specs.Sound.{is_staff}
 use Rattle.mf_model.specs.Tree.{Above, Ascending}
-use Rattle.mf_store_records.specs.Rows.{by_staff}
-use Rattle.mf_store_records.specs.declared.staff.StaffRow.{StaffRow}
-use Rattle.mf_store_records.proofs.OrderLemmas.{by_staff_total}
-use Rattle.mf_store_accounts.specs.Flat.{numbered_from, all_rows, staff_in}
-use Rattle.mf_store_accounts.proofs.SortedLemmas.{first_less}
+use Rattle.mf_store_schema.specs.Rows.{by_staff}
+use Rattle.mf_store_schema.specs.declared.staff.StaffRow.{StaffRow}
+use Rattle.mf_store_schema.proofs.OrderLemmas.{by_staff_total}
+use Rattle.mf_store_values.specs.Flat.{numbered_from, all_rows, staff_in}
+use Rattle.mf_store_values.proofs.SortedLemmas.{first_less}
 
 -- ---- the rows rise by office and number
 

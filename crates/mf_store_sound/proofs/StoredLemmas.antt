@@ -4,8 +4,8 @@ use Rattle.std.proofs.Common.{IsTrue, refl, sym, subst, true≢false, arith, ◌
 use Rattle.std.specs.List.{AllByRecursion}
 use Rattle.std.proofs.lemmas.Bool.Decides.{nat_tests}
 use Rattle.std.proofs.lemmas.List.{drop_all}
-use Rattle.mf_store_accounts.specs.Flat.{numbered_from}
-use Rattle.mf_store_accounts.proofs.MadeLemmas.{at_row}
+use Rattle.mf_store_values.specs.Flat.{numbered_from}
+use Rattle.mf_store_values.proofs.MadeLemmas.{at_row}
 use Rattle.mf_store_sound.specs.Stored.{IsRowOf, AllFrom}
 
 -- nothing is left

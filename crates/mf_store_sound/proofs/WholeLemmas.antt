@@ -2,15 +2,15 @@
 use Rattle.std.proofs.Common.{◌≡◌, ◌↔◌, ◌∙◌, ℕ, List, [], sym, ap, subst}
 use Rattle.mf_model.specs.Institution.{Institution, Catalogue}
 use Rattle.mf_model.specs.Sound.{IsSound, IsSoundCatalogue}
-use Rattle.mf_store_records.specs.Rows.{Lists}
-use Rattle.mf_store_records.specs.declared.charges.ChargeRow.{ChargeRow}
-use Rattle.mf_store_records.specs.declared.entries.EntryRow.{EntryRow}
-use Rattle.mf_store_records.specs.declared.instalments.InstalmentRow.{InstalmentRow}
-use Rattle.mf_store_records.specs.declared.loans.LoanRow.{LoanRow}
-use Rattle.mf_store_records.specs.declared.products.ProductRow.{ProductRow}
-use Rattle.mf_store_records.specs.declared.shares.ShareRow.{ShareRow}
-use Rattle.mf_store_accounts.specs.Accounts.{instalments_of, shares_of, PlacedLoan, all_placed, AreLoansOf, AreAccounts}
-use Rattle.mf_store_accounts.specs.Flat.{charge_as, product_as, numbered_from, instalment_in, share_in, tables_of}
+use Rattle.mf_store_schema.specs.Rows.{Lists}
+use Rattle.mf_store_schema.specs.declared.charges.ChargeRow.{ChargeRow}
+use Rattle.mf_store_schema.specs.declared.entries.EntryRow.{EntryRow}
+use Rattle.mf_store_schema.specs.declared.instalments.InstalmentRow.{InstalmentRow}
+use Rattle.mf_store_schema.specs.declared.loans.LoanRow.{LoanRow}
+use Rattle.mf_store_schema.specs.declared.products.ProductRow.{ProductRow}
+use Rattle.mf_store_schema.specs.declared.shares.ShareRow.{ShareRow}
+use Rattle.mf_store_values.specs.Accounts.{instalments_of, shares_of, PlacedLoan, all_placed, AreLoansOf, AreAccounts}
+use Rattle.mf_store_values.specs.Flat.{charge_as, product_as, numbered_from, instalment_in, share_in, tables_of}
 use Rattle.mf_store_sound.specs.Schemas.{first_tables_of, tables_under, without_accounts}
 use Rattle.mf_store_sound.specs.Sound.{AreOfSound, AreOfSoundFirst, AreUnder}
 use Rattle.mf_store_sound.proofs.AllLoanLemmas.{all_rows_of}

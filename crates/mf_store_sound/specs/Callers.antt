@@ -4,7 +4,7 @@ use Rattle.mf_office.specs.declared.caller.Caller.{Caller}
 use Rattle.mf_office.specs.Texts.{caller_of}
 use Rattle.mf_model.specs.Institution.{Office}
 use Rattle.mf_model.specs.Sound.{is_staff}
-use Rattle.mf_store_records.specs.declared.entries.EntryRow.{EntryRow}
+use Rattle.mf_store_schema.specs.declared.entries.EntryRow.{EntryRow}
 
 -- a caller is named, and is there
 abbrev pub is_named_staff : List Office → Option Caller → Bool

@@ -4,9 +4,9 @@ use Rattle.std.specs.List.{AllByRecursion}
 use Rattle.mf_account.specs.declared.entry.Entry.{Entry}
 use Rattle.mf_account.specs.Loan.{IsEntry, AreEntries}
 use Rattle.mf_account.specs.Receipts.{IsReceipt}
-use Rattle.mf_store_records.specs.declared.entries.EntryRow.{EntryRow}
-use Rattle.mf_store_accounts.specs.Flat.{entry_in}
-use Rattle.mf_store_accounts.specs.Ledgers.{IsReadable, IsEnteredBy}
+use Rattle.mf_store_schema.specs.declared.entries.EntryRow.{EntryRow}
+use Rattle.mf_store_values.specs.Flat.{entry_in}
+use Rattle.mf_store_values.specs.Ledgers.{IsReadable, IsEnteredBy}
 
 -- the row is that of an entry under this number, of a loan of n instalments that was disbursed on a day, whoever
 -- entered it

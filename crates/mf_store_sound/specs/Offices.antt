@@ -5,9 +5,9 @@ use Rattle.mf_office.specs.Keys.{head_key, child_key, key_depth}
 use Rattle.mf_office.specs.Numbers.{IsNumberUpTo}
 use Rattle.mf_model.specs.Sound.{IsName}
 use Rattle.mf_model.specs.Tree.{IsTree, parent_of}
-use Rattle.mf_store_records.specs.declared.offices.OfficeRow.{OfficeRow}
-use Rattle.mf_store_accounts.specs.Flat.{office_under}
-use Rattle.mf_store_accounts.specs.Parts.{office_of}
+use Rattle.mf_store_schema.specs.declared.offices.OfficeRow.{OfficeRow}
+use Rattle.mf_store_values.specs.Flat.{office_under}
+use Rattle.mf_store_values.specs.Parts.{office_of}
 
 -- an office's number and its name
 pub record IsNumberedAndNamed (r : OfficeRow) : Type 0 where

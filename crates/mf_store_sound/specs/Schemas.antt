@@ -2,9 +2,9 @@
 use Rattle.std.specs.Prelude.{ℕ, [], ◌∷◌}
 use Rattle.mf_base.specs.DayText.{day_text}
 use Rattle.mf_model.specs.Institution.{Institution}
-use Rattle.mf_store_records.specs.Rows.{Lists}
-use Rattle.mf_store_records.specs.declared.meta.MetaRow.{MetaRow}
-use Rattle.mf_store_accounts.specs.Flat.{tables_of}
+use Rattle.mf_store_schema.specs.Rows.{Lists}
+use Rattle.mf_store_schema.specs.declared.meta.MetaRow.{MetaRow}
+use Rattle.mf_store_values.specs.Flat.{tables_of}
 
 -- the row of meta of a schema
 abbrev pub meta_under : ℕ → ℕ → MetaRow

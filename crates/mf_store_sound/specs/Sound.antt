@@ -3,17 +3,17 @@ use Rattle.std.specs.Prelude.{◌≡◌, ℕ, ◌≤◌, length, List, map}
 use Rattle.std.specs.List.{AllByRecursion}
 use Rattle.mf_model.specs.Institution.{Institution, Catalogue, Ledger, Office, Rows, Staff}
 use Rattle.mf_model.specs.Sound.{IsName, IsSound}
-use Rattle.mf_store_records.specs.Rows.{Lists}
-use Rattle.mf_store_records.specs.declared.clients.ClientRow.{ClientRow}
-use Rattle.mf_store_records.specs.declared.entries.EntryRow.{EntryRow}
-use Rattle.mf_store_records.specs.declared.loans.LoanRow.{LoanRow}
-use Rattle.mf_store_records.specs.declared.offices.OfficeRow.{OfficeRow}
-use Rattle.mf_store_records.specs.declared.staff.StaffRow.{StaffRow}
-use Rattle.mf_store_accounts.specs.Flat.{numbered_from, all_rows, rows_of_loans, entry_rows, own_entries, loans_of}
-use Rattle.mf_store_accounts.specs.Flat.{staff_in, client_in, loan_in, entry_in, tables_of}
-use Rattle.mf_store_accounts.specs.Ledgers.{IsPlainLoan}
+use Rattle.mf_store_schema.specs.Rows.{Lists}
+use Rattle.mf_store_schema.specs.declared.clients.ClientRow.{ClientRow}
+use Rattle.mf_store_schema.specs.declared.entries.EntryRow.{EntryRow}
+use Rattle.mf_store_schema.specs.declared.loans.LoanRow.{LoanRow}
+use Rattle.mf_store_schema.specs.declared.offices.OfficeRow.{OfficeRow}
+use Rattle.mf_store_schema.specs.declared.staff.StaffRow.{StaffRow}
+use Rattle.mf_store_values.specs.Flat.{numbered_from, all_rows, rows_of_loans, entry_rows, own_entries, loans_of}
+use Rattle.mf_store_values.specs.Flat.{staff_in, client_in, loan_in, entry_in, tables_of}
+use Rattle.mf_store_values.specs.Ledgers.{IsPlainLoan}
 use Rattle.mf_store_sound.specs.Schemas.{first_tables_of, tables_under, without_accounts}
-use Rattle.mf_store_accounts.specs.Parts.{bare, office_of}
+use Rattle.mf_store_values.specs.Parts.{bare, office_of}
 
 -- the rows are those of one loan of an office, and of its entries
 pub record IsLoanPart (k : Catalogue) (clients : List (List ℕ)) (office number : ℕ) (row : LoanRow)

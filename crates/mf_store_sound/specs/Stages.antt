@@ -2,11 +2,11 @@
 use Rattle.std.specs.Prelude.{◌≡◌, ℕ, ◌≤◌, List, [], Option, Some, None}
 use Rattle.mf_base.specs.DayText.{day_text}
 use Rattle.mf_model.specs.Sound.{IsStageBy}
-use Rattle.mf_store_records.specs.declared.entries.EntryRow.{EntryRow}
+use Rattle.mf_store_schema.specs.declared.entries.EntryRow.{EntryRow}
 use Rattle.mf_store_sound.specs.Entries.{AreLoanEntries}
 use Rattle.mf_model.specs.Stages.{stage_number}
 use Rattle.mf_model.specs.declared.loan.Stage.{Stage}
-use Rattle.mf_store_accounts.specs.Flat.{approval_text, disbursal_text}
+use Rattle.mf_store_values.specs.Flat.{approval_text, disbursal_text}
 
 -- the text of a day up to this one
 abbrev pub IsApproval : ℕ → List ℕ → Type 0

@@ -6,10 +6,10 @@ ghost use Rattle.mf_model.specs.Institution.{Office};
 ghost use Rattle.mf_model.specs.Sound.{is_staff};
 ghost use Rattle.mf_model.specs.Tree.{Ascending};
 ghost use Rattle.mf_store_sound.specs.Callers.{is_by_staff as names_staff};
-ghost use Rattle.mf_store_accounts.specs.Flat.{all_rows, staff_in};
+ghost use Rattle.mf_store_values.specs.Flat.{all_rows, staff_in};
 
 use mf_office::Caller;
-use mf_store_records::{EntryRow, StaffRow};
+use mf_store_schema::{EntryRow, StaffRow};
 
 /// Whether this member of staff exists. The rows are in the order of office and number.
 fn is_there(staff: &[StaffRow], office: u32, number: u32) -> bool

@@ -2,15 +2,15 @@
 
 ghost use Rattle.std.specs.Prelude.{◌↔◌, IsTrue};
 ghost use Rattle.mf_model.specs.Sound.{IsSoundCharge, IsValue};
-ghost use Rattle.mf_store_accounts.specs.Flat.{charge_as};
+ghost use Rattle.mf_store_values.specs.Flat.{charge_as};
 ghost use Rattle.mf_store_sound.specs.Stored.{IsRowOf};
 
 use crate::numbered::NumberedRow;
 use mf_base::Choice;
 use mf_catalog::{Calc, ChargeKind, greatest_value};
 use mf_model::is_name;
-use mf_store_accounts::amount_from;
-use mf_store_records::ChargeRow;
+use mf_store_schema::ChargeRow;
+use mf_store_values::amount_from;
 
 /// Whether a value is within the limits of a charge that is computed this way.
 pub fn is_value(calc: Calc, value: u64) -> bool

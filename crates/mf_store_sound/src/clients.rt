@@ -1,12 +1,12 @@
 //! Whether a row is that of a client with its number.
 
 ghost use Rattle.mf_model.specs.Sound.{IsName};
-ghost use Rattle.mf_store_accounts.specs.Flat.{client_in};
+ghost use Rattle.mf_store_values.specs.Flat.{client_in};
 ghost use Rattle.mf_store_sound.specs.Stored.{IsRowOf};
 
 use crate::numbered::NumberedRow;
 use mf_model::is_name;
-use mf_store_records::ClientRow;
+use mf_store_schema::ClientRow;
 
 /// The row of a client of an office.
 impl NumberedRow<u32> for ClientRow {

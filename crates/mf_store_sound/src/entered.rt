@@ -7,7 +7,7 @@ use crate::entries::DisbursedLoan;
 use crate::numbered::are_numbered;
 use crate::seals::are_seals_last;
 use mf_account::MOST_ENTRIES;
-use mf_store_records::EntryRow;
+use mf_store_schema::EntryRow;
 
 /// Whether the rows are those of the entries of a loan: numbered from 1, none before its disbursement or after today,
 /// and a standing write-off or refund the last. It does not check that the staff who entered them exist.

@@ -8,17 +8,17 @@ ghost use Rattle.mf_alloc.specs.declared.row.Portion.{Portion as AnyPortion};
 ghost use Rattle.mf_alloc.specs.declared.row.Portion.TheVariants.{Penalty as PenaltyPart, Fee as FeePart, Principal};
 ghost use Rattle.mf_alloc.specs.Portions.{portion_number};
 ghost use Rattle.mf_account.specs.Receipts.{IsReceipt};
-ghost use Rattle.mf_store_accounts.specs.Ledgers.{IsReadable};
+ghost use Rattle.mf_store_values.specs.Ledgers.{IsReadable};
 ghost use Rattle.mf_store_sound.specs.Entries.{IsEntryRow};
-ghost use Rattle.mf_store_accounts.specs.Flat.{entry_in};
+ghost use Rattle.mf_store_values.specs.Flat.{entry_in};
 
 use crate::amounts::is_amount;
 use crate::numbered::NumberedRow;
 use mf_account::{Kind, is_receipt};
 use mf_alloc::Portion;
 use mf_base::{Choice, Day};
-use mf_store_accounts::entry_columns;
-use mf_store_records::EntryRow;
+use mf_store_schema::EntryRow;
+use mf_store_values::entry_columns;
 
 /// A disbursed loan, and what its entries are checked against.
 #[derive(Clone, Copy)]

@@ -3,13 +3,13 @@
 ghost use Rattle.std.specs.Prelude.{◌≡◌, ◌≤◌, ◌↔◌, ℕ, IsTrue, List, length};
 ghost use Rattle.mf_base.specs.DayText.{last_entered_day};
 ghost use Rattle.mf_model.specs.Institution.{Catalogue};
-ghost use Rattle.mf_store_accounts.specs.Flat.{product_as, numbered_from};
+ghost use Rattle.mf_store_values.specs.Flat.{product_as, numbered_from};
 ghost use Rattle.mf_store_sound.specs.Sound.{IsLoanPart, AreLoanParts};
 
 use crate::loans::{Lender, are_entries_of, is_loan};
 use crate::owners::split_by_owner;
 use mf_office::AccountNo;
-use mf_store_records::{EntryRow, LoanRow};
+use mf_store_schema::{EntryRow, LoanRow};
 
 /// Whether the rows are those of a loan of this office with this number and of its entries.
 fn is_loan_part(lender: &Lender, number: u32, row: &LoanRow, entries: &[EntryRow]) -> bool

@@ -6,17 +6,17 @@ ghost use Rattle.mf_catalog.specs.Product.{allows};
 ghost use Rattle.mf_model.specs.Institution.{Catalogue, Offer, product_in, item_numbered};
 ghost use Rattle.mf_model.specs.Sound.{IsStageBy, lends};
 ghost use Rattle.mf_model.specs.declared.loan.Loan.{Loan};
-ghost use Rattle.mf_store_accounts.specs.Flat.{loan_in, product_as, numbered_from};
+ghost use Rattle.mf_store_values.specs.Flat.{loan_in, product_as, numbered_from};
 ghost use Rattle.mf_store_sound.specs.Stages.{IsApproval, IsDisbursal, IsStageOf, AreEntriesOf};
-ghost use Rattle.mf_store_accounts.specs.Ledgers.{IsOwnLoan};
+ghost use Rattle.mf_store_values.specs.Ledgers.{IsOwnLoan};
 ghost use Rattle.mf_model.specs.Stages.{disbursed_on};
 ghost use Rattle.mf_store_sound.specs.Stored.{IsRowOf};
 
 use crate::entered::are_loan_entries;
 use crate::entries::DisbursedLoan;
 use mf_base::Day;
-use mf_store_accounts::{amount_from, row_numbered};
-use mf_store_records::{EntryRow, LoanRow, ProductRow, Text};
+use mf_store_schema::{EntryRow, LoanRow, ProductRow, Text};
+use mf_store_values::{amount_from, row_numbered};
 
 /// An office that lends, and what its loans are checked against.
 #[derive(Drop)]

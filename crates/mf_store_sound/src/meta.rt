@@ -5,7 +5,7 @@ ghost use Rattle.mf_base.specs.DayText.{last_entered_day, day_text};
 ghost use Rattle.mf_store_sound.specs.Schemas.{meta_under};
 
 use mf_base::Day;
-use mf_store_records::MetaRow;
+use mf_store_schema::MetaRow;
 
 /// The business day of a row of meta. None is for a row with another schema's number or without a day.
 fn day_of_row(schema: u32, row: &MetaRow) -> Option<Day>

@@ -4,8 +4,8 @@ ghost use Rattle.std.specs.Prelude.{◌≡◌, ◌≤◌, ◌↔◌, IsTrue, [],
 ghost use Rattle.mf_base.specs.DayText.{last_entered_day};
 ghost use Rattle.mf_model.specs.Institution.{Catalogue};
 ghost use Rattle.mf_model.specs.Tree.{Ascending};
-ghost use Rattle.mf_store_accounts.specs.Flat.{product_as, numbered_from};
-ghost use Rattle.mf_store_accounts.specs.Parts.{own, later, office_of};
+ghost use Rattle.mf_store_values.specs.Flat.{product_as, numbered_from};
+ghost use Rattle.mf_store_values.specs.Parts.{own, later, office_of};
 ghost use Rattle.mf_store_sound.specs.Sound.{IsOfficePart, AreOfficeParts};
 
 use crate::loan_parts::are_loans;
@@ -14,7 +14,7 @@ use crate::numbered::are_numbered;
 use crate::owners::split_by_owner;
 use mf_base::Day;
 use mf_office::{AccountNo, StaffNo};
-use mf_store_records::{ClientRow, EntryRow, LoanRow, OfficeRow, ProductRow, StaffRow};
+use mf_store_schema::{ClientRow, EntryRow, LoanRow, OfficeRow, ProductRow, StaffRow};
 
 /// Rows that belong to offices, each table's in the order of the offices.
 #[derive(Clone, Copy)]

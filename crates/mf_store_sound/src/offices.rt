@@ -7,12 +7,12 @@ ghost use Rattle.mf_model.specs.Tree.{Ascending};
 ghost use Rattle.mf_office.specs.Keys.{child_key, head_key, key_depth};
 ghost use Rattle.mf_store_sound.specs.Offices.{IsNumberedAndNamed, AscendFrom, row_at, parent_row, HasParentsText};
 ghost use Rattle.mf_store_sound.specs.Offices.{IsOfficeRow, AreOfficeRows, AreOffices};
-ghost use Rattle.mf_store_accounts.specs.Parts.{office_of};
+ghost use Rattle.mf_store_values.specs.Parts.{office_of};
 
 use mf_base::Fault;
 use mf_model::is_name;
 use mf_office::{OfficeNo, child_text, count_dots, laws};
-use mf_store_records::OfficeRow;
+use mf_store_schema::OfficeRow;
 use std::alloc::Global;
 
 /// How many dots the deepest hierarchy text has.

@@ -2,7 +2,7 @@
 
 ghost use Rattle.std.specs.Prelude.{◌≡◌, ◌≤◌, ℕ, length};
 ghost use Rattle.std.specs.Fn.{FnReturnsAt};
-ghost use Rattle.mf_store_accounts.specs.Parts.{own_count, own, later};
+ghost use Rattle.mf_store_values.specs.Parts.{own_count, own, later};
 
 /// How many rows of this owner come before the first of another.
 fn count_own<T, F: Fn(&T) -> u32>(rows: &[T], owner: u32, owner_of: F) -> usize

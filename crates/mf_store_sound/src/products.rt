@@ -7,7 +7,7 @@ ghost use Rattle.mf_catalog.specs.Limits.{longest_step};
 ghost use Rattle.mf_catalog.specs.Product.{AreMembersWithinLimits, limits_agree, kinds_right, is_of_kind};
 ghost use Rattle.mf_model.specs.Institution.{Catalogue, Offer, charge_in, item_numbered};
 ghost use Rattle.mf_model.specs.Sound.{IsSoundOffer};
-ghost use Rattle.mf_store_accounts.specs.Flat.{charge_as, product_as, numbered_from};
+ghost use Rattle.mf_store_values.specs.Flat.{charge_as, product_as, numbered_from};
 ghost use Rattle.mf_base.specs.Choices.{frequency_number};
 ghost use Rattle.mf_store_sound.specs.Charges.{HasRowOfKind};
 ghost use Rattle.mf_store_sound.specs.Stored.{IsRowOf};
@@ -19,8 +19,8 @@ use mf_catalog::{
     ChargeKind, GREATEST_RATE, MOST_GRACE, MOST_PERIODS, Method, StrategyName, longest_step,
 };
 use mf_model::is_name;
-use mf_store_accounts::{amount_from, flag_from, row_numbered};
-use mf_store_records::{ChargeRow, ProductRow};
+use mf_store_schema::{ChargeRow, ProductRow};
+use mf_store_values::{amount_from, flag_from, row_numbered};
 
 /// Whether each number that stands for a choice is that of one, and no amount is negative.
 fn has_choices(row: &ProductRow) -> bool

@@ -2,12 +2,12 @@
 
 ghost use Rattle.std.specs.Prelude.{◌≡◌, ◌++◌, ◌↔◌, IsTrue, OnOk, IfOk, IfErr};
 ghost use Rattle.mf_base.specs.declared.fault.Fault.TheVariants.{F20};
-ghost use Rattle.mf_store_records.specs.Rows.{by_receipt, is_receipt_before, AreReceiptsInOrder};
-ghost use Rattle.mf_store_accounts.specs.ReceiptRows.{receipt_of, carried_by, AreReceiptsOf};
+ghost use Rattle.mf_store_schema.specs.Rows.{by_receipt, is_receipt_before, AreReceiptsInOrder};
+ghost use Rattle.mf_store_values.specs.ReceiptRows.{receipt_of, carried_by, AreReceiptsOf};
 
 use mf_base::Fault;
-use mf_store_accounts::are_same;
-use mf_store_records::{EntryRow, ReceiptRow, Text};
+use mf_store_schema::{EntryRow, ReceiptRow, Text};
+use mf_store_values::are_same;
 use std::alloc::Global;
 use std::cmp::Ordering;
 

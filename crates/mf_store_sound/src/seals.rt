@@ -6,12 +6,12 @@ ghost use Rattle.mf_account.specs.Kinds.{is_seal as is_seal_kind};
 ghost use Rattle.mf_account.specs.Lawful.{is_last_of, are_seals_last as are_all_seals_last};
 ghost use Rattle.mf_account.specs.Standing.{is_before as comes_before};
 ghost use Rattle.mf_account.specs.declared.entry.Entry.{Entry};
-ghost use Rattle.mf_store_accounts.specs.Ledgers.{IsReadable};
-ghost use Rattle.mf_store_accounts.specs.Flat.{entry_in};
+ghost use Rattle.mf_store_values.specs.Ledgers.{IsReadable};
+ghost use Rattle.mf_store_values.specs.Flat.{entry_in};
 
 use mf_account::Kind;
 use mf_base::{Choice, Day};
-use mf_store_records::EntryRow;
+use mf_store_schema::EntryRow;
 
 /// Whether the entry of a row comes before that of another: by day, then by number.
 fn is_before(row: &EntryRow, last: &EntryRow) -> bool

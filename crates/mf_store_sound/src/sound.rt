@@ -4,7 +4,7 @@ ghost use Rattle.std.specs.Prelude.{◌≡◌, ◌↔◌, ℕ, IsTrue, IfOk, IfE
 ghost use Rattle.mf_base.specs.declared.fault.Fault.TheVariants.{F20};
 ghost use Rattle.mf_model.specs.Institution.{Institution};
 ghost use Rattle.mf_model.specs.Sound.{IsSound};
-ghost use Rattle.mf_store_accounts.specs.Flat.{tables_of};
+ghost use Rattle.mf_store_values.specs.Flat.{tables_of};
 ghost use Rattle.mf_store_sound.specs.Schemas.{first_tables_of, tables_under, without_accounts};
 ghost use Rattle.mf_store_sound.specs.Sound.{AreOfSound, AreOfSoundFirst, AreUnder};
 
@@ -17,8 +17,8 @@ use crate::receipts::are_receipts;
 use crate::tables::Tables;
 use mf_base::Fault;
 use mf_model::MOST_IN_CATALOGUE;
-use mf_store_accounts::{are_accounts, rows_of_accounts};
-use mf_store_records::{FIRST_SCHEMA, InstalmentRow, SCHEMA, ShareRow};
+use mf_store_schema::{FIRST_SCHEMA, InstalmentRow, SCHEMA, ShareRow};
+use mf_store_values::{are_accounts, rows_of_accounts};
 use std::alloc::Global;
 
 /// Whether there is a sound institution whose rows these are, with this schema's number. It does not check the rows of

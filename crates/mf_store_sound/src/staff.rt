@@ -2,14 +2,14 @@
 
 ghost use Rattle.mf_model.specs.Sound.{IsName};
 ghost use Rattle.mf_model.specs.Institution.{Staff};
-ghost use Rattle.mf_store_accounts.specs.Flat.{staff_in};
+ghost use Rattle.mf_store_values.specs.Flat.{staff_in};
 ghost use Rattle.mf_store_sound.specs.Stored.{IsRowOf};
 
 use crate::numbered::NumberedRow;
 use mf_base::Choice;
 use mf_model::is_name;
 use mf_office::Role;
-use mf_store_records::StaffRow;
+use mf_store_schema::StaffRow;
 
 /// The row of a member of staff of an office.
 impl NumberedRow<u32> for StaffRow {

@@ -1,6 +1,6 @@
 //! The rows of all tables, as they were read.
 
-use mf_store_records::{
+use mf_store_schema::{
     ChargeRow, ClientRow, EntryRow, InstalmentRow, LoanRow, MetaRow, OfficeRow, ProductRow,
     ReceiptRow, ShareRow, StaffRow,
 };
@@ -34,7 +34,7 @@ pub struct Tables {
 }
 
 impl Model for Tables {
-    ghost use Rattle.mf_store_records.specs.Rows.{Lists};
+    ghost use Rattle.mf_store_schema.specs.Rows.{Lists};
 
     ghost Value = { Lists };
 

@@ -8,9 +8,9 @@ use Rattle.mf_catalog.specs.declared.product.Product.{Product}
 use Rattle.mf_catalog.specs.declared.terms.Method.{Method}
 use Rattle.mf_catalog.specs.declared.terms.StrategyName.{StrategyName}
 use Rattle.mf_model.specs.Institution.{Charge, Offer, charge_def, product_of as product_numbered}
-use Rattle.mf_store_records.specs.declared.charges.ChargeRow.{ChargeRow}
-use Rattle.mf_store_records.specs.declared.products.ProductRow.{ProductRow}
-use Rattle.mf_store_accounts.specs.Flat.{charge_as, product_as, flag_number}
+use Rattle.mf_store_schema.specs.declared.charges.ChargeRow.{ChargeRow}
+use Rattle.mf_store_schema.specs.declared.products.ProductRow.{ProductRow}
+use Rattle.mf_store_values.specs.Flat.{charge_as, product_as, flag_number}
 
 pub choice_is : {A : Type 0} (number : A → ℕ) (found : Option A) (a b : A) (n : ℕ)
     → ((x : A) → n ≡ number x → found ≡ Some x) → found ≡ Some a → n ≡ number b → a ≡ b

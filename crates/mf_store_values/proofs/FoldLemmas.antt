@@ -10,8 +10,8 @@ use Rattle.mf_alloc.specs.Sums.{Sums, IsWhole}
 use Rattle.mf_arrears.specs.Line.{Loan as Aged, Line, line_of}
 use Rattle.mf_arrears.specs.Folding.{LoanSoFar, aged_by, nothing_of, Progress, step, IsAt}
 use Rattle.mf_arrears.proofs.FoldLemmas.{aged_same}
-use Rattle.mf_store_records.specs.Rows.{instalment_row as instalment_stored}
-use Rattle.mf_store_accounts.specs.Flat.{instalment_in}
+use Rattle.mf_store_schema.specs.Rows.{instalment_row as instalment_stored}
+use Rattle.mf_store_values.specs.Flat.{instalment_in}
 use Rattle.mf_store_values.specs.Arrears.{NumberedLoan, AreAbove, AreWholeLoans, rows_of_loan, rows_of_office}
 use Rattle.mf_store_values.specs.Arrears.{aged_rows, aged_loans, IsLineOf}
 use Rattle.mf_store_values.specs.Folding.{IsReadAs}

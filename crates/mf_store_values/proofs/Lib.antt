@@ -1,3 +1,16 @@
+pub mod AnswerLemmas
+pub mod NumberedLemmas
+pub mod SameLemmas
+pub mod AccountLemmas
+pub mod MadeLemmas
+pub mod ShareLemmas
+pub mod AccountRowLemmas
+pub mod PlaceLemmas
+pub mod KeptLemmas
+pub mod PartLemmas
+pub mod SortedLemmas
+pub mod ReceiptLemmas
+pub mod DecodedLemmas
 pub mod CatalogueLemmas
 pub mod LoanLemmas
 pub mod ReadLemmas

@@ -5,8 +5,8 @@ use Rattle.mf_model.specs.declared.loan.Loan.{Loan}
 use Rattle.mf_model.specs.declared.loan.Stage.{Stage}
 use Rattle.mf_model.specs.declared.loan.Stage.TheVariants.{Submitted, Approved, Disbursed, Withdrawn, Rejected}
 use Rattle.mf_model.specs.Stages.{stage_number}
-use Rattle.mf_store_records.specs.declared.loans.LoanRow.{LoanRow}
-use Rattle.mf_store_accounts.specs.Flat.{loan_in, approval_text, disbursal_text}
+use Rattle.mf_store_schema.specs.declared.loans.LoanRow.{LoanRow}
+use Rattle.mf_store_values.specs.Flat.{loan_in, approval_text, disbursal_text}
 use Rattle.mf_store_values.proofs.CatalogueLemmas.{amount_is}
 
 -- a number and the texts of two days tell the stage

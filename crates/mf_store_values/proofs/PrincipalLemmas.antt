@@ -17,15 +17,15 @@ use Rattle.sqlite_tied.specs.Compute.{everything}
 use Rattle.sqlite_value.proofs.OrderLemmas.{then-Equal}
 use Rattle.sqlite_keyed.proofs.ListLemmas.{slice_get-filter}
 use Rattle.mf_alloc.specs.Sums.{Sums, is_open}
-use Rattle.mf_store_tables.specs.Keep.{Keeps}
-use Rattle.mf_store_tables.specs.Queries.{Answers}
-use Rattle.mf_store_tables.specs.Scan.{eq, by, scan}
-use Rattle.mf_store_tables.proofs.CompareLemmas.{equals_back, and_true, key_step, int_cmp-pos}
-use Rattle.mf_store_tables.proofs.ShownLemmas.{shown_kept}
-use Rattle.mf_store_records.specs.Tables.{schema}
-use Rattle.mf_store_records.specs.Rows.{by_instalment, instalment_row, is_instalment}
-use Rattle.mf_store_records.specs.declared.instalments.InstalmentRow.{InstalmentRow}
-use Rattle.mf_store_accounts.specs.Flat.{instalment_in}
+use Rattle.mf_store_sql.specs.Keep.{Keeps}
+use Rattle.mf_store_sql.specs.Queries.{Answers}
+use Rattle.mf_store_sql.specs.Scan.{eq, by, scan}
+use Rattle.mf_store_sql.proofs.CompareLemmas.{equals_back, and_true, key_step, int_cmp-pos}
+use Rattle.mf_store_sql.proofs.ShownLemmas.{shown_kept}
+use Rattle.mf_store_schema.specs.Tables.{schema}
+use Rattle.mf_store_schema.specs.Rows.{by_instalment, instalment_row, is_instalment}
+use Rattle.mf_store_schema.specs.declared.instalments.InstalmentRow.{InstalmentRow}
+use Rattle.mf_store_values.specs.Flat.{instalment_in}
 use Rattle.mf_store_values.specs.Principal.{principal_row, IsOpenRow, IsFirstOpen}
 use Rattle.mf_store_values.proofs.CatalogueLemmas.{amount_is}
 

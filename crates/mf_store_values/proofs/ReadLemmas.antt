@@ -5,10 +5,10 @@ use Rattle.std.specs.List.{AllByRecursion}
 use Rattle.std.proofs.lemmas.List.{take_more, map-append, length-map, get_or-map, take_all}
 use Rattle.sqlite.specs.Order.{Row}
 use Rattle.mf_model.specs.Institution.{Office, Staff, new_office}
-use Rattle.mf_store_accounts.specs.Flat.{numbered_from, staff_in, office_under}
+use Rattle.mf_store_values.specs.Flat.{numbered_from, staff_in, office_under}
 use Rattle.mf_office.specs.declared.staff.Role.{Role}
-use Rattle.mf_store_records.specs.declared.staff.StaffRow.{StaffRow}
-use Rattle.mf_store_records.specs.declared.offices.OfficeRow.{OfficeRow}
+use Rattle.mf_store_schema.specs.declared.staff.StaffRow.{StaffRow}
+use Rattle.mf_store_schema.specs.declared.offices.OfficeRow.{OfficeRow}
 use Rattle.mf_office.specs.declared.office.Office.{Office as Shown}
 use Rattle.mf_model.specs.Desk.{line_of}
 

@@ -16,13 +16,13 @@ use Rattle.sqlite.specs.Clock.{timed}
 use Rattle.sqlite.proofs.Callers.{given_begin, unchanged_then, begun_plain, begins_shown, command_of, EndsIn}
 use Rattle.sqlite.proofs.StateLemmas.{survives_weaker}
 use Rattle.mf_arrears.specs.Line.{Line, line_of}
-use Rattle.mf_store_tables.proofs.QueryLemmas.{not_run_same, crash_prepared, answers_prepared}
-use Rattle.mf_store_records.specs.Calls.{IsKeeping, IsUnchanged as IsAsBefore}
-use Rattle.mf_store_records.specs.Rows.{Lists, instalment_row as instalment_stored, is_instalment_in}
-use Rattle.mf_store_records.specs.Tables.{schema}
-use Rattle.mf_store_records.proofs.CallLemmas.{unchanged}
-use Rattle.mf_store_records.specs.InstalmentsTexts.{lists_by_1}
-use Rattle.mf_store_records.proofs.RangeLemmas.{instalments_of_office, instalments_of_office_shows}
+use Rattle.mf_store_sql.proofs.QueryLemmas.{not_run_same, crash_prepared, answers_prepared}
+use Rattle.mf_store_schema.specs.Calls.{IsKeeping, IsUnchanged as IsAsBefore}
+use Rattle.mf_store_schema.specs.Rows.{Lists, instalment_row as instalment_stored, is_instalment_in}
+use Rattle.mf_store_schema.specs.Tables.{schema}
+use Rattle.mf_store_schema.proofs.CallLemmas.{unchanged}
+use Rattle.mf_store_schema.specs.InstalmentsTexts.{lists_by_1}
+use Rattle.mf_store_schema.proofs.RangeLemmas.{instalments_of_office, instalments_of_office_shows}
 use Rattle.sqlite_trees.specs.declared.store.Store.{Ghosts}
 use Rattle.sqlite.specs.Tree.{Trees}
 use Rattle.mf_store_values.specs.Arrears.{NumberedLoan, AreAbove, AreWholeLoans, rows_of_office, aged_loans, IsLineOf}

@@ -9,9 +9,9 @@ use Rattle.mf_arrears.specs.Line.{Loan as Aged, Line, line_of}
 use Rattle.mf_model.specs.Arrears.{active_in}
 use Rattle.mf_model.specs.Institution.{Institution}
 use Rattle.mf_model.specs.Store.{rows_at}
-use Rattle.mf_store_records.specs.Rows.{instalment_row as instalment_stored}
-use Rattle.mf_store_records.specs.declared.instalments.InstalmentRow.{InstalmentRow}
-use Rattle.mf_store_accounts.specs.Flat.{instalment_in}
+use Rattle.mf_store_schema.specs.Rows.{instalment_row as instalment_stored}
+use Rattle.mf_store_schema.specs.declared.instalments.InstalmentRow.{InstalmentRow}
+use Rattle.mf_store_values.specs.Flat.{instalment_in}
 
 -- the line of an office as it is shown
 abbrev pub line_at : Institution → Office → Line

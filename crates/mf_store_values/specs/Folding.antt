@@ -11,8 +11,8 @@ use Rattle.sqlite_trees.specs.declared.store.Store.{Ghosts}
 use Rattle.mf_alloc.specs.Sums.{Sums, IsWhole}
 use Rattle.mf_account.specs.Balance.{open_in}
 use Rattle.mf_arrears.specs.Line.{Line, line_of}
-use Rattle.mf_store_records.specs.Rows.{instalment_row as instalment_stored}
-use Rattle.mf_store_accounts.specs.Flat.{instalment_in}
+use Rattle.mf_store_schema.specs.Rows.{instalment_row as instalment_stored}
+use Rattle.mf_store_values.specs.Flat.{instalment_in}
 use Rattle.mf_store_values.specs.Arrears.{NumberedLoan, AreAbove, AreWholeLoans, rows_of_office, IsLineOf}
 use Rattle.mf_store_values.specs.declared.fold.NoLine.{NoLine}
 use Rattle.mf_store_values.specs.declared.fold.NoLine.TheVariants.{TooGreat}

@@ -1,3 +1,10 @@
+pub mod ReceiptRows
+pub mod Flat
+pub mod Ledgers
+pub mod Kept
+pub mod Accounts
+pub mod Parts
+pub mod Decoded
 pub mod Arrears
 pub mod Folding
 pub mod Principal

@@ -3,8 +3,8 @@ use Rattle.std.specs.Prelude.{◌≡◌, ℕ, Bool, true, List, [], ◌∷◌, f
 use Rattle.sqlite.specs.declared.types.Value.TheVariants.{Int}
 use Rattle.sqlite.specs.Order.{Row}
 use Rattle.mf_alloc.specs.Sums.{Sums, is_open}
-use Rattle.mf_store_records.specs.declared.instalments.InstalmentRow.{InstalmentRow}
-use Rattle.mf_store_accounts.specs.Flat.{instalment_in}
+use Rattle.mf_store_schema.specs.declared.instalments.InstalmentRow.{InstalmentRow}
+use Rattle.mf_store_values.specs.Flat.{instalment_in}
 
 -- what is owed, paid, waived and written off of it
 abbrev pub principal_row : InstalmentRow → Row

@@ -3,13 +3,13 @@
 ghost use Rattle.std.specs.Prelude.{◌≡◌, ℕ, IfOk, IfErr};
 ghost use Rattle.mf_base.specs.declared.fault.Fault.TheVariants.{F20};
 ghost use Rattle.mf_model.specs.Institution.{Charge, Offer, charge_def, product_of as product_numbered};
-ghost use Rattle.mf_store_accounts.specs.Flat.{charge_as, product_as};
+ghost use Rattle.mf_store_values.specs.Flat.{charge_as, product_as};
 
+use crate::numbers::flag_from;
 use crate::values::{stored, unsigned};
 use mf_base::{Choice, Fault, Freq};
 use mf_catalog::{Calc, ChargeDef, ChargeKind, Method, Product, ProductMembers, StrategyName};
-use mf_store_accounts::flag_from;
-use mf_store_records::{ChargeRow, ProductRow};
+use mf_store_schema::{ChargeRow, ProductRow};
 
 /// The charge of a row.
 pub fn charge_from(row: ChargeRow) -> Result<ChargeDef, Fault>

@@ -5,14 +5,14 @@ ghost use Rattle.std.specs.List.{AllByRecursion};
 ghost use Rattle.mf_base.specs.declared.fault.Fault.TheVariants.{F20};
 ghost use Rattle.mf_office.specs.Texts.{IsCaller};
 ghost use Rattle.mf_account.specs.declared.entry.Entry.{Entry as ModelEntry};
-ghost use Rattle.mf_store_records.specs.Rows.{entry_row as entry_stored};
-ghost use Rattle.mf_store_accounts.specs.Flat.{entry_in};
+ghost use Rattle.mf_store_schema.specs.Rows.{entry_row as entry_stored};
+ghost use Rattle.mf_store_values.specs.Flat.{entry_in};
 
+use crate::kept_entries::entry_columns;
 use crate::values::stored;
 use mf_account::{Entry, Receipt};
 use mf_base::Fault;
-use mf_store_accounts::entry_columns;
-use mf_store_records::{EntryRow, Text, read_row};
+use mf_store_schema::{EntryRow, Text, read_row};
 use sqlite::Row;
 use std::alloc::Global;
 

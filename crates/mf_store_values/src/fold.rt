@@ -9,10 +9,9 @@ ghost use Rattle.mf_store_values.specs.declared.fold.NoLine.TheVariants.{TooGrea
 ghost use Rattle.mf_store_values.specs.Folding.{IsReadAs, IsKept, Takes, Refuses, Folds, IsTooGreat};
 
 use crate::instalments::instalment_from;
-use mf_alloc::Row as Instalment;
 use mf_arrears::{LoanSoFar, OfficeLine, TooMuch};
 use mf_base::{Day, Fault};
-use mf_store_records::{InstalmentRow, read_row};
+use mf_store_schema::{InstalmentRow, read_row};
 use sqlite::{Alter, Row, Rows};
 
 /// Why no line is made of an office's rows.
@@ -33,7 +32,7 @@ impl From<TooMuch> for NoLine {
 }
 
 /// The instalment of a row as the tables give it, with the number of its loan.
-fn placed_in_row(row: &Row) -> Result<(u32, Instalment), Fault>
+fn placed_in_row(row: &Row) -> Result<(u32, mf_alloc::Row), Fault>
     ensures row { IfOk result (λ found. IsReadAs row.now found) }
     ensures gives_up { IfErr result (λ fault. fault ≡ F20) }
 {
@@ -43,7 +42,7 @@ fn placed_in_row(row: &Row) -> Result<(u32, Instalment), Fault>
 }
 
 /// The next instalment with the number of its loan, or none past the last.
-fn next_instalment<S: Alter>(rows: &mut Rows<'_, S>) -> Result<Option<(u32, Instalment)>, NoLine>
+fn next_instalment<S: Alter>(rows: &mut Rows<'_, S>) -> Result<Option<(u32, mf_alloc::Row)>, NoLine>
     ensures same_reference { rows.new.conn.ghost_name ≡ rows.old.conn.ghost_name }
     ensures takes { IfOk result (λ found. Takes S.Store rows.old.conn.now rows.new.conn.now found) }
     ensures refuses { OnErr result (Refuses S.Store rows.old.conn.now rows.new.conn.now) }

@@ -5,14 +5,13 @@ ghost use Rattle.mf_base.specs.DayText.{day_text};
 ghost use Rattle.mf_base.specs.declared.fault.Fault.TheVariants.{F20};
 ghost use Rattle.std.specs.List.{AllByRecursion, list_any};
 ghost use Rattle.mf_alloc.specs.Sums.{Sums, AreWhole, AreWithin, IsRowWithin, IsWithin, IsWhole, is_open};
-ghost use Rattle.mf_store_records.specs.Rows.{instalment_row as instalment_stored};
-ghost use Rattle.mf_store_accounts.specs.Flat.{instalment_in};
+ghost use Rattle.mf_store_schema.specs.Rows.{instalment_row as instalment_stored};
+ghost use Rattle.mf_store_values.specs.Flat.{instalment_in};
 
 use crate::loans::day_from;
 use crate::values::unsigned;
-use mf_alloc::Row as Instalment;
 use mf_base::Fault;
-use mf_store_records::{InstalmentRow, read_row};
+use mf_store_schema::{InstalmentRow, read_row};
 use sqlite::Row;
 use std::alloc::Global;
 
@@ -59,7 +58,7 @@ fn instalment_of(
     paid: [u64; 4],
     waived: [u64; 4],
     written_off: [u64; 4],
-) -> Result<Instalment, Fault>
+) -> Result<mf_alloc::Row, Fault>
     ensures row { IfOk result (λ found. (due : ℕ) → row.now.due ≡ day_text due → found ≡ record {
       due = due;
       owed = owed;
@@ -74,7 +73,7 @@ fn instalment_of(
     if !are_within(&owed, &paid, &waived, &written_off) {
         return Err(Fault::F20);
     }
-    Ok(Instalment {
+    Ok(mf_alloc::Row {
         due,
         owed,
         paid,
@@ -84,7 +83,7 @@ fn instalment_of(
 }
 
 /// The instalment of a row; F20 where that can be none.
-pub fn instalment_from(row: &InstalmentRow) -> Result<Instalment, Fault>
+pub fn instalment_from(row: &InstalmentRow) -> Result<mf_alloc::Row, Fault>
     ensures row { IfOk result (λ found. (office loan number : ℕ) (sums : Sums) → IsWhole sums
         → row.now ≡ instalment_in office loan (number, sums) → found ≡ sums) }
     ensures within { IfOk result (λ found. IsWhole found × IsRowWithin found) }
@@ -118,7 +117,7 @@ pub fn instalment_from(row: &InstalmentRow) -> Result<Instalment, Fault>
 }
 
 /// The instalment of a row as the tables give it.
-fn instalment_in_row(row: &Row) -> Result<Instalment, Fault>
+fn instalment_in_row(row: &Row) -> Result<mf_alloc::Row, Fault>
     ensures row { IfOk result (λ found. (office loan number : ℕ) (sums : Sums) → IsWhole sums
         → row.now ≡ instalment_stored (instalment_in office loan (number, sums)) → found ≡ sums) }
     ensures within { IfOk result (λ found. IsWhole found × IsRowWithin found) }
@@ -129,7 +128,7 @@ fn instalment_in_row(row: &Row) -> Result<Instalment, Fault>
 }
 
 /// The instalments of the rows, in order.
-pub fn instalments_from(alloc: Global, rows: &[Row]) -> Result<Vec<Instalment>, Fault>
+pub fn instalments_from(alloc: Global, rows: &[Row]) -> Result<Vec<mf_alloc::Row>, Fault>
     ensures rows { IfOk result (λ list. (office loan : ℕ) (all : List (ℕ × Sums))
         → AllByRecursion (λ item. IsWhole item.1) all
         → rows.now ≡ map (λ item. instalment_stored (instalment_in office loan item)) all
@@ -146,7 +145,7 @@ pub fn instalments_from(alloc: Global, rows: &[Row]) -> Result<Vec<Instalment>, 
 }
 
 /// Whether anything is outstanding in one of the instalments.
-pub fn is_active(rows: &[Instalment]) -> bool
+pub fn is_active(rows: &[mf_alloc::Row]) -> bool
     ensures { result ≡ list_any is_open rows.now }
 {
     rows.iter().any(|row| row.is_open())

@@ -6,15 +6,15 @@ ghost use Rattle.mf_base.specs.DayText.{day_text};
 ghost use Rattle.mf_model.specs.Stages.{stage_number};
 ghost use Rattle.mf_model.specs.declared.loan.Loan.{Loan as ModelLoan};
 ghost use Rattle.mf_model.specs.declared.loan.Stage.{Stage as ModelStage};
-ghost use Rattle.mf_store_records.specs.Rows.{loan_row as loan_stored};
-ghost use Rattle.mf_store_accounts.specs.Flat.{loan_in, approval_text, disbursal_text};
+ghost use Rattle.mf_store_schema.specs.Rows.{loan_row as loan_stored};
+ghost use Rattle.mf_store_values.specs.Flat.{loan_in, approval_text, disbursal_text};
 
 use crate::offices::office_number;
 use crate::values::unsigned;
 use mf_base::{Day, Fault, laws};
 use mf_model::{Loan, Stage};
 use mf_office::{Account, AccountNo};
-use mf_store_records::{LoanRow, Text, read_row};
+use mf_store_schema::{LoanRow, Text, read_row};
 use sqlite::Row;
 
 /// The day of a text.

@@ -3,15 +3,15 @@
 ghost use Rattle.std.specs.Prelude.{◌≡◌, ℕ, List, IfOk, IfErr};
 ghost use Rattle.mf_base.specs.declared.fault.Fault.TheVariants.{F20};
 ghost use Rattle.mf_model.specs.Institution.{Institution, Staff};
-ghost use Rattle.mf_store_records.specs.Rows.{staff_row, client_row};
-ghost use Rattle.mf_store_accounts.specs.Flat.{staff_in, client_in, numbered_from};
+ghost use Rattle.mf_store_schema.specs.Rows.{staff_row, client_row};
+ghost use Rattle.mf_store_values.specs.Flat.{staff_in, client_in, numbered_from};
 
 use crate::values::stored;
 use mf_account::Entry;
 use mf_base::{Choice, Fault};
 use mf_model::Loan;
 use mf_office::{Name, Role};
-use mf_store_records::{ClientRow, StaffRow, read_row};
+use mf_store_schema::{ClientRow, StaffRow, read_row};
 use sqlite::Row;
 use std::alloc::Global;
 use std::marker::Model;

@@ -4,13 +4,13 @@ ghost use Rattle.std.specs.Prelude.{◌≡◌, ℕ, List, Option, map, IfOk, IfE
 ghost use Rattle.mf_base.specs.declared.fault.Fault.TheVariants.{F20};
 ghost use Rattle.mf_model.specs.Institution.{Office as ModelOffice};
 ghost use Rattle.mf_model.specs.Desk.{line_of};
-ghost use Rattle.mf_store_accounts.specs.Flat.{office_under};
-ghost use Rattle.mf_store_records.specs.Rows.{office_row};
+ghost use Rattle.mf_store_values.specs.Flat.{office_under};
+ghost use Rattle.mf_store_schema.specs.Rows.{office_row};
 
 use mf_base::Fault;
 use mf_model::OfficeList;
 use mf_office::{Office, OfficeNo};
-use mf_store_records::{OfficeRow, read_row};
+use mf_store_schema::{OfficeRow, read_row};
 use sqlite::Row;
 use std::alloc::Global;
 

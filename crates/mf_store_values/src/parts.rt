@@ -3,15 +3,15 @@
 ghost use Rattle.std.specs.Prelude.{◌≡◌, ℕ, List, map, IfOk, IfErr};
 ghost use Rattle.mf_base.specs.declared.fault.Fault.TheVariants.{F20};
 ghost use Rattle.mf_account.specs.declared.settled.Settled.{Settled as Part};
-ghost use Rattle.mf_store_records.specs.Rows.{share_row as share_stored};
-ghost use Rattle.mf_store_accounts.specs.Flat.{share_in};
-ghost use Rattle.mf_store_accounts.specs.Kept.{part_told};
+ghost use Rattle.mf_store_schema.specs.Rows.{share_row as share_stored};
+ghost use Rattle.mf_store_values.specs.Flat.{share_in};
+ghost use Rattle.mf_store_values.specs.Kept.{part_told};
 
+use crate::kept_shares::part_of;
 use crate::values::stored;
 use mf_account::Settled;
 use mf_base::Fault;
-use mf_store_accounts::part_of;
-use mf_store_records::{ShareRow, read_row};
+use mf_store_schema::{ShareRow, read_row};
 use sqlite::Row;
 use std::alloc::Global;
 

@@ -6,14 +6,14 @@ ghost use Rattle.sqlite.specs.Order.{column};
 ghost use Rattle.sqlite.specs.Held.{state};
 ghost use Rattle.sqlite.specs.State.{HasCleanDisk};
 ghost use Rattle.sqlite.specs.declared.types.Value.TheVariants.{Int};
-ghost use Rattle.mf_store_records.specs.Calls.{IsUnchanged, IsKeeping};
-ghost use Rattle.mf_store_records.specs.Rows.{Lists, is_instalment};
-ghost use Rattle.mf_store_records.specs.declared.instalments.InstalmentRow.{InstalmentRow};
+ghost use Rattle.mf_store_schema.specs.Calls.{IsUnchanged, IsKeeping};
+ghost use Rattle.mf_store_schema.specs.Rows.{Lists, is_instalment};
+ghost use Rattle.mf_store_schema.specs.declared.instalments.InstalmentRow.{InstalmentRow};
 ghost use Rattle.mf_store_values.specs.Principal.{principal_row, IsOpenRow, IsFirstOpen};
 
 use crate::values::unsigned;
 use mf_base::Fault;
-use mf_store_records::ask;
+use mf_store_schema::ask;
 use sqlite::{Alter, Connection, Row, params};
 
 /// The amount that a column keeps.

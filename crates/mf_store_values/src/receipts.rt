@@ -4,14 +4,14 @@ ghost use Rattle.std.specs.Prelude.{◌≡◌, ℕ, IfOk, IfErr};
 ghost use Rattle.mf_account.specs.declared.entry.Entry.{Entry as ModelEntry};
 ghost use Rattle.mf_base.specs.declared.fault.Fault.TheVariants.{F20};
 ghost use Rattle.mf_model.specs.Receipts.{Use, use_by};
-ghost use Rattle.mf_store_accounts.specs.Flat.{entry_in};
-ghost use Rattle.mf_store_accounts.specs.ReceiptRows.{receipt_in};
+ghost use Rattle.mf_store_values.specs.Flat.{entry_in};
+ghost use Rattle.mf_store_values.specs.ReceiptRows.{receipt_in};
 
 use crate::loans::{account_number, day_from};
 use crate::values::unsigned;
 use mf_base::Fault;
 use mf_model::ReceiptUse;
-use mf_store_records::{EntryRow, ReceiptRow};
+use mf_store_schema::{EntryRow, ReceiptRow};
 
 /// What the rows of a receipt and of the entry that carries it stand for.
 pub fn use_from(receipt: ReceiptRow, entry: EntryRow) -> Result<ReceiptUse, Fault>

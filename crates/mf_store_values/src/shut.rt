@@ -4,7 +4,7 @@ ghost use Rattle.std.specs.Prelude.{◌≡◌, false, IsTrue, OnOk, IfErr};
 ghost use Rattle.mf_base.specs.declared.fault.Fault.TheVariants.{F20};
 ghost use Rattle.sqlite.specs.Held.{state};
 ghost use Rattle.sqlite.specs.State.{HasCleanDisk};
-ghost use Rattle.mf_store_records.specs.Calls.{IsUnchanged};
+ghost use Rattle.mf_store_schema.specs.Calls.{IsUnchanged};
 
 use mf_base::Fault;
 use sqlite::{Alter, Connection};

@@ -3,8 +3,8 @@
 ghost use Rattle.std.specs.Prelude.{◌≡◌, pos, Some, IfOk, IfErr};
 ghost use Rattle.mf_base.specs.declared.fault.Fault.TheVariants.{F20};
 
+use crate::numbers::amount_from;
 use mf_base::Fault;
-use mf_store_accounts::amount_from;
 
 /// What a value stands for, if for anything.
 pub fn stored<T>(meant: Option<T>) -> Result<T, Fault>

@@ -2,7 +2,7 @@
 
 use crate::telling::tell_person;
 use mf_store_files::PARTS;
-use mf_store_rows::Progress;
+use mf_store_schema::Progress;
 use std::rt::HostRuntime;
 use std::time::{Duration, Instant};
 

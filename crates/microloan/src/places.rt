@@ -1,7 +1,7 @@
 //! What stands at the path of an institution's file, told by the system and by the file's first byte, before anything
 //! is opened.
 
-use mf_store_rows::has_log;
+use mf_store_schema::has_log;
 use std::fs::{self, File};
 use std::io::{self, ErrorKind, Read};
 use std::rt::HostRuntime;

@@ -1,6 +1,6 @@
 //! What is said of rows of meta, of charges and of products.
 
-use mf_store_findings::{ChargeFlaw, MetaFlaw, ProductFlaw};
+use mf_store_audit::{ChargeFlaw, MetaFlaw, ProductFlaw};
 
 /// What is said of a row that is not numbered as it should be.
 pub(crate) const NOT_NEXT: &str = "its number is not the next after that of the row before it";

@@ -1,7 +1,7 @@
 //! What is said of rows of entries and of receipts.
 
 use crate::catalogue::{NOT_NEXT, OUT_OF_ORDER};
-use mf_store_findings::{EntryFlaw, ReceiptFlaw};
+use mf_store_audit::{EntryFlaw, ReceiptFlaw};
 
 /// What is said of rows that replaying the entries does not give.
 pub(crate) const NOT_REPLAYED: &str = "not what replaying the entries gives";

@@ -5,11 +5,11 @@ use crate::entries::{NOT_REPLAYED, words_of_entry, words_of_receipt};
 use crate::loans::words_of_loan;
 use crate::offices::{words_of_client, words_of_office, words_of_staff};
 use mf_base::Fault;
-use mf_store_findings::{
+use mf_store_audit::{
     ChargeFlaw, ClientFlaw, EntryFlaw, Finding, LoanFlaw, OfficeFlaw, ProductFlaw, ReceiptFlaw,
     StaffFlaw,
 };
-use mf_store_records::{InstalmentRow, ShareRow};
+use mf_store_schema::{InstalmentRow, ShareRow};
 use mf_store_sound::{Tables, account_rows};
 use std::alloc::Global;
 

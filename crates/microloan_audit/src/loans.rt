@@ -3,9 +3,9 @@
 use crate::catalogue::{NOT_NEXT, OUT_OF_ORDER};
 use crate::offices::NO_OFFICE;
 use mf_base::Fault;
-use mf_store_accounts::row_numbered;
-use mf_store_findings::LoanFlaw;
-use mf_store_records::{LoanRow, ProductRow};
+use mf_store_audit::LoanFlaw;
+use mf_store_schema::{LoanRow, ProductRow};
+use mf_store_values::row_numbered;
 use std::alloc::Global;
 
 /// What is said of a row of a loan, of these products.

@@ -3,8 +3,8 @@
 use crate::catalogue::{NO_NAME, NOT_NEXT, OUT_OF_ORDER};
 use mf_base::Fault;
 use mf_office::child_text;
-use mf_store_findings::{ClientFlaw, OfficeFlaw, StaffFlaw};
-use mf_store_records::OfficeRow;
+use mf_store_audit::{ClientFlaw, OfficeFlaw, StaffFlaw};
+use mf_store_schema::OfficeRow;
 use std::alloc::Global;
 
 /// What is said of a row whose office is not there.

@@ -1,7 +1,7 @@
 //! What the rows of a sound institution come to, in fixed columns: a line for each office, and one for all.
 
 use mf_base::{Fault, money_text, push_right};
-use mf_store_sums::{OfficeSums, Sums, total};
+use mf_store_audit::{OfficeSums, Sums, total};
 use std::alloc::Global;
 
 /// How wide the column of the office is, that of a count, and that of an amount.

@@ -4,8 +4,7 @@ use crate::line::finding_line;
 use crate::sums::sums_text;
 use crate::unread::unread_line;
 use mf_base::Fault;
-use mf_store_audit::Audit;
-use mf_store_findings::Finding;
+use mf_store_audit::{Audit, Finding};
 use mf_store_sound::Tables;
 use std::alloc::Global;
 

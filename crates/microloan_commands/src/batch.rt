@@ -8,7 +8,7 @@ ghost use Rattle.microloan_commands.specs.Batch.{AnswersFromNew};
 
 use crate::first::in_memory;
 use mf_base::{Cause, Day, StreamFault};
-use mf_store_pages::PageStore;
+use mf_store_sql::pages::PageStore;
 use mf_wire::{Sink, Source, run};
 use sqlite_trees::store::Store as TreeStore;
 use std::alloc::Global;

@@ -9,7 +9,7 @@ ghost use Rattle.mf_store.specs.Stands.{StandsFor, Leaves, IsOpen};
 
 use mf_base::{Day, Fault};
 use mf_store::Store;
-use mf_store_pages::PageStore;
+use mf_store_sql::pages::PageStore;
 use std::alloc::Global;
 
 /// A new institution in memory, on this business day: office 1 `Head Office`, its manager 1/1 `Head Manager`, and
@@ -21,7 +21,7 @@ pub fn in_memory(alloc: Global, day: Day) -> Result<Store<PageStore>, Fault>
     ensures open { IfOk result (λ store. IsOpen over_files store) }
     ensures gives_up { IfErr result (λ fault. fault ≡ F20) }
 {
-    let Ok(connection) = mf_store_pages::open(alloc) else {
+    let Ok(connection) = mf_store_sql::pages::open(alloc) else {
         return Err(Fault::F20);
     };
     match Store::found(alloc, connection, day) {

@@ -5,11 +5,11 @@ use Rattle.sqlite_catalog.specs.Listing.{IsSound}
 use Rattle.sqlite_trees.specs.Tree.{Trees}
 use Rattle.sqlite_wal.specs.Recovery.{Image}
 use Rattle.mf_model.specs.Institution.{Institution, newly_made}
-use Rattle.mf_store_accounts.specs.Flat.{tables_of}
-use Rattle.mf_store_records.specs.Tables.{schema}
-use Rattle.mf_store_records.specs.Writes.{Holds}
+use Rattle.mf_store_values.specs.Flat.{tables_of}
+use Rattle.mf_store_schema.specs.Tables.{schema}
+use Rattle.mf_store_schema.specs.Writes.{Holds}
 use Rattle.mf_store_sound.specs.Schemas.{first_tables_of}
-use Rattle.mf_store_upgrade.specs.Upgrade.{HoldsFirst}
+use Rattle.mf_store_schema.specs.Upgrade.{HoldsFirst}
 use Rattle.mf_store_files.specs.Files.{HasNoTables}
 use Rattle.mf_store_files.specs.Held.{HoldsSound, HoldsSoundFirst}
 use Rattle.microloan_files.specs.Opening.{HoldsInSchema, OpensAs}

@@ -5,8 +5,8 @@ use Rattle.mf_base.specs.declared.fault.StreamFault.{StreamFault}
 use Rattle.mf_office.specs.declared.caller.Caller.{Caller}
 use Rattle.mf_model.specs.Institution.{Institution}
 use Rattle.mf_model.specs.Run.{Line, last}
-use Rattle.mf_store_accounts.specs.Flat.{tables_of}
-use Rattle.mf_store_records.specs.Writes.{Holds}
+use Rattle.mf_store_values.specs.Flat.{tables_of}
+use Rattle.mf_store_schema.specs.Writes.{Holds}
 use Rattle.mf_store_files.specs.Closed.{HoldsByItself}
 use Rattle.mf_store_files.specs.Stops.{IsLeftBy}
 use Rattle.mf_wire_lines.specs.Ends.{Ends}

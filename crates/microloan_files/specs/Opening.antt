@@ -5,10 +5,10 @@ use Rattle.sqlite.specs.Tree.{Trees}
 use Rattle.sqlite_wal.specs.Recovery.{Image}
 use Rattle.mf_model.specs.Institution.{Institution, newly_made}
 use Rattle.mf_model.specs.Sound.{IsSound}
-use Rattle.mf_store_accounts.specs.Flat.{tables_of}
-use Rattle.mf_store_records.specs.Writes.{Holds}
+use Rattle.mf_store_values.specs.Flat.{tables_of}
+use Rattle.mf_store_schema.specs.Writes.{Holds}
 use Rattle.mf_store_sound.specs.Schemas.{first_tables_of}
-use Rattle.mf_store_upgrade.specs.Upgrade.{HoldsFirst}
+use Rattle.mf_store_schema.specs.Upgrade.{HoldsFirst}
 use Rattle.mf_store_files.specs.Files.{HasNoTables}
 
 -- the file is a database that has this sound institution's rows and nothing else

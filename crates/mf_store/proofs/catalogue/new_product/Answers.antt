@@ -1,8 +1,8 @@
 use Rattle.std.proofs.Common.{false, ap, ◌∙◌}
 use Rattle.mf_model.specs.Institution.{Offer}
-use Rattle.mf_store_accounts.specs.Flat.{product_as}
-use Rattle.mf_store_changes.proofs.CatalogueLemmas.{product_becomes}
-use Rattle.mf_store_changes.proofs.SuitLemmas.{product_suits}
+use Rattle.mf_store_values.specs.Flat.{product_as}
+use Rattle.mf_store_commits.proofs.CatalogueLemmas.{product_becomes}
+use Rattle.mf_store_commits.proofs.SuitLemmas.{product_suits}
 use Rattle.mf_store.proofs.catalogue.new_product.Goals as goal
 
 pub returns-clause-carries : goal.returns-clause-carries

@@ -3,13 +3,13 @@ use Rattle.std.specs.Option.{IfSome}
 use Rattle.std.proofs.lemmas.Result.{IfOk-weaker}
 use Rattle.sqlite.specs.Effect.{Database}
 use Rattle.sqlite.specs.Held.{state}
-use Rattle.mf_store_rows.specs.Schemas.{IsFirst}
-use Rattle.mf_store_records.specs.Tables.{first_schema}
-use Rattle.mf_store_files.proofs.TableLemmas.{at_none, at_some, under_first}
+use Rattle.mf_store_schema.specs.Schemas.{IsFirst}
+use Rattle.mf_store_schema.specs.Tables.{first_schema}
+use Rattle.mf_store_schema.proofs.ReadLemmas.{at_none, at_some}
 use Rattle.mf_store_audit.specs.Audits.{IsAuditOf}
 use Rattle.mf_store_audit.specs.Unread.{IsUnread}
 use Rattle.mf_store_audit.proofs.AuditLemmas.{of_first_rows, unread_none_first}
-use Rattle.mf_store_audit.proofs.KeptLemmas.{then_under}
+use Rattle.mf_store_audit.proofs.KeptLemmas.{then_under, under_first}
 use Rattle.mf_store_audit.proofs.audits.audit_first.Goals as goal
 
 pub returns-in_err-unread-clause-kept : goal.returns-in_err-unread-clause-kept

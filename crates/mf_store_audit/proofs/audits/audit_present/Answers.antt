@@ -3,13 +3,13 @@ use Rattle.std.specs.Option.{IfSome}
 use Rattle.std.proofs.lemmas.Result.{IfOk-weaker}
 use Rattle.sqlite.specs.Effect.{Database}
 use Rattle.sqlite.specs.Held.{state}
-use Rattle.mf_store_records.specs.Tables.{schema}
-use Rattle.mf_store_rows.specs.Schemas.{IsPresent}
-use Rattle.mf_store_files.proofs.TableLemmas.{at_none, at_some, under_present}
+use Rattle.mf_store_schema.specs.Tables.{schema}
+use Rattle.mf_store_schema.specs.Schemas.{IsPresent}
+use Rattle.mf_store_schema.proofs.ReadLemmas.{at_none, at_some}
 use Rattle.mf_store_audit.specs.Audits.{IsAuditOf}
 use Rattle.mf_store_audit.specs.Unread.{IsUnread}
 use Rattle.mf_store_audit.proofs.AuditLemmas.{of_rows, unread_none}
-use Rattle.mf_store_audit.proofs.KeptLemmas.{as_present, then_under}
+use Rattle.mf_store_audit.proofs.KeptLemmas.{as_present, then_under, under_present}
 use Rattle.mf_store_audit.proofs.audits.audit_present.Goals as goal
 
 pub returns-in_err-unread-clause-kept : goal.returns-in_err-unread-clause-kept

@@ -1,5 +1,5 @@
 use Rattle.std.proofs.Common.{◌≡◌, ◌==◌, [], refl, sym, rules}
-use Rattle.mf_store_findings.specs.Findings.{AreOfOne}
+use Rattle.mf_store_audit.specs.Findings.{AreOfOne}
 use Rattle.mf_store_audit.proofs.AuditLemmas.{bare_rows}
 use Rattle.mf_store_audit.proofs.audits.audit_rows.Goals as goal
 

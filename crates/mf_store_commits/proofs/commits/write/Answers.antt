@@ -1,5 +1,5 @@
 use Rattle.sqlite.specs.Held.{state}
-use Rattle.mf_store_records.proofs.CallLemmas.{only_faults_shut}
+use Rattle.mf_store_schema.proofs.CallLemmas.{only_faults_shut}
 use Rattle.mf_store_commits.proofs.StandLemmas.{still_ours, made_stop}
 use Rattle.mf_store_commits.proofs.commits.write.Goals as goal
 

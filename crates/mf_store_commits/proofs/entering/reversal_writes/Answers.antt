@@ -2,15 +2,15 @@ use Rattle.std.proofs.Common.{◌≡◌, ◌≤◌, ◌-◌, ◌++◌, ◌∷◌
 use Rattle.mf_account.specs.declared.entry.Entry.{Entry}
 use Rattle.mf_account.specs.Standing.{entry_at, with_mark}
 use Rattle.mf_model.specs.declared.commit.Commit.TheVariants.{ReverseEntry}
-use Rattle.mf_store_records.specs.declared.writes.StoreWrite.TheVariants.{ChangeEntry}
-use Rattle.mf_store_changes.specs.ChangeWrites.{change_writes}
-use Rattle.mf_store_changes.specs.Suiting.{Carries}
-use Rattle.mf_store_accounts.specs.Flat.{entry_in}
-use Rattle.mf_store_changes.proofs.EnteredLemmas.{account_of_loan, as_long, handed_changed, loan_numbered}
-use Rattle.mf_store_changes.proofs.EnteredLemmas.{reversal_there}
-use Rattle.mf_store_changes.proofs.EntryLemmas.{marked_entry}
-use Rattle.mf_store_changes.proofs.LoanLemmas.{reversal_becomes}
-use Rattle.mf_store_changes.proofs.SuitLemmas.{reversal_suits}
+use Rattle.mf_store_schema.specs.declared.writes.StoreWrite.TheVariants.{ChangeEntry}
+use Rattle.mf_store_commits.specs.ChangeWrites.{change_writes}
+use Rattle.mf_store_commits.specs.Suiting.{Carries}
+use Rattle.mf_store_values.specs.Flat.{entry_in}
+use Rattle.mf_store_commits.proofs.EnteredLemmas.{account_of_loan, as_long, handed_changed, loan_numbered}
+use Rattle.mf_store_commits.proofs.EnteredLemmas.{reversal_there}
+use Rattle.mf_store_commits.proofs.EntryLemmas.{marked_entry}
+use Rattle.mf_store_commits.proofs.LoanLemmas.{reversal_becomes}
+use Rattle.mf_store_commits.proofs.SuitLemmas.{reversal_suits}
 use Rattle.mf_store_commits.proofs.entering.reversal_writes.Goals as goal
 
 pub returns-clause-carries : goal.returns-clause-carries

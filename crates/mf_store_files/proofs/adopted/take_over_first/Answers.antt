@@ -1,5 +1,5 @@
 use Rattle.mf_store_files.proofs.AdoptLemmas.{stands_upgraded, leaves_upgraded, left_first}
-use Rattle.mf_store_files.proofs.TableLemmas.{at_some}
+use Rattle.mf_store_schema.proofs.ReadLemmas.{at_some}
 use Rattle.mf_store_files.proofs.adopted.take_over_first.Goals as goal
 
 pub returns-in-Ok-upgrade_tables-clause-stands : goal.returns-in-Ok-upgrade_tables-clause-stands

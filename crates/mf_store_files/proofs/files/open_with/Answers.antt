@@ -1,7 +1,7 @@
 use Rattle.std.proofs.Common.{inl, inr, sym, subst}
 use Rattle.sqlite_catalog.specs.Listing.{IsSound}
 use Rattle.sqlite_wal.specs.Files.{image_at}
-use Rattle.mf_store_tables.specs.Tables.{no_schema}
+use Rattle.mf_store_sql.specs.Tables.{no_schema}
 use Rattle.mf_store_files.proofs.OpenedLemmas.{opens_as_found, stays_as_found, none_sound}
 use Rattle.mf_store_files.proofs.files.open_with.Goals as goal
 

@@ -2,7 +2,7 @@ use Rattle.std.proofs.Common.{IsTrue}
 use Rattle.std.proofs.lemmas.Result.{IfOk-weaker}
 use Rattle.sqlite.specs.Held.{state}
 use Rattle.mf_store_files.specs.Held.{HoldsSound}
-use Rattle.mf_store_files.proofs.TableLemmas.{at_none, at_some}
+use Rattle.mf_store_schema.proofs.ReadLemmas.{at_none, at_some}
 use Rattle.mf_store_files.proofs.JudgedLemmas.{can_be_held, holds_sound, are_of_sound}
 use Rattle.mf_store_files.proofs.judged.holds_sound.Goals as goal
 

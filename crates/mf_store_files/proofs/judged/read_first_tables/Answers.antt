@@ -1,9 +1,9 @@
 use Rattle.std.proofs.Common.{◌≡◌, [], subst, rules}
 use Rattle.sqlite.specs.Held.{state}
 use Rattle.sqlite_catalog.specs.Listing.{IsSound}
-use Rattle.mf_store_rows.specs.Schemas.{IsFirst}
-use Rattle.mf_store_files.proofs.TableLemmas.{at_none, at_some, nested_first, same_lists, under_first, rowids_first}
-use Rattle.mf_store_files.proofs.TableLemmas.{unchanged_fewer}
+use Rattle.mf_store_schema.specs.Schemas.{IsFirst}
+use Rattle.mf_store_schema.proofs.ReadLemmas.{at_none, at_some}
+use Rattle.mf_store_files.proofs.TableLemmas.{nested_first, same_lists, under_first, unchanged_fewer}
 use Rattle.mf_store_files.proofs.judged.read_first_tables.Goals as goal
 
 pub returns-in_err-found-clause-kept : goal.returns-in_err-found-clause-kept
@@ -22,37 +22,64 @@ pub returns-in_default-clause-none : goal.returns-in_default-clause-none
 returns-in_default-clause-none g c clean ours lists held h =
     at_none c.in_ok-found.found _ c.in_default.is (c.in_ok-found.ensures.none clean (under_first _ ours))
     (nested_first lists) (
-      ((held.offices, (held.staff, held.clients)), (held.meta, (held.charges, held.products))),
-      (held.loans, (held.entries, held.receipts)),
-    ) (
-      ((h.all.1.0, (h.all.1.1.0, h.all.1.1.1.0)), (h.all.0, (h.all.1.1.1.1.0, h.all.1.1.1.1.1.0))),
-      (h.all.1.1.1.1.1.1.0, (h.all.1.1.1.1.1.1.1.0, h.all.1.1.1.1.1.1.1.1.0)),
-    )
+      held.meta,
+      (
+        held.offices,
+        (
+          held.staff,
+          (
+            held.clients,
+            (
+              held.charges,
+              (
+                held.products,
+                (
+                  held.loans,
+                  (
+                    held.entries,
+                    (held.receipts, tt),
+                  ),
+                ),
+              ),
+            ),
+          ),
+        ),
+      ),
+    ) h.all
 
 pub returns-clause-only : goal.returns-clause-only
 returns-clause-only g c clean ours lists h =
     let none : c.new.result.items ≡ [] = search rules in
     let empty : c.new-2.result.items ≡ [] = search rules in
     same_lists _ (nested_first lists) c.new.result.items c.new-2.result.items (at_some c.in_ok-found.found _ _
-    c.in-Some.is (c.in_ok-found.ensures.only clean (under_first _ ours)) (nested_first lists) (
-      ((h.all.1.0, (h.all.1.1.0, h.all.1.1.1.0)), (h.all.0, (h.all.1.1.1.1.0, h.all.1.1.1.1.1.0))),
-      (h.all.1.1.1.1.1.1.0, (h.all.1.1.1.1.1.1.1.0, h.all.1.1.1.1.1.1.1.1.0)),
-    )) none
-    empty
+    c.in-Some.is (c.in_ok-found.ensures.only clean (under_first _ ours)) (nested_first lists) h.all) none empty
 
 pub returns-clause-keeps : goal.returns-clause-keeps
 returns-clause-keeps g c clean ours rowids rise =
     let db = (state g.S.Store c.args.connection.now).now in
     let sound : IsSound db.schema db.trees = search rules in
-    let k = at_some c.in_ok-found.found _ _ c.in-Some.is (c.in_ok-found.ensures.keeps clean (under_first _ ours)
-    (rowids_first db.trees rowids)) (
-      (
-        (rise.offices, (rise.staff, rise.clients)),
-        (rise.meta, (rise.charges, rise.products)),
-      ),
-      (rise.loans, (rise.entries, rise.receipts)),
-    ) in
     record {
       sound = subst (λ its. IsSound its db.trees) ours sound;
-      all = (k.0.1.0, (k.0.0.0, (k.0.0.1.0, (k.0.0.1.1, (k.0.1.1.0, (k.0.1.1.1, (k.1.0, (k.1.1.0, (k.1.1.1, tt)))))))));
+      all = at_some c.in_ok-found.found _ _ c.in-Some.is (c.in_ok-found.ensures.keeps clean (under_first _ ours) rowids) (
+        rise.meta,
+        (
+          rise.offices,
+          (
+            rise.staff,
+            (
+              rise.clients,
+              (
+                rise.charges,
+                (
+                  rise.products,
+                  (
+                    rise.loans,
+                    (rise.entries, (rise.receipts, tt)),
+                  ),
+                ),
+              ),
+            ),
+          ),
+        ),
+      );
     }

@@ -2,9 +2,9 @@ use Rattle.std.proofs.Common.{◌≡◌, ◌⊎◌, ◌∷◌, Some, sym, ap, �
 use Rattle.std.specs.Vec.Iter.{into_iter_items}
 use Rattle.std.proofs.lemmas.Result.{on_ok_weaker}
 use Rattle.sqlite.specs.Held.{state}
-use Rattle.mf_store_records.specs.Rows.{Lists}
-use Rattle.mf_store_records.specs.Writes.{Holds}
-use Rattle.mf_store_upgrade.specs.Upgraded.{IsUpgradedTo}
+use Rattle.mf_store_schema.specs.Rows.{Lists}
+use Rattle.mf_store_schema.specs.Writes.{Holds}
+use Rattle.mf_store_schema.specs.Upgraded.{IsUpgradedTo}
 use Rattle.mf_store_sound.specs.Schemas.{first_tables_of}
 use Rattle.mf_store_files.proofs.UpgradedLemmas.{meta_is, can_upgrade, upgraded_is}
 use Rattle.mf_store_files.proofs.upgraded.upgrade_tables.Goals as goal

@@ -3,7 +3,7 @@ use Rattle.std.specs.List.{list_all}
 use Rattle.mf_model.specs.Institution.{Office}
 use Rattle.mf_model.specs.Tree.{Ascending}
 use Rattle.mf_store_sound.specs.Callers.{is_by_staff}
-use Rattle.mf_store_accounts.specs.Flat.{all_rows, staff_in}
+use Rattle.mf_store_values.specs.Flat.{all_rows, staff_in}
 use Rattle.mf_store_sound.proofs.callers.are_by_staff.Given as goal
 
 abbrev pub invariant-loop-row : goal.invariant-loop-row

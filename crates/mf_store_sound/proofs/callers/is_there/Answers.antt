@@ -1,6 +1,6 @@
 use Rattle.std.proofs.Common.{rules}
 use Rattle.std.proofs.lemmas.List.Sorted.{answers_always}
-use Rattle.mf_store_records.specs.declared.staff.StaffRow.{StaffRow}
+use Rattle.mf_store_schema.specs.declared.staff.StaffRow.{StaffRow}
 use Rattle.mf_store_sound.proofs.StaffLemmas.{found_staff, absent_staff}
 use Rattle.mf_store_sound.proofs.callers.is_there.Goals as goal
 

@@ -1,4 +1,4 @@
-use Rattle.mf_store_accounts.proofs.AnswerLemmas.{refuses, no_answer}
+use Rattle.mf_store_values.proofs.AnswerLemmas.{refuses, no_answer}
 use Rattle.mf_store_sound.proofs.EnteredLemmas.{loan_entries, entry_rows_of, seals_of}
 use Rattle.mf_store_sound.proofs.entered.are_loan_entries.Goals as goal
 

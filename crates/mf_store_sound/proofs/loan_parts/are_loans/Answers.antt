@@ -1,6 +1,6 @@
 use Rattle.std.proofs.Common.{IsTrue, arith, rules}
 use Rattle.mf_store_sound.proofs.LoanPartLemmas.{loan_of, loan_passed, loan_refused, loans_passed}
-use Rattle.mf_store_accounts.proofs.AnswerLemmas.{refuses, no_answer}
+use Rattle.mf_store_values.proofs.AnswerLemmas.{refuses, no_answer}
 use Rattle.mf_store_sound.proofs.StoredLemmas.{nothing_is}
 use Rattle.mf_store_sound.proofs.loan_parts.are_loans.Goals as goal
 

@@ -1,6 +1,6 @@
 use Rattle.std.proofs.Common.{◌≡◌, ◌↔◌, ◌+◌, ℕ, List, length, drop}
 use Rattle.mf_model.specs.Institution.{Catalogue}
-use Rattle.mf_store_accounts.specs.Flat.{product_as, numbered_from}
+use Rattle.mf_store_values.specs.Flat.{product_as, numbered_from}
 use Rattle.mf_store_sound.specs.Sound.{AreLoanParts}
 use Rattle.mf_store_sound.proofs.loan_parts.are_loans.Given as goal
 

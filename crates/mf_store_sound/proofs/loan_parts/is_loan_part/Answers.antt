@@ -1,6 +1,6 @@
 use Rattle.std.proofs.Common.{IsTrue}
 use Rattle.mf_store_sound.proofs.LoanPartLemmas.{loan_row_of, loan_part}
-use Rattle.mf_store_accounts.proofs.AnswerLemmas.{refuses, no_answer}
+use Rattle.mf_store_values.proofs.AnswerLemmas.{refuses, no_answer}
 use Rattle.mf_store_sound.proofs.loan_parts.is_loan_part.Goals as goal
 
 pub returns-then-not-is_loan : goal.returns-then-not-is_loan

@@ -1,5 +1,5 @@
 use Rattle.std.proofs.Common.{◌+◌, arith}
-use Rattle.mf_store_accounts.proofs.AnswerLemmas.{refuses, no_answer}
+use Rattle.mf_store_values.proofs.AnswerLemmas.{refuses, no_answer}
 use Rattle.mf_store_sound.proofs.StoredLemmas.{from_passed, from_refused}
 use Rattle.mf_store_sound.proofs.numbered.are_numbered.Goals as goal
 

@@ -1,7 +1,7 @@
 use Rattle.std.proofs.Common.{◌+◌, drop, IsTrue}
 use Rattle.mf_store_sound.proofs.OfficePartLemmas.{as_first, from_first, as_others, ascends_on, part_passed}
 use Rattle.mf_store_sound.proofs.OfficePartLemmas.{part_refused, parts_passed}
-use Rattle.mf_store_accounts.proofs.AnswerLemmas.{refuses, no_answer}
+use Rattle.mf_store_values.proofs.AnswerLemmas.{refuses, no_answer}
 use Rattle.mf_store_sound.proofs.office_parts.are_office_parts.Goals as goal
 
 pub returns-then-not-is_office_part : goal.returns-then-not-is_office_part

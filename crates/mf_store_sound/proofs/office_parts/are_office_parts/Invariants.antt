@@ -1,8 +1,8 @@
 use Rattle.std.proofs.Common.{◌≡◌, ◌↔◌, map, drop}
 use Rattle.mf_model.specs.Institution.{Catalogue}
 use Rattle.mf_model.specs.Tree.{Ascending}
-use Rattle.mf_store_accounts.specs.Flat.{product_as, numbered_from}
-use Rattle.mf_store_accounts.specs.Parts.{office_of}
+use Rattle.mf_store_values.specs.Flat.{product_as, numbered_from}
+use Rattle.mf_store_values.specs.Parts.{office_of}
 use Rattle.mf_store_sound.specs.Sound.{AreOfficeParts}
 use Rattle.mf_store_sound.proofs.office_parts.are_office_parts.Given as goal
 

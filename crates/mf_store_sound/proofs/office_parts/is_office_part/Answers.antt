@@ -1,6 +1,6 @@
 use Rattle.std.proofs.Common.{IsTrue}
 use Rattle.mf_store_sound.proofs.OfficePartLemmas.{staff_part, clients_part, office_part}
-use Rattle.mf_store_accounts.proofs.AnswerLemmas.{refuses, no_answer}
+use Rattle.mf_store_values.proofs.AnswerLemmas.{refuses, no_answer}
 use Rattle.mf_store_sound.proofs.office_parts.is_office_part.Goals as goal
 
 pub returns-then-not-are_numbered : goal.returns-then-not-are_numbered

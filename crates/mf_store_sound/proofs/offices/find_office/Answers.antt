@@ -1,6 +1,6 @@
 use Rattle.std.proofs.Common.{[], None, rules}
 use Rattle.std.proofs.lemmas.List.Sorted.{answers_always}
-use Rattle.mf_store_records.specs.declared.offices.OfficeRow.{OfficeRow}
+use Rattle.mf_store_schema.specs.declared.offices.OfficeRow.{OfficeRow}
 use Rattle.mf_store_sound.proofs.OfficeRowLemmas.{found_office, absent_office}
 use Rattle.mf_store_sound.proofs.offices.find_office.Goals as goal
 

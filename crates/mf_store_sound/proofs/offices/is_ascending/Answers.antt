@@ -1,5 +1,5 @@
 use Rattle.mf_store_sound.proofs.OfficeRowLemmas.{ascends_not}
-use Rattle.mf_store_accounts.proofs.AnswerLemmas.{no_answer}
+use Rattle.mf_store_values.proofs.AnswerLemmas.{no_answer}
 use Rattle.mf_store_sound.proofs.offices.is_ascending.Goals as goal
 
 pub returns-then-office-last : goal.returns-then-office-last

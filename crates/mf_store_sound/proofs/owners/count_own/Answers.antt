@@ -1,8 +1,8 @@
 use Rattle.std.proofs.Common.{◌≡◌, ◌+◌, ◌==◌, false, drop, arith}
 use Rattle.std.proofs.lemmas.Bool.Decides.{nat_tests}
 use Rattle.std.proofs.lemmas.Fn.{says_at}
-use Rattle.mf_store_accounts.specs.Parts.{own_count}
-use Rattle.mf_store_accounts.proofs.PartLemmas.{own_here, none_here}
+use Rattle.mf_store_values.specs.Parts.{own_count}
+use Rattle.mf_store_values.proofs.PartLemmas.{own_here, none_here}
 use Rattle.mf_store_sound.proofs.owners.count_own.Goals as goal
 
 pub returns-then-owner_of-owner-clause-count : goal.returns-then-owner_of-owner-clause-count

@@ -1,6 +1,6 @@
 use Rattle.std.proofs.Common.{◌≡◌, ◌+◌, ℕ, drop}
 use Rattle.std.specs.Fn.{FnReturnsAt}
-use Rattle.mf_store_accounts.specs.Parts.{own_count}
+use Rattle.mf_store_values.specs.Parts.{own_count}
 use Rattle.mf_store_sound.proofs.owners.count_own.Given as goal
 
 abbrev pub invariant-loop-row : goal.invariant-loop-row

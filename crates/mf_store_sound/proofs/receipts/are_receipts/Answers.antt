@@ -1,9 +1,9 @@
 use Rattle.std.proofs.Common.{◌≡◌, ◌↔◌, IsTrue, IsPermutation, IsSorted, ap, subst, is_lt, rules}
 use Rattle.std.proofs.lemmas.List.Sorted.{ranks_by, answers_always}
-use Rattle.mf_store_records.specs.Rows.{by_receipt}
-use Rattle.mf_store_records.specs.declared.receipts.ReceiptRow.{ReceiptRow}
-use Rattle.mf_store_records.proofs.OrderLemmas.{by_receipt_total}
-use Rattle.mf_store_accounts.specs.ReceiptRows.{carried_by}
+use Rattle.mf_store_schema.specs.Rows.{by_receipt}
+use Rattle.mf_store_schema.specs.declared.receipts.ReceiptRow.{ReceiptRow}
+use Rattle.mf_store_schema.proofs.OrderLemmas.{by_receipt_total}
+use Rattle.mf_store_values.specs.ReceiptRows.{carried_by}
 use Rattle.mf_store_sound.proofs.ReceiptLemmas.{receipts_are}
 use Rattle.mf_store_sound.proofs.receipts.are_receipts.Goals as goal
 

@@ -1,5 +1,5 @@
 use Rattle.std.proofs.Common.{◌≡◌, ◌++◌, drop}
-use Rattle.mf_store_accounts.specs.ReceiptRows.{carried_by}
+use Rattle.mf_store_values.specs.ReceiptRows.{carried_by}
 use Rattle.mf_store_sound.proofs.receipts.carried_receipts.Given as goal
 
 abbrev pub invariant-loop-entry : goal.invariant-loop-entry

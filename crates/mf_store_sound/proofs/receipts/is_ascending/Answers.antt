@@ -1,6 +1,6 @@
 use Rattle.std.proofs.Common.{◌∙◌, sym}
 use Rattle.mf_store_sound.proofs.ReceiptLemmas.{rises_not, rose}
-use Rattle.mf_store_accounts.proofs.AnswerLemmas.{no_answer, yes_answer}
+use Rattle.mf_store_values.proofs.AnswerLemmas.{no_answer, yes_answer}
 use Rattle.mf_store_sound.proofs.receipts.is_ascending.Goals as goal
 
 pub returns-then-not-is_before : goal.returns-then-not-is_before

@@ -2,7 +2,7 @@ use Rattle.std.specs.Prelude.{◌||◌, not}
 use Rattle.mf_account.specs.Kinds.{is_seal}
 use Rattle.mf_account.specs.Lawful.{is_last_of, are_seals_last}
 use Rattle.mf_account.specs.declared.entry.Entry.{Entry}
-use Rattle.mf_store_accounts.specs.Ledgers.{IsReadable}
+use Rattle.mf_store_values.specs.Ledgers.{IsReadable}
 use Rattle.mf_store_sound.proofs.SealLemmas.{test_passed, test_failed, tests_passed}
 use Rattle.mf_store_sound.proofs.seals.are_seals_last.Goals as goal
 

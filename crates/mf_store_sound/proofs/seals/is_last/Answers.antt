@@ -3,7 +3,7 @@ use Rattle.std.specs.Prelude.{◌||◌}
 use Rattle.mf_account.specs.Lawful.{is_last_of}
 use Rattle.mf_account.specs.Standing.{is_before}
 use Rattle.mf_account.specs.declared.entry.Entry.{Entry}
-use Rattle.mf_store_accounts.specs.Ledgers.{IsReadable}
+use Rattle.mf_store_values.specs.Ledgers.{IsReadable}
 use Rattle.mf_store_sound.proofs.SealLemmas.{test_passed, test_failed, tests_passed}
 use Rattle.mf_store_sound.proofs.seals.is_last.Goals as goal
 

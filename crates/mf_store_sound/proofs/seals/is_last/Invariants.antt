@@ -4,8 +4,8 @@ use Rattle.std.specs.List.{AllByRecursion, list_all}
 use Rattle.mf_account.specs.Lawful.{is_last_of}
 use Rattle.mf_account.specs.Standing.{is_before}
 use Rattle.mf_account.specs.declared.entry.Entry.{Entry}
-use Rattle.mf_store_accounts.specs.Ledgers.{IsReadable}
-use Rattle.mf_store_accounts.specs.Flat.{entry_in}
+use Rattle.mf_store_values.specs.Ledgers.{IsReadable}
+use Rattle.mf_store_values.specs.Flat.{entry_in}
 use Rattle.mf_store_sound.proofs.seals.is_last.Given as goal
 
 abbrev pub invariant-loop-row : goal.invariant-loop-row

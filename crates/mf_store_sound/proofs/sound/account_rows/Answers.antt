@@ -2,8 +2,8 @@ use Rattle.std.proofs.Common.{◌≡◌, ℕ, refl}
 use Rattle.std.proofs.lemmas.Result.{IfOk-weaker}
 use Rattle.mf_model.specs.Institution.{Institution}
 use Rattle.mf_model.specs.Sound.{IsSound}
-use Rattle.mf_store_accounts.specs.Accounts.{AreAccounts}
-use Rattle.mf_store_accounts.specs.Flat.{tables_of}
+use Rattle.mf_store_values.specs.Accounts.{AreAccounts}
+use Rattle.mf_store_values.specs.Flat.{tables_of}
 use Rattle.mf_store_sound.specs.Schemas.{first_tables_of, tables_under, without_accounts}
 use Rattle.mf_store_sound.proofs.TableLemmas.{of_parts}
 use Rattle.mf_store_sound.proofs.WholeLemmas.{Told, rows_under_are}

@@ -4,7 +4,7 @@ use Rattle.mf_store_sound.specs.Sound.{AreUnder}
 use Rattle.mf_store_sound.proofs.SoundLemmas.{day_of, charges_part, charges_are, products_part, products_are}
 use Rattle.mf_store_sound.proofs.SoundLemmas.{offices_part, offices_parts, staff_are, callers_part, under_is}
 use Rattle.mf_store_sound.proofs.TableLemmas.{of_parts}
-use Rattle.mf_store_accounts.proofs.AnswerLemmas.{refuses, no_answer}
+use Rattle.mf_store_values.proofs.AnswerLemmas.{refuses, no_answer}
 use Rattle.mf_store_sound.proofs.sound.are_under.Goals as goal
 
 pub returns-then-not-are_numbered-clause-exact : goal.returns-then-not-are_numbered-clause-exact

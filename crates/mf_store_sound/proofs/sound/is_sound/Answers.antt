@@ -1,7 +1,7 @@
 use Rattle.std.proofs.Common.{◌↔◌, IsTrue, refl}
 use Rattle.std.proofs.lemmas.Result.{IfOk-weaker}
-use Rattle.mf_store_accounts.specs.Accounts.{AreAccounts}
-use Rattle.mf_store_accounts.proofs.AnswerLemmas.{refuses, no_answer}
+use Rattle.mf_store_values.specs.Accounts.{AreAccounts}
+use Rattle.mf_store_values.proofs.AnswerLemmas.{refuses, no_answer}
 use Rattle.mf_store_sound.specs.Sound.{AreOfSound}
 use Rattle.mf_store_sound.proofs.TableLemmas.{of_parts}
 use Rattle.mf_store_sound.proofs.WholeLemmas.{Told, under_of_whole, whole_is}

@@ -1,6 +1,6 @@
 use Rattle.std.proofs.Common.{◌↔◌, IsTrue}
 use Rattle.std.proofs.lemmas.Result.{IfOk-weaker}
-use Rattle.mf_store_accounts.proofs.AnswerLemmas.{refuses, no_answer}
+use Rattle.mf_store_values.proofs.AnswerLemmas.{refuses, no_answer}
 use Rattle.mf_store_sound.specs.Sound.{AreOfSoundFirst}
 use Rattle.mf_store_sound.proofs.WholeLemmas.{first_is, first_has_none}
 use Rattle.mf_store_sound.proofs.sound.is_sound_first.Goals as goal

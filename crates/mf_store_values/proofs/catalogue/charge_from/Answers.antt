@@ -3,7 +3,7 @@ use Rattle.std.proofs.lemmas.Int.{to_z-of_z}
 use mir.Syntax.{w64}
 use mir.Val.{SFits}
 use Rattle.mf_catalog.specs.Names.{kind_number, calc_number}
-use Rattle.mf_store_records.specs.declared.charges.ChargeRow.{ChargeRow}
+use Rattle.mf_store_schema.specs.declared.charges.ChargeRow.{ChargeRow}
 use Rattle.mf_store_values.proofs.CatalogueLemmas.{charge_is, choice_is}
 use Rattle.mf_store_values.proofs.catalogue.charge_from.Goals as goal
 

@@ -5,8 +5,8 @@ use mir.Syntax.{w64}
 use mir.Val.{SFits}
 use Rattle.mf_base.specs.Choices.{frequency_number}
 use Rattle.mf_catalog.specs.Names.{method_number, strategy_number}
-use Rattle.mf_store_records.specs.declared.products.ProductRow.{ProductRow}
-use Rattle.mf_store_accounts.specs.Flat.{flag_number}
+use Rattle.mf_store_schema.specs.declared.products.ProductRow.{ProductRow}
+use Rattle.mf_store_values.specs.Flat.{flag_number}
 use Rattle.mf_store_values.proofs.CatalogueLemmas.{product_is, choice_is}
 use Rattle.mf_store_values.proofs.catalogue.product_from.Goals as goal
 

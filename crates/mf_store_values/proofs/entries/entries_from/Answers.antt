@@ -2,8 +2,8 @@ use Rattle.std.proofs.Common.{◌∙◌}
 use Rattle.std.proofs.lemmas.List.{map-id}
 use Rattle.mf_account.specs.declared.entry.Entry.{Entry as ModelEntry}
 use Rattle.mf_office.specs.Texts.{IsCaller}
-use Rattle.mf_store_records.specs.Rows.{entry_row as entry_stored}
-use Rattle.mf_store_accounts.specs.Flat.{entry_in}
+use Rattle.mf_store_schema.specs.Rows.{entry_row as entry_stored}
+use Rattle.mf_store_values.specs.Flat.{entry_in}
 use Rattle.mf_store_values.proofs.ReadLemmas.{mapped_more, mapped_all}
 use Rattle.mf_store_values.proofs.entries.entries_from.Goals as goal
 

@@ -2,8 +2,8 @@ use Rattle.std.proofs.Common.{◌≡◌, ℕ, List, map, take}
 use Rattle.std.specs.List.{AllByRecursion}
 use Rattle.mf_account.specs.declared.entry.Entry.{Entry as ModelEntry}
 use Rattle.mf_office.specs.Texts.{IsCaller}
-use Rattle.mf_store_records.specs.Rows.{entry_row as entry_stored}
-use Rattle.mf_store_accounts.specs.Flat.{entry_in}
+use Rattle.mf_store_schema.specs.Rows.{entry_row as entry_stored}
+use Rattle.mf_store_values.specs.Flat.{entry_in}
 use Rattle.mf_store_values.proofs.entries.entries_from.Given as goal
 
 abbrev pub invariant-loop-row : goal.invariant-loop-row

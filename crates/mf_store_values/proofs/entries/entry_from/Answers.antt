@@ -1,7 +1,7 @@
 use Rattle.std.proofs.Common.{◌≡◌, ◌∙◌, Option, Some, sym, ap, subst}
 use Rattle.std.specs.Option.{IfSome}
-use Rattle.mf_store_records.specs.declared.entries.EntryRow.{EntryRow}
-use Rattle.mf_store_accounts.specs.Decoded.{entry_columns_of}
+use Rattle.mf_store_schema.specs.declared.entries.EntryRow.{EntryRow}
+use Rattle.mf_store_values.specs.Decoded.{entry_columns_of}
 use Rattle.mf_store_values.proofs.entries.entry_from.Goals as goal
 
 held : {A : Type 0} (r : Option A) (x : A) (P : A → Type 0) → r ≡ Some x → IfSome r P → P x

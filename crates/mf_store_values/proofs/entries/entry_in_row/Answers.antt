@@ -2,8 +2,8 @@ use Rattle.std.proofs.Common.{◌≡◌, ℕ}
 use Rattle.std.proofs.lemmas.Result.{IfOk-weaker}
 use Rattle.mf_account.specs.declared.entry.Entry.{Entry as ModelEntry}
 use Rattle.mf_office.specs.Texts.{IsCaller}
-use Rattle.mf_store_records.specs.Rows.{entry_row as entry_stored}
-use Rattle.mf_store_accounts.specs.Flat.{entry_in}
+use Rattle.mf_store_schema.specs.Rows.{entry_row as entry_stored}
+use Rattle.mf_store_values.specs.Flat.{entry_in}
 use Rattle.mf_store_values.proofs.entries.entry_in_row.Goals as goal
 
 pub returns-clause-entry : goal.returns-clause-entry

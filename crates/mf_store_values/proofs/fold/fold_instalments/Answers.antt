@@ -1,7 +1,7 @@
 use Rattle.std.proofs.Common.{◌≡◌, [], ◌∷◌, ◌++◌, Err, refl, inl, inr, ◌∙◌, rules}
 use Rattle.sqlite.specs.Held.{state}
 use Rattle.sqlite.proofs.Callers.{unchanged_then}
-use Rattle.mf_store_records.proofs.CallLemmas.{goes_on}
+use Rattle.mf_store_schema.proofs.CallLemmas.{goes_on}
 use Rattle.mf_store_values.proofs.FoldLemmas.{tells_none, tells_more, tells_line}
 use Rattle.mf_store_values.proofs.RowsLemmas.{no_ok, each_err, clean_before, survives_same, kept_same, kept_then}
 use Rattle.mf_store_values.proofs.RowsLemmas.{given_begins, given_open, given_shown, folds_refused, unread_sums}

@@ -1,5 +1,5 @@
 use Rattle.std.proofs.lemmas.Result.{IfOk-weaker}
-use Rattle.mf_store_accounts.specs.Flat.{instalment_in}
+use Rattle.mf_store_values.specs.Flat.{instalment_in}
 use Rattle.mf_store_values.proofs.instalments.instalment_in_row.Goals as goal
 
 pub returns-clause-row : goal.returns-clause-row

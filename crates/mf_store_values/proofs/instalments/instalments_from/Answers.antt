@@ -2,8 +2,8 @@ use Rattle.std.proofs.Common.{ℕ, [], ◌∷◌, subst, sym}
 use Rattle.std.proofs.lemmas.List.Elements.{All-append, All-cons, All-nil}
 use Rattle.mf_alloc.specs.Sums.{Sums, IsWhole, IsRowWithin, AreWhole, AreWithin}
 use Rattle.mf_alloc.specs.Rows.{no_row}
-use Rattle.mf_store_records.specs.Rows.{instalment_row as instalment_stored}
-use Rattle.mf_store_accounts.specs.Flat.{instalment_in}
+use Rattle.mf_store_schema.specs.Rows.{instalment_row as instalment_stored}
+use Rattle.mf_store_values.specs.Flat.{instalment_in}
 use Rattle.mf_store_values.proofs.ReadLemmas.{mapped_more, mapped_all}
 use Rattle.mf_store_values.proofs.instalments.instalments_from.Goals as goal
 

@@ -1,8 +1,8 @@
 use Rattle.std.proofs.Common.{◌≡◌, ℕ, List, map, take}
 use Rattle.std.specs.List.{AllByRecursion}
 use Rattle.mf_alloc.specs.Sums.{Sums, IsWhole, AreWhole, AreWithin}
-use Rattle.mf_store_records.specs.Rows.{instalment_row as instalment_stored}
-use Rattle.mf_store_accounts.specs.Flat.{instalment_in}
+use Rattle.mf_store_schema.specs.Rows.{instalment_row as instalment_stored}
+use Rattle.mf_store_values.specs.Flat.{instalment_in}
 use Rattle.mf_store_values.proofs.instalments.instalments_from.Given as goal
 
 abbrev pub invariant-loop-row : goal.invariant-loop-row

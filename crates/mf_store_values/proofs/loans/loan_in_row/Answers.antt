@@ -1,6 +1,6 @@
 use Rattle.std.proofs.Common.{ap, ◌∙◌}
-use Rattle.mf_store_records.specs.declared.loans.LoanRow.{LoanRow}
-use Rattle.mf_store_accounts.specs.Flat.{loan_in}
+use Rattle.mf_store_schema.specs.declared.loans.LoanRow.{LoanRow}
+use Rattle.mf_store_values.specs.Flat.{loan_in}
 use Rattle.mf_store_values.proofs.loans.loan_in_row.Goals as goal
 
 pub returns-clause-loan : goal.returns-clause-loan

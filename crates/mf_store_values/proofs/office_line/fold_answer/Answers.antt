@@ -4,7 +4,7 @@ use Rattle.sqlite.specs.Held.{state}
 use Rattle.sqlite.specs.State.{HasCleanDisk, Shown}
 use Rattle.sqlite.specs.Values.{bound}
 use Rattle.mf_store_values.specs.Arrears.{IsLineOf}
-use Rattle.mf_store_tables.proofs.QueryLemmas.{refused_same}
+use Rattle.mf_store_sql.proofs.QueryLemmas.{refused_same}
 use Rattle.mf_store_values.proofs.RowsLemmas.{folded_line, folded_sums}
 use Rattle.mf_store_values.specs.declared.fold.NoLine.TheVariants.{Unread, TooGreat}
 use Rattle.mf_store_values.proofs.office_line.fold_answer.Goals as goal

@@ -1,8 +1,8 @@
 use Rattle.std.proofs.Common.{◌≡◌, Err, true, not, sym, ap, ◌∙◌, rules}
 use Rattle.sqlite.specs.Held.{state}
 use Rattle.sqlite.specs.State.{IsUnchanged}
-use Rattle.mf_store_records.specs.InstalmentsTexts.{lists_by_1}
-use Rattle.mf_store_records.proofs.RangeLemmas.{instalments_of_office}
+use Rattle.mf_store_schema.specs.InstalmentsTexts.{lists_by_1}
+use Rattle.mf_store_schema.proofs.RangeLemmas.{instalments_of_office}
 use Rattle.mf_store_values.proofs.RowsLemmas.{clean_before, prepared_ok, unprepared, folded_unchanged, plain_kept}
 use Rattle.mf_store_values.proofs.RowsLemmas.{at_is_ok, line_read, never_great}
 use Rattle.mf_store_values.proofs.office_line.line_of_office.Goals as goal

@@ -1,7 +1,7 @@
 use Rattle.std.proofs.Common.{ap}
 use Rattle.mf_office.specs.Roles.{role_number}
-use Rattle.mf_store_records.specs.declared.staff.StaffRow.{StaffRow}
-use Rattle.mf_store_accounts.specs.Flat.{staff_in}
+use Rattle.mf_store_schema.specs.declared.staff.StaffRow.{StaffRow}
+use Rattle.mf_store_values.specs.Flat.{staff_in}
 use Rattle.mf_store_values.proofs.CatalogueLemmas.{choice_is}
 use Rattle.mf_store_values.proofs.ReadLemmas.{member_is}
 use Rattle.mf_store_values.proofs.office_rows.member_from.Goals as goal

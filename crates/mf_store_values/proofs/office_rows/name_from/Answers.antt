@@ -1,6 +1,6 @@
 use Rattle.std.proofs.Common.{◌∙◌, ap}
-use Rattle.mf_store_records.specs.declared.clients.ClientRow.{ClientRow}
-use Rattle.mf_store_accounts.specs.Flat.{client_in}
+use Rattle.mf_store_schema.specs.declared.clients.ClientRow.{ClientRow}
+use Rattle.mf_store_values.specs.Flat.{client_in}
 use Rattle.mf_store_values.proofs.office_rows.name_from.Goals as goal
 
 pub returns-clause-name : goal.returns-clause-name

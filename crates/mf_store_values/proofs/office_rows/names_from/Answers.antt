@@ -1,5 +1,5 @@
-use Rattle.mf_store_records.specs.Rows.{client_row}
-use Rattle.mf_store_accounts.specs.Flat.{client_in}
+use Rattle.mf_store_schema.specs.Rows.{client_row}
+use Rattle.mf_store_values.specs.Flat.{client_in}
 use Rattle.mf_store_values.proofs.ReadLemmas.{read_more, read_all}
 use Rattle.mf_store_values.proofs.office_rows.names_from.Goals as goal
 

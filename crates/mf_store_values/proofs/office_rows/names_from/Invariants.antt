@@ -1,6 +1,6 @@
 use Rattle.std.proofs.Common.{◌≡◌, ℕ, List, take}
-use Rattle.mf_store_records.specs.Rows.{client_row}
-use Rattle.mf_store_accounts.specs.Flat.{client_in, numbered_from}
+use Rattle.mf_store_schema.specs.Rows.{client_row}
+use Rattle.mf_store_values.specs.Flat.{client_in, numbered_from}
 use Rattle.mf_store_values.proofs.office_rows.names_from.Given as goal
 
 abbrev pub invariant-loop-row : goal.invariant-loop-row

@@ -1,5 +1,5 @@
-use Rattle.mf_store_records.specs.Rows.{staff_row}
-use Rattle.mf_store_accounts.specs.Flat.{staff_in}
+use Rattle.mf_store_schema.specs.Rows.{staff_row}
+use Rattle.mf_store_values.specs.Flat.{staff_in}
 use Rattle.mf_store_values.proofs.ReadLemmas.{read_more, read_all}
 use Rattle.mf_store_values.proofs.office_rows.staff_from.Goals as goal
 

@@ -1,4 +1,4 @@
-use Rattle.mf_store_accounts.specs.Flat.{office_under}
+use Rattle.mf_store_values.specs.Flat.{office_under}
 use Rattle.mf_store_values.proofs.ReadLemmas.{line_from}
 use Rattle.mf_store_values.proofs.offices.office_from.Goals as goal
 

@@ -1,6 +1,6 @@
 use Rattle.mf_model.specs.Desk.{line_of}
-use Rattle.mf_store_records.specs.Rows.{office_row}
-use Rattle.mf_store_accounts.specs.Flat.{office_under}
+use Rattle.mf_store_schema.specs.Rows.{office_row}
+use Rattle.mf_store_values.specs.Flat.{office_under}
 use Rattle.mf_store_values.proofs.ReadLemmas.{lines_more}
 use Rattle.mf_store_values.proofs.offices.offices_from.Goals as goal
 

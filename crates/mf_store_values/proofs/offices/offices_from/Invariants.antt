@@ -1,8 +1,8 @@
 use Rattle.std.proofs.Common.{◌≡◌, ℕ, List, Option, map, take}
 use Rattle.mf_model.specs.Institution.{Office}
 use Rattle.mf_model.specs.Desk.{line_of}
-use Rattle.mf_store_records.specs.Rows.{office_row}
-use Rattle.mf_store_accounts.specs.Flat.{office_under}
+use Rattle.mf_store_schema.specs.Rows.{office_row}
+use Rattle.mf_store_values.specs.Flat.{office_under}
 use Rattle.mf_store_values.proofs.offices.offices_from.Given as goal
 
 abbrev pub invariant-loop-row : goal.invariant-loop-row

@@ -1,7 +1,7 @@
 use Rattle.std.proofs.Common.{◌≡◌, Some, sym, ◌∙◌}
 use Rattle.std.proofs.lemmas.Result.{IfOk-weaker}
-use Rattle.mf_store_accounts.specs.Flat.{share_in}
-use Rattle.mf_store_accounts.specs.Kept.{part_told}
+use Rattle.mf_store_values.specs.Flat.{share_in}
+use Rattle.mf_store_values.specs.Kept.{part_told}
 use Rattle.mf_store_values.proofs.parts.part_in_row.Goals as goal
 
 pub returns-clause-part : goal.returns-clause-part

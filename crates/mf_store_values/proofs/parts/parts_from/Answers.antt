@@ -1,9 +1,9 @@
 use Rattle.std.proofs.Common.{ℕ}
 use Rattle.mf_account.specs.Applicable.{no_settled}
 use Rattle.mf_account.specs.declared.settled.Settled.{Settled}
-use Rattle.mf_store_records.specs.Rows.{share_row as share_stored}
-use Rattle.mf_store_accounts.specs.Flat.{share_in}
-use Rattle.mf_store_accounts.specs.Kept.{part_told}
+use Rattle.mf_store_schema.specs.Rows.{share_row as share_stored}
+use Rattle.mf_store_values.specs.Flat.{share_in}
+use Rattle.mf_store_values.specs.Kept.{part_told}
 use Rattle.mf_store_values.proofs.ReadLemmas.{mapped_more, mapped_all}
 use Rattle.sqlite_keyed.proofs.ListLemmas.{all_of}
 use Rattle.mf_store_values.proofs.parts.parts_from.Goals as goal

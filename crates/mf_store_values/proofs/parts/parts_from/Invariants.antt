@@ -1,8 +1,8 @@
 use Rattle.std.proofs.Common.{◌≡◌, ℕ, List, map, take}
 use Rattle.mf_account.specs.declared.settled.Settled.{Settled}
-use Rattle.mf_store_records.specs.Rows.{share_row as share_stored}
-use Rattle.mf_store_accounts.specs.Flat.{share_in}
-use Rattle.mf_store_accounts.specs.Kept.{part_told}
+use Rattle.mf_store_schema.specs.Rows.{share_row as share_stored}
+use Rattle.mf_store_values.specs.Flat.{share_in}
+use Rattle.mf_store_values.specs.Kept.{part_told}
 use Rattle.mf_store_values.proofs.parts.parts_from.Given as goal
 
 abbrev pub invariant-loop-row : goal.invariant-loop-row

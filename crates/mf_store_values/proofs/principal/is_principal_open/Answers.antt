@@ -2,7 +2,7 @@ use Rattle.std.proofs.Common.{◌≡◌, Some, ap, slice_get, List, ◌∙◌}
 use Rattle.std.proofs.lemmas.Result.{IfOk-weaker}
 use Rattle.sqlite.specs.Held.{state}
 use Rattle.sqlite.specs.Order.{Row}
-use Rattle.mf_store_records.specs.Rows.{is_instalment}
+use Rattle.mf_store_schema.specs.Rows.{is_instalment}
 use Rattle.mf_store_values.proofs.PrincipalLemmas.{find_principal_plain, first_left, principal_shows}
 use Rattle.mf_store_values.proofs.principal.is_principal_open.Goals as goal
 

@@ -1,5 +1,5 @@
 use Rattle.std.proofs.Common.{inr, refl}
-use Rattle.mf_store_pages.proofs.OpenLemmas.{always_clean}
+use Rattle.mf_store_sql.proofs.OpenLemmas.{always_clean}
 use Rattle.microloan_commands.proofs.batch.answer_lines.Goals as goal
 
 pub returns-clause-ends : goal.returns-clause-ends

@@ -1,7 +1,7 @@
 use Rattle.std.proofs.Common.{refl}
 use Rattle.sqlite.specs.Files.{over_files}
 use Rattle.sqlite.specs.Held.{state}
-use Rattle.mf_store_pages.proofs.OpenLemmas.{always_clean}
+use Rattle.mf_store_sql.proofs.OpenLemmas.{always_clean}
 use Rattle.mf_store.proofs.FirstLemmas.{empty_serves}
 use Rattle.microloan_commands.proofs.first.in_memory.Goals as goal
 

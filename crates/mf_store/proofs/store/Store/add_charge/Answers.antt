@@ -2,9 +2,9 @@ use Rattle.std.proofs.Common.{◌+◌, [], ◌∷◌, ap, ◌∙◌}
 use Rattle.mf_model.specs.declared.store.CatalogueCounts.{CatalogueCounts}
 use Rattle.mf_model.specs.Institution.{Charge}
 use Rattle.mf_model.specs.declared.commit.Commit.TheVariants.{AddCharge}
-use Rattle.mf_store_accounts.specs.Flat.{charge_as}
-use Rattle.mf_store_records.specs.declared.writes.StoreWrite.TheVariants.{PutCharge}
-use Rattle.mf_store_changes.proofs.CatalogueLemmas.{charge_becomes}
+use Rattle.mf_store_values.specs.Flat.{charge_as}
+use Rattle.mf_store_schema.specs.declared.writes.StoreWrite.TheVariants.{PutCharge}
+use Rattle.mf_store_commits.proofs.CatalogueLemmas.{charge_becomes}
 use Rattle.mf_store.proofs.MadeLemmas.{made_by}
 use Rattle.mf_store.specs.declared.known.News.TheVariants.{Catalogue}
 use Rattle.mf_store.proofs.NewsLemmas.{charge_tells}

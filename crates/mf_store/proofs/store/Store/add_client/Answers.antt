@@ -3,10 +3,10 @@ use Rattle.mf_model.specs.declared.commit.Commit.TheVariants.{AddClient}
 use Rattle.mf_model.specs.Store.{rows_at}
 use Rattle.mf_model.specs.declared.store.Counts.{Counts}
 use Rattle.mf_model.specs.Tree.{is_there}
-use Rattle.mf_store_records.specs.declared.clients.ClientRow.{ClientRow}
-use Rattle.mf_store_records.specs.declared.writes.StoreWrite.TheVariants.{PutClient}
+use Rattle.mf_store_schema.specs.declared.clients.ClientRow.{ClientRow}
+use Rattle.mf_store_schema.specs.declared.writes.StoreWrite.TheVariants.{PutClient}
 use Rattle.mf_store.proofs.MadeLemmas.{made_by}
-use Rattle.mf_store_changes.proofs.CommitLemmas.{client_becomes, same_client}
+use Rattle.mf_store_commits.proofs.CommitLemmas.{client_becomes, same_client}
 use Rattle.mf_store.specs.declared.known.News.TheVariants.{OfficeCounts}
 use Rattle.mf_store.proofs.NewsLemmas.{client_tells}
 use Rattle.mf_store.proofs.store.Store.add_client.Goals as goal

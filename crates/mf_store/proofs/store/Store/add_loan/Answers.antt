@@ -5,9 +5,9 @@ use Rattle.mf_model.specs.declared.store.Counts.{Counts}
 use Rattle.mf_model.specs.Store.{IsAdmitted, after_commit}
 use Rattle.mf_model.specs.Tree.{is_there}
 use Rattle.mf_model.specs.Stages.{disbursed_on}
-use Rattle.mf_store_changes.specs.Becoming.{Becomes}
+use Rattle.mf_store_commits.specs.Becoming.{Becomes}
 use Rattle.mf_store.proofs.MadeLemmas.{made_by}
-use Rattle.mf_store_changes.proofs.CommitLemmas.{none_there}
+use Rattle.mf_store_commits.proofs.CommitLemmas.{none_there}
 use Rattle.mf_store.specs.declared.known.News.TheVariants.{OfficeCounts}
 use Rattle.mf_store.proofs.NewsLemmas.{loan_tells}
 use Rattle.mf_store.proofs.store.Store.add_loan.Goals as goal

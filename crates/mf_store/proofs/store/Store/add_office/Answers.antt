@@ -3,10 +3,10 @@ use Rattle.mf_office.specs.Keys.{key_of, child_key}
 use Rattle.mf_model.specs.declared.commit.Commit.TheVariants.{AddOffice}
 use Rattle.mf_model.specs.Institution.{office_at}
 use Rattle.mf_model.specs.Tree.{is_there, parent_of}
-use Rattle.mf_store_records.specs.declared.offices.OfficeRow.{OfficeRow}
-use Rattle.mf_store_records.specs.declared.writes.StoreWrite.TheVariants.{PutOffice}
+use Rattle.mf_store_schema.specs.declared.offices.OfficeRow.{OfficeRow}
+use Rattle.mf_store_schema.specs.declared.writes.StoreWrite.TheVariants.{PutOffice}
 use Rattle.mf_store.proofs.MadeLemmas.{made_by}
-use Rattle.mf_store_changes.proofs.CommitLemmas.{office_becomes, same_office, office_known, none_there}
+use Rattle.mf_store_commits.proofs.CommitLemmas.{office_becomes, same_office, office_known, none_there}
 use Rattle.mf_store.proofs.KeptLemmas.{stays_then}
 use Rattle.mf_store.specs.declared.known.News.TheVariants.{Nothing}
 use Rattle.mf_store.proofs.NewsLemmas.{office_tells}

@@ -4,10 +4,10 @@ use Rattle.mf_model.specs.Store.{rows_at}
 use Rattle.mf_model.specs.declared.store.Counts.{Counts}
 use Rattle.mf_model.specs.Tree.{is_there}
 use Rattle.mf_office.specs.Roles.{role_number}
-use Rattle.mf_store_records.specs.declared.staff.StaffRow.{StaffRow}
-use Rattle.mf_store_records.specs.declared.writes.StoreWrite.TheVariants.{PutStaff}
+use Rattle.mf_store_schema.specs.declared.staff.StaffRow.{StaffRow}
+use Rattle.mf_store_schema.specs.declared.writes.StoreWrite.TheVariants.{PutStaff}
 use Rattle.mf_store.proofs.MadeLemmas.{made_by}
-use Rattle.mf_store_changes.proofs.CommitLemmas.{staff_becomes, same_staff}
+use Rattle.mf_store_commits.proofs.CommitLemmas.{staff_becomes, same_staff}
 use Rattle.mf_store.specs.declared.known.News.TheVariants.{OfficeCounts}
 use Rattle.mf_store.proofs.NewsLemmas.{staff_tells}
 use Rattle.mf_store.proofs.store.Store.add_staff.Goals as goal

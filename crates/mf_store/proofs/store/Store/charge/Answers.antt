@@ -1,7 +1,7 @@
 use Rattle.std.proofs.Common.{Some, sym, ap, ◌∙◌}
 use Rattle.std.specs.Option.{option_map}
 use Rattle.mf_model.specs.Institution.{item_numbered, charge_def}
-use Rattle.mf_store_accounts.specs.Flat.{charge_as}
+use Rattle.mf_store_values.specs.Flat.{charge_as}
 use Rattle.mf_store.proofs.CatalogueLemmas.{known}
 use Rattle.mf_store.proofs.store.Store.charge.Goals as goal
 

@@ -4,7 +4,7 @@ use Rattle.std.specs.Prelude.{IfSome}
 use Rattle.std.proofs.lemmas.Result.{IfOk-weaker}
 use Rattle.mf_alloc.specs.Sums.{Sums, is_open}
 use Rattle.mf_model.specs.Accounts.{status_in}
-use Rattle.mf_store_accounts.specs.Flat.{entries_of}
+use Rattle.mf_store_values.specs.Flat.{entries_of}
 use Rattle.mf_store.proofs.ArrearsLemmas.{active_status}
 use Rattle.mf_store.proofs.InstalmentReadLemmas.{loan_account_sound}
 use Rattle.mf_store.proofs.StatusLemmas.{status_read}

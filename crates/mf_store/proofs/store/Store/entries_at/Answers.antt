@@ -1,9 +1,9 @@
 use Rattle.std.proofs.Common.{◌≡◌, map, filter, ◌∙◌}
 use Rattle.std.proofs.lemmas.Result.{IfOk-weaker}
 use Rattle.mf_model.specs.Store.{ledger_at}
-use Rattle.mf_store_records.specs.Rows.{entry_row as entry_stored, is_entry_of}
-use Rattle.mf_store_accounts.specs.Flat.{tables_of, entries_of}
-use Rattle.mf_store_changes.proofs.EnteredLemmas.{loan_called, loan_entries_shown}
+use Rattle.mf_store_schema.specs.Rows.{entry_row as entry_stored, is_entry_of}
+use Rattle.mf_store_values.specs.Flat.{tables_of, entries_of}
+use Rattle.mf_store_commits.proofs.EnteredLemmas.{loan_called, loan_entries_shown}
 use Rattle.mf_store.proofs.store.Store.entries_at.Goals as goal
 
 pub returns-clause-value : goal.returns-clause-value

@@ -1,7 +1,7 @@
 use Rattle.std.proofs.Common.{◌∙◌}
 use Rattle.std.proofs.lemmas.Result.{IfOk-weaker}
-use Rattle.mf_store_changes.proofs.ReceiptRowLemmas.{receipt_found}
-use Rattle.mf_store_accounts.specs.Flat.{tables_of}
+use Rattle.mf_store_commits.proofs.ReceiptRowLemmas.{receipt_found}
+use Rattle.mf_store_values.specs.Flat.{tables_of}
 use Rattle.mf_store_commits.proofs.StandLemmas.{unchanged_stays}
 use Rattle.mf_store.proofs.KeptLemmas.{known_asks}
 use Rattle.mf_store.proofs.store.Store.find_receipt.Goals as goal

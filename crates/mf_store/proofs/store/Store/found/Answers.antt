@@ -1,5 +1,5 @@
 use Rattle.std.proofs.Common.{sym, subst}
-use Rattle.mf_store_changes.specs.Becoming.{Begins}
+use Rattle.mf_store_commits.specs.Becoming.{Begins}
 use Rattle.mf_model.specs.Institution.{newly_made}
 use Rattle.mf_store.proofs.FirstLemmas.{founded_stands, unfounded}
 use Rattle.mf_store_commits.proofs.StandLemmas.{made_leaves}

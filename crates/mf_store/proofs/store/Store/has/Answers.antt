@@ -1,5 +1,5 @@
 use Rattle.mf_model.specs.Store.{rows_at}
-use Rattle.mf_store_accounts.specs.Flat.{staff_in, client_in, charge_as, product_as}
+use Rattle.mf_store_values.specs.Flat.{staff_in, client_in, charge_as, product_as}
 use Rattle.mf_store.proofs.LookLemmas.{there_by}
 use Rattle.mf_store.proofs.store.Store.has.Goals as goal
 

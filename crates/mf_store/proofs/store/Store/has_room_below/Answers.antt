@@ -1,6 +1,6 @@
 use Rattle.std.proofs.Common.{ap, ◌∙◌}
 use Rattle.mf_model.specs.Tree.{is_there, parent_of}
-use Rattle.mf_store_accounts.specs.Flat.{key_at, has_room}
+use Rattle.mf_store_values.specs.Flat.{key_at, has_room}
 use Rattle.mf_store.proofs.VisibleLemmas.{room_is}
 use Rattle.mf_store.proofs.store.Store.has_room_below.Goals as goal
 

@@ -2,8 +2,8 @@ use Rattle.std.proofs.Common.{◌≡◌, [], map, filter, ◌∙◌}
 use Rattle.std.proofs.lemmas.Result.{IfOk-weaker}
 use Rattle.mf_account.specs.Loan.{state_of_loan}
 use Rattle.mf_model.specs.Accounts.{account_in, of_account}
-use Rattle.mf_store_records.specs.Rows.{instalment_row as instalment_stored, is_instalment_of}
-use Rattle.mf_store_accounts.specs.Flat.{tables_of, instalments_kept, kept_of}
+use Rattle.mf_store_schema.specs.Rows.{instalment_row as instalment_stored, is_instalment_of}
+use Rattle.mf_store_values.specs.Flat.{tables_of, instalments_kept, kept_of}
 use Rattle.mf_store.proofs.InstalmentReadLemmas.{instalments_shown, kept_whole, no_instalments, sums_kept}
 use Rattle.mf_store.proofs.store.Store.instalments_at.Goals as goal
 

@@ -1,7 +1,7 @@
 use Rattle.std.proofs.Common.{ap, ◌∙◌}
 use Rattle.mf_office.specs.declared.account.Account.{Account}
 use Rattle.mf_model.specs.Store.{ledger_at}
-use Rattle.mf_store_accounts.specs.Flat.{entries_of}
+use Rattle.mf_store_values.specs.Flat.{entries_of}
 use Rattle.mf_store.proofs.store.Store.ledger_of.Goals as goal
 
 pub returns-clause-value : goal.returns-clause-value

@@ -1,7 +1,7 @@
 use Rattle.std.proofs.Common.{ℕ}
 use Rattle.mf_model.specs.Institution.{Ledger}
-use Rattle.mf_store_records.specs.Rows.{loan_row}
-use Rattle.mf_store_accounts.specs.Flat.{loan_in}
+use Rattle.mf_store_schema.specs.Rows.{loan_row}
+use Rattle.mf_store_values.specs.Flat.{loan_in}
 use Rattle.mf_store.proofs.KeptLemmas.{stays_then}
 use Rattle.mf_store.proofs.LoanLemmas.{IsLoanOf, no_loan}
 use Rattle.mf_store_values.proofs.ReadLemmas.{mapped_more, mapped_all}

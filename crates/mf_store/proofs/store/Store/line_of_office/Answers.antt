@@ -1,6 +1,6 @@
 use Rattle.std.proofs.Common.{arith}
 use Rattle.mf_model.specs.Store.{rows_at}
-use Rattle.mf_store_accounts.specs.Flat.{tables_of}
+use Rattle.mf_store_values.specs.Flat.{tables_of}
 use Rattle.mf_store.proofs.KeptLemmas.{known_stays}
 use Rattle.mf_store.proofs.OfficeLoansLemmas.{loans_from, above_from, office_rows, office_accounts, whole_from}
 use Rattle.mf_store.proofs.OfficeLoansLemmas.{within_from}

@@ -1,8 +1,8 @@
 use Rattle.std.proofs.Common.{◌≡◌, ℕ, List, map, take}
 use Rattle.std.specs.List.{AllByRecursion}
 use Rattle.mf_model.specs.Institution.{Institution, Ledger}
-use Rattle.mf_store_records.specs.Rows.{loan_row}
-use Rattle.mf_store_accounts.specs.Flat.{loan_in, line_in}
+use Rattle.mf_store_schema.specs.Rows.{loan_row}
+use Rattle.mf_store_values.specs.Flat.{loan_in, line_in}
 use Rattle.mf_store.specs.Stands.{Stays, StandsFor, IsClean, IsOpen}
 use Rattle.mf_store.proofs.LoanLemmas.{IsLoanOf}
 use Rattle.mf_store.proofs.store.Store.lines_of.Given as goal

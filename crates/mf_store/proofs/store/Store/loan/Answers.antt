@@ -1,9 +1,9 @@
 use Rattle.std.proofs.Common.{Some, sym, ap, ◌∙◌}
 use Rattle.mf_model.specs.Institution.{item_numbered}
 use Rattle.mf_model.specs.Store.{rows_at}
-use Rattle.mf_store_accounts.specs.Flat.{loan_in, loans_of, loan_row_at}
+use Rattle.mf_store_values.specs.Flat.{loan_in, loans_of, loan_row_at}
 use Rattle.mf_store.proofs.CatalogueLemmas.{known}
-use Rattle.mf_store_changes.proofs.LoanLemmas.{numbered_loan}
+use Rattle.mf_store_commits.proofs.LoanLemmas.{numbered_loan}
 use Rattle.mf_store.proofs.store.Store.loan.Goals as goal
 
 pub returns-clause-value : goal.returns-clause-value

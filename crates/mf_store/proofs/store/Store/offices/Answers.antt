@@ -3,8 +3,8 @@ use Rattle.std.proofs.lemmas.Result.{IfOk-weaker}
 use Rattle.mf_model.specs.Institution.{Office}
 use Rattle.mf_model.specs.Tree.{parent_of, seen_by}
 use Rattle.mf_model.specs.Desk.{line_of}
-use Rattle.mf_store_records.specs.Rows.{office_row}
-use Rattle.mf_store_accounts.specs.Flat.{key_at, office_under}
+use Rattle.mf_store_schema.specs.Rows.{office_row}
+use Rattle.mf_store_values.specs.Flat.{key_at, office_under}
 use Rattle.mf_store.proofs.VisibleLemmas.{none_seen, offices_are}
 use Rattle.mf_store.proofs.store.Store.offices.Goals as goal
 

@@ -1,8 +1,8 @@
 use Rattle.std.proofs.Common.{◌≡◌, map, filter, ◌∙◌}
 use Rattle.std.proofs.lemmas.Result.{IfOk-weaker}
-use Rattle.mf_store_records.specs.Rows.{share_row as share_stored, is_share_of}
-use Rattle.mf_store_accounts.specs.Flat.{tables_of, shares_kept, kept_of}
-use Rattle.mf_store_accounts.specs.Kept.{part_told}
+use Rattle.mf_store_schema.specs.Rows.{share_row as share_stored, is_share_of}
+use Rattle.mf_store_values.specs.Flat.{tables_of, shares_kept, kept_of}
+use Rattle.mf_store_values.specs.Kept.{part_told}
 use Rattle.mf_store.proofs.PartReadLemmas.{shares_shown}
 use Rattle.mf_store.proofs.store.Store.parts_at.Goals as goal
 

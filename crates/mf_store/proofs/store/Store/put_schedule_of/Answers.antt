@@ -2,8 +2,8 @@ use Rattle.std.proofs.Common.{◌≡◌, ◌++◌, List, length, sym, ap, ◌∙
 use Rattle.std.proofs.lemmas.List.{length-append}
 use Rattle.std.proofs.lemmas.Result.{on_ok_weaker}
 use Rattle.mf_alloc.specs.Sums.{Sums}
-use Rattle.mf_store_changes.specs.ChangeWrites.{schedule_put}
-use Rattle.mf_store_accounts.specs.Flat.{numbered_from}
+use Rattle.mf_store_commits.specs.ChangeWrites.{schedule_put}
+use Rattle.mf_store_values.specs.Flat.{numbered_from}
 use Rattle.mf_store.proofs.LoanLemmas.{fresh_rows}
 use Rattle.mf_store.proofs.store.Store.put_schedule_of.Goals as goal
 

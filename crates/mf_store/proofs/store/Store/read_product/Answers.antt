@@ -1,7 +1,7 @@
 use Rattle.std.proofs.Common.{Some, sym, ap, ◌∙◌}
 use Rattle.std.specs.Option.{option_map}
 use Rattle.mf_model.specs.Institution.{item_numbered, product_of as product_numbered}
-use Rattle.mf_store_accounts.specs.Flat.{product_as}
+use Rattle.mf_store_values.specs.Flat.{product_as}
 use Rattle.mf_store.proofs.CatalogueLemmas.{known}
 use Rattle.mf_store.proofs.store.Store.read_product.Goals as goal
 

@@ -1,9 +1,9 @@
 use Rattle.std.proofs.Common.{◌≡◌, find, option_map, Some, sym, ap, ◌∙◌}
 use Rattle.mf_model.specs.Receipts.{Use}
 use Rattle.mf_model.specs.Store.{use_at}
-use Rattle.mf_store_records.specs.Rows.{is_entry}
-use Rattle.mf_store_accounts.specs.Flat.{entry_in, tables_of}
-use Rattle.mf_store_accounts.specs.ReceiptRows.{receipt_in}
+use Rattle.mf_store_schema.specs.Rows.{is_entry}
+use Rattle.mf_store_values.specs.Flat.{entry_in, tables_of}
+use Rattle.mf_store_values.specs.ReceiptRows.{receipt_in}
 use Rattle.mf_store.proofs.CatalogueLemmas.{known}
 use Rattle.mf_store.proofs.UseLemmas.{carrier}
 use Rattle.mf_store.proofs.store.Store.receipt.Goals as goal

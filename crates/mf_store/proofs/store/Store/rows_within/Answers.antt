@@ -1,4 +1,4 @@
-use Rattle.mf_store_accounts.specs.Flat.{tables_of}
+use Rattle.mf_store_values.specs.Flat.{tables_of}
 use Rattle.mf_store.proofs.KeptLemmas.{known_asks}
 use Rattle.mf_store_commits.proofs.StandLemmas.{unchanged_stays}
 use Rattle.mf_store.proofs.store.Store.rows_within.Goals as goal

@@ -1,8 +1,8 @@
 use Rattle.std.proofs.Common.{[], ◌∷◌, refl, ◌∙◌}
 use Rattle.mf_model.specs.declared.commit.Commit.TheVariants.{SetDay}
-use Rattle.mf_store_records.specs.declared.meta.MetaRow.{MetaRow}
-use Rattle.mf_store_records.specs.declared.writes.StoreWrite.TheVariants.{PutMeta}
-use Rattle.mf_store_changes.proofs.CatalogueLemmas.{day_becomes}
+use Rattle.mf_store_schema.specs.declared.meta.MetaRow.{MetaRow}
+use Rattle.mf_store_schema.specs.declared.writes.StoreWrite.TheVariants.{PutMeta}
+use Rattle.mf_store_commits.proofs.CatalogueLemmas.{day_becomes}
 use Rattle.mf_store.proofs.MadeLemmas.{made_by}
 use Rattle.mf_store.proofs.KeptLemmas.{stays_same}
 use Rattle.mf_store.specs.declared.known.News.TheVariants.{BusinessDay}

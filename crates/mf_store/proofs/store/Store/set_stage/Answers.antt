@@ -1,7 +1,7 @@
 use Rattle.std.proofs.Common.{sym, subst}
 use Rattle.mf_model.specs.declared.commit.Commit.TheVariants.{SetStage}
 use Rattle.mf_model.specs.Store.{after_commit}
-use Rattle.mf_store_changes.specs.Becoming.{Becomes}
+use Rattle.mf_store_commits.specs.Becoming.{Becomes}
 use Rattle.mf_store.specs.declared.known.News.TheVariants as news
 use Rattle.mf_store.proofs.MadeLemmas.{made_by}
 use Rattle.mf_store.proofs.NewsLemmas.{stage_tells}

@@ -6,16 +6,16 @@ use Rattle.mf_model.specs.Loans.{with_stage}
 use Rattle.mf_model.specs.Stages.{disbursed_on}
 use Rattle.mf_model.specs.Store.{ledger_at}
 use Rattle.mf_model.specs.declared.loan.Loan.{Loan}
-use Rattle.mf_store_records.specs.declared.writes.StoreWrite.TheVariants.{PutLoan}
-use Rattle.mf_store_changes.specs.ChangeWrites.{schedule_put}
-use Rattle.mf_store_changes.specs.Suiting.{Carries}
-use Rattle.mf_store_accounts.specs.Flat.{instalments_kept, kept_of, loan_in}
-use Rattle.mf_store_changes.proofs.CommitLemmas.{none_there}
+use Rattle.mf_store_schema.specs.declared.writes.StoreWrite.TheVariants.{PutLoan}
+use Rattle.mf_store_commits.specs.ChangeWrites.{schedule_put}
+use Rattle.mf_store_commits.specs.Suiting.{Carries}
+use Rattle.mf_store_values.specs.Flat.{instalments_kept, kept_of, loan_in}
+use Rattle.mf_store_commits.proofs.CommitLemmas.{none_there}
 use Rattle.mf_store.proofs.CatalogueLemmas.{known}
-use Rattle.mf_store_changes.proofs.EnteredLemmas.{no_entries}
+use Rattle.mf_store_commits.proofs.EnteredLemmas.{no_entries}
 use Rattle.mf_store.proofs.KeptLemmas.{stays_then}
-use Rattle.mf_store_changes.proofs.LoanLemmas.{staged_becomes, loan_of}
-use Rattle.mf_store_changes.proofs.SuitLemmas.{stage_suits}
+use Rattle.mf_store_commits.proofs.LoanLemmas.{staged_becomes, loan_of}
+use Rattle.mf_store_commits.proofs.SuitLemmas.{stage_suits}
 use Rattle.mf_store.proofs.store.Store.stage_writes.Goals as goal
 
 pub returns-clause-kept : goal.returns-clause-kept

@@ -2,7 +2,7 @@ use Rattle.std.proofs.Common.{◌≡◌, ap, ap₂, ◌∙◌}
 use Rattle.std.specs.Option.{is_some}
 use Rattle.std.proofs.lemmas.Result.{IfOk-weaker}
 use Rattle.mf_model.specs.Tree.{seen_office}
-use Rattle.mf_store_accounts.specs.Flat.{key_at, sees}
+use Rattle.mf_store_values.specs.Flat.{key_at, sees}
 use Rattle.mf_store.proofs.VisibleLemmas.{visible_is}
 use Rattle.mf_store.proofs.store.Store.visible.Goals as goal
 

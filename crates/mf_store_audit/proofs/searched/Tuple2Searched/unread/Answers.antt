@@ -1,5 +1,5 @@
 use Rattle.sqlite.specs.Held.{state}
-use Rattle.mf_store_rows.proofs.ReadLemmas.{unchanged_then}
+use Rattle.mf_store_schema.proofs.ReadLemmas.{unchanged_then}
 use Rattle.mf_store_audit.proofs.searched.Tuple2Searched.unread.Goals as goal
 
 pub returns-clause-kept : goal.returns-clause-kept

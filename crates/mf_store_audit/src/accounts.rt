@@ -1,0 +1,73 @@
+//! Where the rows of accounts differ from those that replaying the loans' entries gives.
+
+ghost use Rattle.std.specs.Prelude.{◌≡◌, ◌≢◌, ℕ, IfSome, IsNone, IfOk, IfErr, slice_get};
+ghost use Rattle.mf_base.specs.declared.fault.Fault.TheVariants.{F20};
+ghost use Rattle.mf_model.specs.Institution.{Institution};
+ghost use Rattle.mf_model.specs.Sound.{IsSound};
+ghost use Rattle.mf_store_values.specs.Flat.{tables_of};
+ghost use Rattle.mf_store_sound.specs.Schemas.{tables_under, without_accounts};
+ghost use Rattle.mf_store_audit.specs.Findings.{Breaks};
+
+use crate::finding::Finding;
+use mf_base::Fault;
+use mf_store_schema::{InstalmentRow, ShareRow};
+use mf_store_sound::Tables;
+use mf_store_values::{Same, rows_of_accounts};
+use std::alloc::Global;
+
+/// The first place at which two lists of rows differ; one of the two may have no row there.
+fn first_difference<T: Same>(rows: &[T], others: &[T]) -> Option<usize>
+    ensures some { IfSome result (λ place. slice_get rows.now place ≢ slice_get others.now place) }
+    ensures none { IsNone result → rows.now ≡ others.now }
+{
+    let shorter = if rows.len() < others.len() {
+        rows.len()
+    } else {
+        others.len()
+    };
+    for place in 0..shorter {
+        if !rows[place].is_same(&others[place]) {
+            return Some(place);
+        }
+    }
+    if rows.len() == others.len() {
+        None
+    } else {
+        Some(shorter)
+    }
+}
+
+/// The rows of instalments and of shares that replaying the entries of all loans gives.
+fn made_rows(alloc: Global, tables: &Tables) -> Result<(Vec<InstalmentRow>, Vec<ShareRow>), Fault>
+    ensures rows { IfOk result (λ rows. (schema : ℕ) (i : Institution) → IsSound i →
+        tables_under schema i ≡ without_accounts tables.now →
+        (rows.0.items ≡ (tables_of i).instalments) × (rows.1.items ≡ (tables_of i).shares)) }
+    ensures gives_up { IfErr result (λ fault. fault ≡ F20) }
+{
+    rows_of_accounts(
+        alloc,
+        &tables.charges,
+        &tables.products,
+        &tables.loans,
+        &tables.entries,
+    )
+}
+
+/// The first place at which the rows of instalments, or else those of shares, are not those that replaying the entries
+/// of all loans gives. The error is F20, out of memory.
+pub(crate) fn differing_account(alloc: Global, tables: &Tables) -> Result<Option<Finding>, Fault>
+    ensures found { IfOk result (λ found. (schema today : ℕ) → IfSome found (Breaks schema today tables.now)) }
+    ensures none { IfOk result (λ found. IsNone found → (schema : ℕ) (i : Institution) → IsSound i →
+        tables_under schema i ≡ without_accounts tables.now →
+        ((tables_of i).instalments ≡ tables.now.instalments) × ((tables_of i).shares ≡ tables.now.shares)) }
+    ensures gives_up { IfErr result (λ fault. fault ≡ F20) }
+{
+    let (instalments, shares) = made_rows(alloc, tables)?;
+    if let Some(place) = first_difference(&instalments, &tables.instalments) {
+        return Ok(Some(Finding::Instalment { place }));
+    }
+    if let Some(place) = first_difference(&shares, &tables.shares) {
+        return Ok(Some(Finding::Share { place }));
+    }
+    Ok(None)
+}

@@ -1,3 +1,0 @@
-pub mod Becoming
-pub mod ChangeWrites
-pub mod Suiting

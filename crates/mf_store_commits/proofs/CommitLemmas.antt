@@ -1,0 +1,353 @@
+-- Commits in the words of the institution: from the writes to the change.
+use Rattle.std.proofs.Common.{◌≡◌, ◌<◌, ◌+◌, ℕ, zero, suc, Bool, true, false, cond, List, [], ◌∷◌, map, length, Option}
+use Rattle.std.proofs.Common.{None, Some, refl, sym, ap, ◌∙◌, arith, ◌==◌, nat_lt, true≢false, Less, Greater, nat_cmp}
+use Rattle.std.specs.Option.{is_some, option_map}
+use Rattle.std.specs.List.{AllByRecursion}
+use Rattle.std.proofs.lemmas.Bool.Decides.{nat_tests}
+use Rattle.mf_office.specs.declared.staff.Role.{Role}
+use Rattle.mf_office.specs.Keys.{key_of, key_within, key_under, child_key}
+use Rattle.mf_office.specs.Tree.{IsTreeOf}
+use Rattle.mf_office.proofs.KeyLemmas.{key_of-child}
+use Rattle.mf_store_sql.specs.Keep.{put_item}
+use Rattle.mf_model.specs.declared.commit.Commit.TheVariants.{AddOffice, AddStaff, AddClient}
+use Rattle.mf_model.specs.Institution.{Institution, Office, Rows, office_at, with_rows, with_office, new_office}
+use Rattle.mf_model.specs.Desk.{staff_added, client_added}
+use Rattle.mf_model.specs.Sound.{IsSound}
+use Rattle.mf_model.specs.Store.{after_commit, rows_at}
+use Rattle.mf_model.specs.Tree.{parent_of, is_there, Above, Ascending}
+use Rattle.mf_store_schema.specs.Rows.{Lists, by_office, by_staff, by_client, by_loan}
+use Rattle.mf_store_schema.specs.declared.offices.OfficeRow.{OfficeRow}
+use Rattle.mf_store_schema.specs.declared.staff.StaffRow.{StaffRow}
+use Rattle.mf_store_schema.specs.declared.clients.ClientRow.{ClientRow}
+use Rattle.mf_store_schema.specs.declared.loans.LoanRow.{LoanRow}
+use Rattle.mf_store_schema.specs.declared.entries.EntryRow.{EntryRow}
+use Rattle.mf_store_schema.specs.declared.receipts.ReceiptRow.{ReceiptRow}
+use Rattle.mf_store_schema.specs.declared.instalments.InstalmentRow.{InstalmentRow}
+use Rattle.mf_store_schema.specs.declared.shares.ShareRow.{ShareRow}
+use Rattle.mf_store_values.specs.Flat.{tables_of, office_under, key_at, staff_in, client_in, loan_in, loans_of}
+use Rattle.mf_store_values.specs.Flat.{entry_in, own_entries}
+use Rattle.mf_store_schema.specs.declared.writes.StoreWrite.TheVariants.{PutOffice, PutStaff, PutClient}
+use Rattle.mf_store_commits.specs.Becoming.{Becomes}
+use Rattle.mf_store_commits.proofs.AccountRowLemmas.{SameRows, rows_same, office_same}
+use Rattle.mf_store_commits.proofs.LoanRowLemmas.{same_by_loan, none_in_office}
+use Rattle.mf_store_commits.proofs.FlatLemmas.{put_row_of, same_rows_of, no_rows_of, put_first, put_past}
+use Rattle.mf_store_commits.proofs.ReceiptRowLemmas.{same_receipts_of, no_receipts_in}
+
+-- ---- from the calls to the commit
+
+-- the rows of the offices, where the catalogue's are as they were
+pub same_lists : (i : Institution) {o p : List OfficeRow} {s t : List StaffRow} {c d : List ClientRow}
+    {l m : List LoanRow} {e f : List EntryRow} {q r : List ReceiptRow} {v w : List InstalmentRow} {y z : List ShareRow}
+    → o ≡ p → s ≡ t → c ≡ d → l ≡ m → e ≡ f → q ≡ r → v ≡ w → y ≡ z
+    → ◌≡◌ {A = Lists} (record (tables_of i) {
+      offices = o;
+      staff = s;
+      clients = c;
+      loans = l;
+      entries = e;
+      receipts = q;
+      instalments = v;
+      shares = y;
+    }) (record (tables_of i) {
+      offices = p;
+      staff = t;
+      clients = d;
+      loans = m;
+      entries =
+          f;
+      receipts = r;
+      instalments = w;
+      shares = z;
+    })
+same_lists i a b e h j u v y = λ k. record (tables_of i) {
+  offices = a k;
+  staff = b k;
+  clients = e k;
+  loans = h k;
+  entries = j k;
+  receipts = u k;
+  instalments = v k;
+  shares = y k;
+}
+
+-- ---- one more row of an office
+
+parent_of-with_rows : (x : ℕ) (new : Rows) (fs : List Office) (y : ℕ) → parent_of (with_rows x new fs) y
+    ≡ parent_of fs y
+parent_of-with_rows x new [] y = refl
+parent_of-with_rows x new (f ∷ fs) y = ap (λ o. cond (f.number == y) f.parent o) (parent_of-with_rows x new fs y)
+
+under-with_rows : (ps : ℕ → Option ℕ) (x : ℕ) (new : Rows) (fs : List Office) → map (office_under ps) fs
+    ≡ map (office_under ps) (with_rows x new fs)
+under-with_rows ps x new [] = refl
+under-with_rows ps x new (f ∷ fs) = ap (λ l. office_under ps f ∷ l) (under-with_rows ps x new fs)
+
+pub offices-with_rows : (x : ℕ) (new : Rows) (fs : List Office) → map (office_under (parent_of fs)) fs
+    ≡ map (office_under (parent_of (with_rows x new fs))) (with_rows x new fs)
+offices-with_rows x new fs = under-with_rows (parent_of fs) x new fs
+    ∙ (λ k. map (office_under (λ y. sym (parent_of-with_rows x new fs y) k)) (with_rows x new fs))
+
+pub client_becomes : (x : ℕ) (name : List ℕ) (i : Institution) (c : ClientRow) → IsSound i
+    → IsSound (after_commit (AddClient x name) i) → is_there i.offices x ≡ true
+    → c ≡ client_in x (length (rows_at x i).clients + 1) name
+    → Becomes (PutClient c ∷ []) i (after_commit (AddClient x name) i)
+client_becomes x name i c before sound there is = record {
+  sound = sound;
+  fits = (refl, tt);
+  is = ap Some (same_lists i (offices-with_rows x new i.offices) (same_rows_of staff_in (λ rows. rows.staff) refl
+      by_staff (λ x n y m a b. refl) x new i.offices before.tree.ascending refl)
+      (ap (λ r. put_item by_client r (tables_of i).clients) is ∙ put_row_of client_in (λ rows. rows.clients) refl
+      by_client (λ x n y m a b. refl) x name new i.offices before.tree.ascending there refl)
+      (same_rows_of loan_in loans_of refl by_loan (λ x n y m a b. refl) x new i.offices before.tree.ascending refl)
+      (same_by_loan entry_in own_entries x new i.offices before.tree.ascending (λ y n. refl))
+      (same_receipts_of x new i.offices before.tree.ascending refl) accounts.instalments accounts.shares);
+}
+  where
+    new : Rows
+    new = client_added name (rows_at x i)
+
+    accounts : SameRows i.catalogue i.catalogue i.offices (with_rows x new i.offices)
+    accounts = rows_same i.catalogue x new i.offices before.tree.ascending (λ y n. refl) (λ y n. refl)
+
+pub staff_becomes : (x : ℕ) (name : List ℕ) (role : Role) (i : Institution) (s : StaffRow) → IsSound i
+    → IsSound (after_commit (AddStaff x name role) i) → is_there i.offices x ≡ true
+    → s ≡ staff_in x (length (rows_at x i).staff + 1) (record { name = name; role = role })
+    → Becomes (PutStaff s ∷ []) i (after_commit (AddStaff x name role) i)
+staff_becomes x name role i s before sound there is = record {
+  sound = sound;
+  fits = (refl, tt);
+  is = ap Some (same_lists i (offices-with_rows x new i.offices)
+      (ap (λ r. put_item by_staff r (tables_of i).staff) is ∙ put_row_of staff_in (λ rows. rows.staff) refl by_staff
+      (λ x n y m a b. refl) x (record { name = name; role = role }) new i.offices before.tree.ascending there refl)
+      (same_rows_of client_in (λ rows. rows.clients) refl by_client (λ x n y m a b. refl) x new i.offices
+      before.tree.ascending refl)
+      (same_rows_of loan_in loans_of refl by_loan (λ x n y m a b. refl) x new i.offices before.tree.ascending refl)
+      (same_by_loan entry_in own_entries x new i.offices before.tree.ascending (λ y n. refl))
+      (same_receipts_of x new i.offices before.tree.ascending refl) accounts.instalments accounts.shares);
+}
+  where
+    new : Rows
+    new = staff_added name role (rows_at x i)
+
+    accounts : SameRows i.catalogue i.catalogue i.offices (with_rows x new i.offices)
+    accounts = rows_same i.catalogue x new i.offices before.tree.ascending (λ y n. refl) (λ y n. refl)
+
+-- ---- a new office
+
+-- no office below a new one has another key
+key_kept : (n : ℕ) (ps qs : ℕ → Option ℕ) (there : ℕ → Bool) → ((x p : ℕ) → there x ≡ true → ps x ≡ Some p
+    → there p ≡ true) → ((x : ℕ) → there x ≡ true → qs x ≡ ps x) → (x : ℕ) → there x ≡ true → key_within n qs x
+    ≡ key_within n ps x
+unfolding key_within
+key_kept zero ps qs there closed alike x h = refl
+key_kept (suc n) ps qs there closed alike x h =
+    go (ps x) refl (λ p e. key_kept n ps qs there closed alike p (closed x p h e))
+  where
+    go : (o : Option ℕ) → ps x ≡ o → ((p : ℕ) → ps x ≡ Some p → key_within n qs p ≡ key_within n ps p)
+        → key_within (suc n) qs x ≡ key_within (suc n) ps x
+    go None e more = ap (λ o. key_under o (λ p. key_within n qs p) x) (alike x h ∙ e)
+        ∙ sym (ap (λ o. key_under o (λ p. key_within n ps p) x) e)
+    go (Some p) e more = ap (λ o. key_under o (λ p. key_within n qs p) x) (alike x h ∙ e) ∙ ap (λ k. child_key k x)
+        (more p e) ∙ sym (ap (λ o. key_under o (λ p. key_within n ps p) x) e)
+
+parent_of-with_office : (new : Office) (fs : List Office) (y : ℕ) → (new.number == y) ≡ false
+    → parent_of (with_office new fs) y ≡ parent_of fs y
+parent_of-with_office new [] y h = rw h
+parent_of-with_office new (f ∷ fs) y h = go (nat_lt new.number f.number) (parent_of-with_office new fs y h)
+  where
+    go : (b : Bool) → parent_of (with_office new fs) y ≡ parent_of fs y
+        → parent_of (cond b (new ∷ f ∷ fs) (f ∷ with_office new fs)) y ≡ parent_of (f ∷ fs) y
+    go true more = rw h
+    go false more = ap (λ o. cond (f.number == y) f.parent o) more
+
+parent_of-new : (new : Office) (fs : List Office) → office_at new.number fs ≡ None
+    → parent_of (with_office new fs) new.number ≡ new.parent
+parent_of-new new [] h = let same : (new.number == new.number) ≡ true = grind (arith, nat_tests) in rw same
+parent_of-new new (f ∷ fs) h = go (nat_lt new.number f.number) (f.number == new.number) refl h (parent_of-new new fs)
+  where
+    go : (b d : Bool) → (f.number == new.number) ≡ d → cond d (Some f) (office_at new.number fs) ≡ None
+        → (office_at new.number fs ≡ None → parent_of (with_office new fs) new.number ≡ new.parent)
+        → parent_of (cond b (new ∷ f ∷ fs) (f ∷ with_office new fs)) new.number ≡ new.parent
+    go true d e h more = let same : (new.number == new.number) ≡ true = grind (arith, nat_tests) in rw same
+    go false true e h more = absurd (let k : Some f ≡ None = h in cc)
+    go false false e h more = rw e (more h)
+
+new_there : (new : Office) (fs : List Office) → is_there (with_office new fs) new.number ≡ true
+new_there new [] = let same : (new.number == new.number) ≡ true = grind (arith, nat_tests) in rw same
+new_there new (f ∷ fs) = go (nat_lt new.number f.number) (f.number == new.number) (new_there new fs)
+  where
+    first : (gs : List Office) → is_there (new ∷ gs) new.number ≡ true
+    first gs = let same : (new.number == new.number) ≡ true = grind (arith, nat_tests) in rw same
+
+    rest : (d : Bool) → is_there (with_office new fs) new.number ≡ true
+        → is_some (cond d (Some f) (office_at new.number (with_office new fs))) ≡ true
+    rest true h = refl
+    rest false h = h
+
+    go : (b d : Bool) → is_there (with_office new fs) new.number ≡ true
+        → is_there (cond b (new ∷ f ∷ fs) (f ∷ with_office new fs)) new.number ≡ true
+    go true d h = first (f ∷ fs)
+    go false d h = rest (f.number == new.number) h
+
+-- an office that is there is another than one that isn't
+apart : (x y : ℕ) (fs : List Office) → office_at x fs ≡ None → is_there fs y ≡ true → (x == y) ≡ false
+apart x y fs none there = go (x == y) refl
+  where
+    go : (b : Bool) → (x == y) ≡ b → b ≡ false
+    go false e = refl
+    go true e = let same : x ≡ y = grind (arith, nat_tests) in
+        absurd (true≢false (sym there ∙ ap (λ z. is_some (office_at z fs)) (sym same) ∙ ap is_some none))
+
+-- offices whose keys are the same under both
+under_alike : (ps qs : ℕ → Option ℕ) (fs : List Office) → AllByRecursion (λ (f : Office). key_of qs f.number
+    ≡ key_of ps f.number) fs → map (office_under ps) fs ≡ map (office_under qs) fs
+under_alike ps qs [] all = refl
+under_alike ps qs (f ∷ fs) all = ap (λ k. record { number = f.number; parent = f.parent; hkey = k; name = f.name }
+    ∷ map (office_under ps) fs) (sym all.0) ∙ ap (λ l. office_under qs f ∷ l) (under_alike ps qs fs all.1)
+
+office_put : (ps : ℕ → Option ℕ) (new : Office) (fs : List Office) → Ascending fs → office_at new.number fs ≡ None
+    → put_item by_office (office_under ps new) (map (office_under ps) fs) ≡ map (office_under ps) (with_office new fs)
+office_put ps new [] up none = refl
+office_put ps new (f ∷ fs) up none =
+    go (f.number == new.number) refl none (nat_lt new.number f.number) refl (office_put ps new fs up.1)
+  where
+    all_above : (n : ℕ) (gs : List Office) → new.number < n → Above n gs
+        → AllByRecursion (λ y. by_office (office_under ps new) y ≡ Less) (map (office_under ps) gs)
+    all_above n [] low h = tt
+    all_above n (h ∷ hs) low up = (
+      (let high : n < h.number = up.0 in let less : nat_cmp new.number h.number
+          ≡ Less = grind (arith, nat_tests) in less),
+      all_above n hs low up.1,
+    )
+
+    go : (d : Bool) → (f.number == new.number) ≡ d → cond d (Some f) (office_at new.number fs) ≡ None → (b : Bool)
+        → nat_lt new.number f.number ≡ b
+        → (office_at new.number fs ≡ None → put_item by_office (office_under ps new) (map (office_under ps) fs)
+        ≡ map (office_under ps) (with_office new fs))
+        → put_item by_office (office_under ps new) (map (office_under ps) (f ∷ fs)) ≡ map (office_under ps)
+        (cond b (new ∷ f ∷ fs) (f ∷ with_office new fs))
+    go true e none b l more = absurd (let k : Some f ≡ None = none in cc)
+    go false e none true l more =
+        let low : new.number < f.number = grind (arith, nat_tests) in
+        let less : nat_cmp new.number f.number ≡ Less = grind (arith, nat_tests) in
+        put_first by_office (office_under ps new) (map (office_under ps) (f ∷ fs))
+        (less, all_above f.number fs low up.0)
+    go false e none false l more =
+        let high : nat_cmp new.number f.number ≡ Greater = grind (arith, nat_tests) in
+        put_past by_office (office_under ps new) (office_under ps f) (map (office_under ps) fs) high
+        ∙ ap (λ l. office_under ps f ∷ l) (more none)
+
+pub all_there : (fs gs : List Office) (P : Office → Type 0) → Ascending gs → ((f : Office) → is_there gs f.number ≡ true
+    → P f) → AllByRecursion P gs
+all_there fs [] P up each = tt
+all_there fs (f ∷ gs) P up each = (
+  each f (let same : (f.number == f.number) ≡ true = grind (arith, nat_tests) in
+      rw same),
+  all_there fs gs P up.1 (λ h there. each h (seen f h there)),
+)
+  where
+    seen : (f h : Office) → is_there gs h.number ≡ true → is_some (cond (f.number == h.number) (Some f)
+        (office_at h.number gs)) ≡ true
+    seen f h there = go (f.number == h.number)
+      where
+        go : (b : Bool) → is_some (cond b (Some f) (office_at h.number gs)) ≡ true
+        go true = refl
+        go false = there
+
+-- an office that was there keeps its key when another is added
+pub office_key_kept : (x parent : ℕ) (name : List ℕ) (i : Institution) → IsSound i → office_at x i.offices ≡ None
+    → (y : ℕ) → is_there i.offices y ≡ true
+    → key_of (parent_of (with_office (new_office x parent name) i.offices)) y ≡ key_of (parent_of i.offices) y
+unfolding key_of
+office_key_kept x parent name i before free y here =
+    let fs = i.offices in
+    let new = new_office x parent name in
+    key_kept 5 (parent_of fs) (parent_of (with_office new fs)) (is_there fs) (λ z p h e. before.tree.parents_there z p
+    e) (λ z h. parent_of-with_office new fs z (apart x z fs free h)) y here
+
+pub office_becomes : (x parent : ℕ) (name key : List ℕ) (i : Institution) (o : OfficeRow) → IsSound i
+    → IsSound (after_commit (AddOffice x parent name) i) → ((j : Institution) → IsSound j
+    → IsTreeOf (is_there j.offices) (parent_of j.offices))
+    → office_at x i.offices ≡ None → is_there i.offices parent ≡ true → key ≡ key_of (parent_of i.offices) parent
+    → o ≡ record { number = x; parent = Some parent; hkey = child_key key x; name = name }
+    → Becomes (PutOffice o ∷ []) i (after_commit (AddOffice x parent name) i)
+unfolding key_of
+office_becomes x parent name key i o before sound trees free there key_is is = record {
+  sound = sound;
+  fits = (refl, tt);
+  is = ap Some (same_lists i (ap (λ r. put_item by_office r (map (office_under ps) fs)) (is ∙ row_is)
+      ∙ ap (put_item by_office (office_under qs new)) (under_alike ps qs fs (all_there fs fs (λ f. key_of qs f.number
+      ≡ key_of ps f.number) before.tree.ascending (λ f here. kept_key f.number here)))
+      ∙ office_put qs new fs before.tree.ascending free) (no_rows_of staff_in (λ rows. rows.staff) refl by_staff
+      (λ x n y m a b. refl) new fs refl) (no_rows_of client_in (λ rows. rows.clients) refl by_client (λ x n y m a b.
+      refl) new fs refl) (no_rows_of loan_in loans_of refl by_loan (λ x n y m a b. refl) new fs refl)
+      (none_in_office entry_in own_entries new fs refl) (no_receipts_in new fs refl) accounts.instalments
+      accounts.shares);
+}
+  where
+    fs : List Office
+    fs = i.offices
+
+    new : Office
+    new = new_office x parent name
+
+    accounts : SameRows i.catalogue i.catalogue fs (with_office new fs)
+    accounts = office_same i.catalogue new fs refl
+
+    ps : ℕ → Option ℕ
+    ps = parent_of fs
+
+    qs : ℕ → Option ℕ
+    qs = parent_of (with_office new fs)
+
+    kept_key : (y : ℕ) → is_there fs y ≡ true → key_of qs y ≡ key_of ps y
+    kept_key y here = key_kept 5 ps qs (is_there fs) (λ z p h e. before.tree.parents_there z p e)
+        (λ z h. parent_of-with_office new fs z (apart x z fs free h)) y here
+
+    row_is : record { number = x; parent = Some parent; hkey = child_key key x; name = name } ≡ office_under qs new
+    row_is = ap (λ k. record { number = x; parent = Some parent; hkey = k; name = name })
+        (ap (λ k. child_key k x) (key_is ∙ sym (kept_key parent there))
+        ∙ sym (key_of-child (is_there (with_office new fs)) qs (trees (after_commit (AddOffice x parent name) i) sound)
+        x parent (new_there new fs) (parent_of-new new fs free)))
+
+-- ---- the rows that the code makes
+
+pub same_client : (a x l n : ℕ) (b m : List ℕ) → a ≡ x → l ≡ n → b ≡ m
+    → ◌≡◌ {A = ClientRow} (record { office = a; number = l + 1; name = b }) (client_in x (n + 1) m)
+same_client a x l n b m p q r = λ k. record { office = p k; number = q k + 1; name = r k }
+
+pub same_staff : (a x l n r t : ℕ) (b m : List ℕ) → a ≡ x → l ≡ n → r ≡ t → b ≡ m
+    → ◌≡◌ {A = StaffRow} (record { office = a; number = l + 1; name = b; role = r })
+    (record { office = x; number = n + 1; name = m; role = t })
+same_staff a x l n r t b m p q o e = λ k. record { office = p k; number = q k + 1; name = e k; role = o k }
+
+pub same_office : (a x p q : ℕ) (b m k l : List ℕ) → a ≡ x → p ≡ q → k ≡ l → b ≡ m
+    → ◌≡◌ {A = OfficeRow} (record { number = a; parent = Some p; hkey = k; name = b })
+    (record { number = x; parent = Some q; hkey = l; name = m })
+same_office a x p q b m k l e f h j = λ t. record { number = e t; parent = Some (f t); hkey = h t; name = j t }
+
+pub none_there : {A : Type 0} (o : Option A) → is_some o ≡ false → o ≡ None
+none_there None h = refl
+none_there (Some x) h = absurd (true≢false h)
+
+pub number_at : (x : ℕ) (fs : List Office) → (f : Office) → office_at x fs ≡ Some f → f.number ≡ x
+number_at x [] f h = absurd (let k : None ≡ Some f = h in cc)
+number_at x (e ∷ fs) f h = go (e.number == x) refl h (number_at x fs f)
+  where
+    go : (b : Bool) → (e.number == x) ≡ b → cond b (Some e) (office_at x fs) ≡ Some f → (office_at x fs ≡ Some f
+        → f.number ≡ x) → f.number ≡ x
+    go true same h more = let k : Some e ≡ Some f = h in let is : e ≡ f =
+        cc in ap (λ (o : Office). o.number) (sym is) ∙ (let n : e.number ≡ x = grind (arith, nat_tests) in n)
+    go false same h more = more h
+
+pub office_known : (found : Option (List ℕ)) (key : List ℕ) (x : ℕ) (i : Institution) → found ≡ Some key
+    → found ≡ key_at x i → (is_there i.offices x ≡ true) × (key ≡ key_of (parent_of i.offices) x)
+office_known found key x i is h = go (office_at x i.offices) refl (sym is ∙ h)
+  where
+    go : (at : Option Office) → office_at x i.offices ≡ at → Some key ≡ option_map (λ (f : Office). key_of
+        (parent_of i.offices) f.number) at → (is_there i.offices x ≡ true) × (key ≡ key_of (parent_of i.offices) x)
+    go None e h = absurd (let k : Some key ≡ None = h in cc)
+    go (Some f) e h =
+        let k : Some key ≡ Some (key_of (parent_of i.offices) f.number) = h in
+        let same : key ≡ key_of (parent_of i.offices) f.number = cc in
+        (ap is_some e, same ∙ ap (key_of (parent_of i.offices)) (number_at x i.offices f e))

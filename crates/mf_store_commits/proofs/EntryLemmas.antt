@@ -1,0 +1,111 @@
+-- The rows of entries: those of one loan, one entry more, and one reversed.
+use Rattle.std.proofs.Common.{◌≡◌, ◌<◌, ◌≤◌, ◌+◌, ◌-◌, ℕ, zero, suc, true, List, [], ◌∷◌, ◌++◌, map, filter, length}
+use Rattle.std.proofs.Common.{Some, refl, sym, ap, ◌∙◌, arith, Less, Equal, Greater, nat_cmp}
+use Rattle.std.specs.List.{AllByRecursion}
+use Rattle.std.specs.Ordering.{ordering_then}
+use Rattle.std.proofs.lemmas.Bool.Decides.{nat_tests}
+use Rattle.std.proofs.lemmas.List.{map-append, length-append, append-nil}
+use Rattle.mf_account.specs.declared.entry.Entry.{Entry}
+use Rattle.mf_account.specs.Standing.{entry_at, with_mark}
+use Rattle.mf_store_sql.specs.Keep.{put_item}
+use Rattle.mf_model.specs.Institution.{Ledger, Office, Rows, office_at, with_rows, item_numbered, with_numbered}
+use Rattle.mf_model.specs.Loans.{with_entries}
+use Rattle.mf_model.specs.Store.{rows_of}
+use Rattle.mf_model.specs.Tree.{Ascending}
+use Rattle.mf_store_schema.specs.Rows.{by_entry, is_entry_of}
+use Rattle.mf_store_values.specs.Flat.{entry_in, own_entries, entry_rows, entries_of, reversed_entry}
+use Rattle.mf_store_commits.proofs.FlatLemmas.{put_past, put_over}
+use Rattle.mf_store_commits.proofs.LoanRowLemmas.{put_past_all, loan_shown, rows_around, put_around}
+
+-- the rows of a loan are those of its entries
+pub entries_shown : (x n : ℕ) (fs : List Office) → Ascending fs → filter (is_entry_of x n) (entry_rows fs)
+    ≡ map (entry_in x n) (entries_of (item_numbered (rows_of (office_at x fs)).loans n))
+entries_shown x n fs up = loan_shown entry_in own_entries is_entry_of (λ x n y m e. refl) x n fs up
+
+-- ---- one row put among those of its loan
+
+after_entry : (x n s t : ℕ) → t < s → ordering_then (nat_cmp x x) (ordering_then (nat_cmp n n) (nat_cmp s t)) ≡ Greater
+after_entry x n s t h = grind (arith, nat_tests)
+
+before_entry : (x n s t : ℕ) → s < t → ordering_then (nat_cmp x x) (ordering_then (nat_cmp n n) (nat_cmp s t)) ≡ Less
+before_entry x n s t h = grind (arith, nat_tests)
+
+same_entry : (x n s : ℕ) → ordering_then (nat_cmp x x) (ordering_then (nat_cmp n n) (nat_cmp s s)) ≡ Equal
+same_entry x n s = grind (arith, nat_tests)
+
+-- a row put makes the one list of a loan's entries of the other
+abbrev pub PutsEntry : ℕ → ℕ → Entry → List Entry → List Entry → Type 0
+PutsEntry x n e old new = put_item by_entry (entry_in x n e) (map (entry_in x n) old) ≡ map (entry_in x n) new
+
+-- each of these entries has a smaller number
+abbrev pub AreEarlier : ℕ → List Entry → Type 0
+AreEarlier seq entries = AllByRecursion (λ (e : Entry). e.seq < seq) entries
+
+earlier_rows : (x n : ℕ) (e : Entry) (es : List Entry) → AreEarlier e.seq es
+    → AllByRecursion (λ r. by_entry (entry_in x n e) r ≡ Greater) (map (entry_in x n) es)
+earlier_rows x n e [] a = tt
+earlier_rows x n e (d ∷ es) a = (after_entry x n e.seq d.seq a.0, earlier_rows x n e es a.1)
+
+-- one more entry
+pub puts_last : (x n : ℕ) (e : Entry) (es : List Entry) → AreEarlier e.seq es → PutsEntry x n e es (es ++ e ∷ [])
+puts_last x n e es early =
+    ap (put_item by_entry (entry_in x n e)) (sym (append-nil (map (entry_in x n) es)))
+    ∙ put_past_all by_entry (entry_in x n e) (map (entry_in x n) es) [] (earlier_rows x n e es early)
+    ∙ sym (map-append (entry_in x n) es (e ∷ []))
+
+-- numbered from n + 1 on
+abbrev pub AreNumbered : ℕ → List Entry → Type 0
+AreNumbered n es = (i : ℕ) → i < length es → (entry_at es i).seq ≡ n + i + 1
+
+pub later_numbered : (n : ℕ) (e : Entry) (es : List Entry) → AreNumbered n (e ∷ es) → AreNumbered (n + 1) es
+later_numbered n e es are = λ i below. let next = are (suc i) (omega (arith, below)) in omega (arith, next)
+
+later_rows : (x n m : ℕ) (e : Entry) (es : List Entry) → e.seq ≤ m → AreNumbered m es
+    → AllByRecursion (λ r. by_entry (entry_in x n e) r ≡ Less) (map (entry_in x n) es)
+later_rows x n m e [] low are = tt
+later_rows x n m e (d ∷ es) low are = let first = are 0 (omega arith) in (
+  before_entry x n e.seq d.seq
+      (omega (arith, first, low)),
+  later_rows x n (m + 1) e es (omega (arith, low)) (later_numbered m d es are),
+)
+
+-- one of them reversed
+pub puts_reversed : (x n m k : ℕ) (es : List Entry) → AreNumbered m es → k < length es
+    → PutsEntry x n (reversed_entry (entry_at es k)) es (with_mark es k true)
+puts_reversed x n m k [] are low = absurd (omega (arith, low))
+puts_reversed x n m zero (e ∷ es) are low =
+    let first = are 0 (omega arith) in
+    put_over by_entry (entry_in x n (reversed_entry e)) (entry_in x n e) (map (entry_in x n) es) (same_entry x n e.seq)
+    (later_rows x n (m + 1) (reversed_entry e) es (omega (arith, first)) (later_numbered m e es are))
+puts_reversed x n m (suc k) (e ∷ es) are low =
+    let first = are 0 (omega arith) in
+    let this = are (suc k) low in
+    put_past by_entry (entry_in x n (reversed_entry (entry_at es k))) (entry_in x n e) (map (entry_in x n) es)
+    (after_entry x n (entry_at es k).seq e.seq (omega (arith, first, this)))
+    ∙ ap (λ rows. entry_in x n e ∷ rows) (puts_reversed x n (m + 1) k es (later_numbered m e es are)
+    (omega (arith, low)))
+
+-- the entry that was reversed
+pub marked_entry : (es : List Entry) (k : ℕ) → k < length es → entry_at (with_mark es k true) k
+    ≡ reversed_entry (entry_at es k)
+marked_entry [] k low = absurd (omega (arith, low))
+marked_entry (e ∷ es) zero low = refl
+marked_entry (e ∷ es) (suc k) low = marked_entry es k (omega (arith, low))
+
+-- the last of them
+pub last_entry : (es : List Entry) (e : Entry) → entry_at (es ++ e ∷ []) (length (es ++ e ∷ []) - 1) ≡ e
+last_entry es e = let long = length-append es (e ∷ []) in ap (entry_at (es ++ e ∷ [])) (omega (arith, long)) ∙ at_end es
+  where
+    at_end : (ds : List Entry) → entry_at (ds ++ e ∷ []) (length ds) ≡ e
+    at_end [] = refl
+    at_end (d ∷ ds) = at_end ds
+
+-- a row put among all, where one loan of an office has other entries
+pub entry_put : (x n : ℕ) (e : Entry) (es : List Entry) (l : Ledger) (new : Rows) (fs : List Office) → Ascending fs
+    → item_numbered (rows_of (office_at x fs)).loans n ≡ Some l → new.loans ≡ with_numbered n (with_entries es)
+    (rows_of (office_at x fs)).loans → PutsEntry x n e l.entries es
+    → put_item by_entry (entry_in x n e) (entry_rows fs) ≡ entry_rows (with_rows x new fs)
+entry_put x n e es l new fs up at is puts =
+    put_around entry_in by_entry (λ a b. nat_cmp a.seq b.seq) (λ x n y m a b. refl) x n e (entry_rows fs)
+    (entry_rows (with_rows x new fs)) l.entries es (rows_around entry_in own_entries x n (with_entries es) l new fs
+    up at is) puts

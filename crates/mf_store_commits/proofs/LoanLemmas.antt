@@ -1,0 +1,276 @@
+-- Commits of loans: from the writes to the change.
+use Rattle.std.proofs.Common.{◌≡◌, ◌≤◌, ◌+◌, ◌-◌, ℕ, Bool, true, false, cond, ◌==◌, List, [], ◌∷◌, ◌++◌, map, length}
+use Rattle.std.proofs.Common.{slice_get, Option, None, Some, refl, sym, ap, ◌∙◌, subst, arith}
+use Rattle.std.specs.Option.{option_map}
+use Rattle.std.proofs.lemmas.List.{map-append, length-map}
+use Rattle.std.proofs.lemmas.Option.{slice_get-map}
+use Rattle.mf_account.specs.declared.entry.Entry.{Entry}
+use Rattle.mf_account.specs.Change.{Account as Kept}
+use Rattle.mf_account.specs.Standing.{entry_at, with_mark}
+use Rattle.mf_office.specs.declared.account.Account.{Account}
+use Rattle.mf_store_sql.specs.Keep.{put_item}
+use Rattle.mf_store_sql.specs.Writes.{AllFit, after_all}
+use Rattle.mf_model.specs.declared.commit.Commit.TheVariants.{AddLoan, SetStage, AddEntry, ReverseEntry}
+use Rattle.mf_model.specs.declared.loan.Loan.{Loan}
+use Rattle.mf_model.specs.declared.loan.Stage.{Stage}
+use Rattle.mf_model.specs.Desk.{loan_added, loan_staged, loan_entered}
+use Rattle.mf_model.specs.Institution.{Institution, Ledger, Office, Rows, item_numbered, with_numbered, with_rows}
+use Rattle.mf_model.specs.Loans.{with_stage, with_reversal, with_entries}
+use Rattle.mf_model.specs.Receipts.{uses_from, AreApart}
+use Rattle.mf_model.specs.Sound.{IsSound}
+use Rattle.mf_model.specs.Stages.{disbursed_on}
+use Rattle.mf_model.specs.Store.{after_commit, rows_at, ledger_at}
+use Rattle.mf_model.specs.Tree.{is_there}
+use Rattle.mf_model.proofs.Growing.{with_same_at}
+use Rattle.mf_model.proofs.ReceiptLemmas.{uses_with, uses_marked, uses_push}
+use Rattle.mf_store_schema.specs.Rows.{Lists, by_staff, by_client, by_loan, by_entry}
+use Rattle.mf_store_schema.specs.declared.loans.LoanRow.{LoanRow}
+use Rattle.mf_store_schema.specs.declared.entries.EntryRow.{EntryRow}
+use Rattle.mf_store_schema.specs.declared.receipts.ReceiptRow.{ReceiptRow}
+use Rattle.mf_store_values.specs.Flat.{tables_of, staff_in, client_in, loan_in, loans_of, entry_in, entry_rows}
+use Rattle.mf_store_values.specs.Flat.{own_entries, reversed_entry, instalment_in, share_in, instalments_kept}
+use Rattle.mf_store_values.specs.Flat.{shares_kept, kept_of, instalment_rows, share_rows}
+use Rattle.mf_store_commits.specs.ChangeWrites.{schedule_put, change_writes}
+use Rattle.mf_store_schema.specs.Writes.{Fits, after}
+use Rattle.mf_store_schema.specs.declared.writes.StoreWrite.{StoreWrite}
+use Rattle.mf_store_schema.specs.declared.writes.StoreWrite.TheVariants as write
+use Rattle.mf_store_values.specs.ReceiptRows.{receipt_rows, receipt_added, entry_added}
+use Rattle.mf_store_commits.specs.Becoming.{Becomes}
+use Rattle.mf_store_commits.proofs.AccountCommitLemmas.{IsChanged, change_written, schedule_there, staged_shares}
+use Rattle.mf_store_commits.proofs.AccountRowLemmas.{SameRows, rows_same, none_before}
+use Rattle.mf_store_commits.proofs.ChangedRowLemmas.{after_both, fit_both, change_fits, schedule_fits}
+use Rattle.mf_store_commits.proofs.CommitLemmas.{same_lists, offices-with_rows}
+use Rattle.mf_store_commits.proofs.EntryLemmas.{AreEarlier, AreNumbered, PutsEntry, puts_last, puts_reversed, entry_put}
+use Rattle.mf_store_commits.proofs.LoanRowLemmas.{same_by_loan, one_more_loan, change_alone}
+use Rattle.mf_store_commits.proofs.FlatLemmas.{put_row_of, put_over_of, same_rows_of}
+use Rattle.mf_store_commits.proofs.ReceiptRowLemmas.{same_receipts_of, no_receipt_put, receipt_put}
+
+-- ---- loans without their entries
+
+abbrev pub loan_of : Ledger → Loan
+loan_of l = l.loan
+
+pub numbered_loan : (ls : List Ledger) (n : ℕ) → item_numbered (map loan_of ls) n
+    ≡ option_map loan_of (item_numbered ls n)
+numbered_loan ls n = go (n == 0)
+  where
+    go : (b : Bool) → cond b None (slice_get (map loan_of ls) (n - 1))
+        ≡ option_map loan_of (cond b None (slice_get ls (n - 1)))
+    go true = refl
+    go false = slice_get-map loan_of ls (n - 1)
+
+loans_staged : (n : ℕ) (stage : Stage) (ls : List Ledger) → map loan_of (with_numbered n (with_stage stage) ls)
+    ≡ with_numbered n (λ (l : Loan). record l { stage = stage }) (map loan_of ls)
+loans_staged n stage [] = refl
+loans_staged n stage (l ∷ ls) = go (n == 1) (loans_staged (n - 1) stage ls)
+  where
+    change : Loan → Loan
+    change k = record k { stage = stage }
+
+    go : (b : Bool) → map loan_of (with_numbered (n - 1) (with_stage stage) ls) ≡ with_numbered (n - 1) change
+        (map loan_of ls)
+        → map loan_of (cond b (with_stage stage l ∷ ls) (l ∷ with_numbered (n - 1) (with_stage stage) ls))
+        ≡ cond b (change l.loan ∷ map loan_of ls) (l.loan ∷ with_numbered (n - 1) change (map loan_of ls))
+    go true more = refl
+    go false more = ap (λ rest. l.loan ∷ rest) more
+
+loans_entered : (n : ℕ) (es : List Entry) (ls : List Ledger) → map loan_of (with_numbered n (with_entries es) ls)
+    ≡ map loan_of ls
+loans_entered n es [] = refl
+loans_entered n es (l ∷ ls) = go (n == 1) (loans_entered (n - 1) es ls)
+  where
+    go : (b : Bool) → map loan_of (with_numbered (n - 1) (with_entries es) ls) ≡ map loan_of ls
+        → map loan_of (cond b (with_entries es l ∷ ls) (l ∷ with_numbered (n - 1) (with_entries es) ls))
+        ≡ map loan_of (l ∷ ls)
+    go true more = refl
+    go false more = ap (λ rest. l.loan ∷ rest) more
+
+-- ---- the commits
+
+pub loan_becomes : (x : ℕ) (l : Loan) (i : Institution) (r : LoanRow) → IsSound i
+    → IsSound (after_commit (AddLoan x l) i) → is_there i.offices x ≡ true → disbursed_on l.stage ≡ None → r
+    ≡ loan_in x (length (rows_at x i).loans + 1) l → Becomes (write.AddLoan r ∷ []) i (after_commit (AddLoan x l) i)
+loan_becomes x l i r before sound there none is = record {
+  sound = sound;
+  fits = (refl, tt);
+  is = ap Some (same_lists i (offices-with_rows x new i.offices) (same_rows_of staff_in (λ rows. rows.staff) refl
+      by_staff (λ x n y m a b. refl) x new i.offices before.tree.ascending refl)
+      (same_rows_of client_in (λ rows. rows.clients) refl by_client (λ x n y m a b. refl) x new i.offices
+      before.tree.ascending refl)
+      (ap (λ r. put_item by_loan r (tables_of i).loans) (is ∙ ap (λ n. loan_in x (n + 1) l)
+      (sym (length-map loans loan_of)))
+      ∙ put_row_of loan_in loans_of refl by_loan (λ x n y m a b. refl) x l new i.offices before.tree.ascending there
+      (map-append loan_of loans (added ∷ [])))
+      (same_by_loan entry_in own_entries x new i.offices before.tree.ascending (one_more_loan entry_in own_entries added
+      loans refl)) (same_receipts_of x new i.offices before.tree.ascending (uses_push 1 l loans))
+      accounts.instalments accounts.shares);
+}
+  where
+    loans : List Ledger
+    loans = (rows_at x i).loans
+
+    added : Ledger
+    added = record { loan = l; entries = [] }
+
+    new : Rows
+    new = loan_added l (rows_at x i)
+
+    accounts : SameRows i.catalogue i.catalogue i.offices (with_rows x new i.offices)
+    accounts =
+        let k = i.catalogue in
+        rows_same k x new i.offices before.tree.ascending (one_more_loan instalment_in (kept_of instalments_kept k)
+        added loans (none_before instalments_kept k added none))
+        (one_more_loan share_in (kept_of shares_kept k) added loans (none_before shares_kept k added none))
+
+-- where a loan that was not disbursed comes to a stage, its row is put, and those of its instalments
+module _ (account : Account) (stage : Stage) (l : Ledger) (i : Institution) (before : IsSound i)
+    (there : ledger_at account i ≡ Some l) (none : disbursed_on l.loan.stage ≡ None) (without : l.entries ≡ []) where
+  abbrev staged_rows : Rows
+  staged_rows = loan_staged account.number stage (rows_at account.office i)
+
+  abbrev staged_offices : List Office
+  staged_offices = with_rows account.office staged_rows i.offices
+
+  abbrev put_row : LoanRow
+  put_row = loan_in account.office account.number (record l.loan { stage = stage })
+
+  row_staged : ◌≡◌ {A = Lists} (record (tables_of i) {
+    loans = put_item by_loan put_row (tables_of i).loans;
+    instalments = instalment_rows i.catalogue staged_offices;
+  }) (tables_of (after_commit (SetStage account stage) i))
+  row_staged =
+      let x = account.office in
+      same_lists i (offices-with_rows x staged_rows i.offices) (same_rows_of staff_in (λ rows. rows.staff) refl by_staff
+      (λ x n y m a b. refl) x staged_rows i.offices before.tree.ascending refl)
+      (same_rows_of client_in (λ rows. rows.clients) refl by_client (λ x n y m a b. refl) x staged_rows i.offices
+      before.tree.ascending refl)
+      (put_over_of loan_in loans_of refl by_loan (λ x n y m a b. refl) (λ l. record l { stage = stage }) l.loan x
+      account.number staged_rows i.offices before.tree.ascending (numbered_loan (rows_at x i).loans account.number
+      ∙ ap (option_map loan_of) there) (loans_staged account.number stage (rows_at x i).loans))
+      (same_by_loan entry_in own_entries x staged_rows i.offices before.tree.ascending
+      (change_alone entry_in own_entries account.number (with_stage stage) (rows_at x i).loans (λ k. refl)))
+      (same_receipts_of x staged_rows i.offices before.tree.ascending (uses_with account.number 1 (with_stage stage)
+      (rows_at x i).loans (λ l k. refl)))
+      refl
+      (staged_shares i.catalogue x account.number l stage staged_rows i.offices before.tree.ascending there refl none
+      without)
+
+  abbrev pub schedule : List StoreWrite
+  schedule = schedule_put account.office account.number (kept_of instalments_kept i.catalogue (with_stage stage l))
+
+  pub staged_becomes : IsSound (after_commit (SetStage account stage) i) → Becomes (write.PutLoan put_row ∷ schedule) i
+      (after_commit (SetStage account stage) i)
+  staged_becomes sound = record {
+    sound = sound;
+    fits = (
+      refl,
+      schedule_fits account.office account.number (kept_of instalments_kept i.catalogue
+          (with_stage stage l)) _,
+    );
+    is = schedule_there i.catalogue account.office account.number l stage staged_rows i.offices before.tree.ascending
+        there refl none without _ refl ∙ ap Some row_staged;
+  }
+
+-- what a change of a loan's entries leaves of the rows of its office
+module _ (loan : Account) (account : Kept) (l : Ledger) (i : Institution) (before : IsSound i) (there : ledger_at loan i
+    ≡ Some l) (changed : IsChanged i.catalogue l account) where
+  abbrev x : ℕ
+  x = loan.office
+
+  abbrev new : Rows
+  new = loan_entered loan.number account.loan.entries (rows_at x i)
+
+  abbrev now : List Office
+  now = with_rows x new i.offices
+
+  entries_changed : {e : List EntryRow} {q : List ReceiptRow} → e ≡ entry_rows now → q ≡ receipt_rows now
+      → ◌≡◌ {A = Lists} (record (tables_of i) {
+        entries = e;
+        receipts = q;
+        instalments = instalment_rows i.catalogue
+            now;
+        shares = share_rows i.catalogue now;
+      }) (tables_of (after_commit (AddEntry loan account) i))
+  entries_changed entries receipts = same_lists i (offices-with_rows x new i.offices)
+      (same_rows_of staff_in (λ rows. rows.staff) refl by_staff (λ x n y m a b. refl) x new i.offices
+      before.tree.ascending refl)
+      (same_rows_of client_in (λ rows. rows.clients) refl by_client (λ x n y m a b. refl) x new i.offices
+      before.tree.ascending refl)
+      (same_rows_of loan_in loans_of refl by_loan (λ x n y m a b. refl) x new i.offices before.tree.ascending
+      (loans_entered loan.number account.loan.entries (rows_at x i).loans))
+      entries receipts refl refl
+
+  abbrev change : List StoreWrite
+  change = change_writes x loan.number account
+
+  -- these writes and then those of the change
+  with_change : (writes : List StoreWrite) (lists : Lists) → IsSound (after_commit (AddEntry loan account) i)
+      → AllFit after Fits writes (Some (tables_of i)) → after_all after writes (Some (tables_of i)) ≡ Some lists
+      → lists.instalments ≡ instalment_rows i.catalogue i.offices → lists.shares ≡ share_rows i.catalogue i.offices
+      → ◌≡◌ {A = Lists} (record lists {
+        instalments = instalment_rows i.catalogue now;
+        shares = share_rows i.catalogue now;
+      }) (tables_of (after_commit (AddEntry loan account) i))
+      → Becomes (writes ++ change) i (after_commit (AddEntry loan account) i)
+  with_change writes lists sound fits first instalments shares is = record {
+    sound = sound;
+    fits = fit_both writes change (Some (tables_of i)) fits (subst (AllFit after Fits change) (sym first)
+        (change_fits x loan.number account lists));
+    is = after_both writes change (Some (tables_of i)) ∙ ap (after_all after change) first
+        ∙ change_written i.catalogue x loan.number l account changed new i.offices before.tree.ascending there refl
+        lists instalments shares ∙ ap Some is;
+  }
+
+  -- ---- one entry more: its own row, and that of its receipt
+
+  module _ (e : Entry) (sound : IsSound (after_commit (AddEntry loan account) i)) (are : account.loan.entries
+      ≡ l.entries ++ e ∷ []) (early : AreEarlier e.seq l.entries) (apart : AreApart (uses_from 1 new.loans)) where
+    abbrev row : EntryRow
+    row = entry_in x loan.number e
+
+    row_put : put_item by_entry row (tables_of i).entries ≡ entry_rows now
+    row_put = entry_put x loan.number e account.loan.entries l new i.offices before.tree.ascending there refl
+        (subst (PutsEntry x loan.number e l.entries) (sym are) (puts_last x loan.number e l.entries early))
+
+    row_becomes : (o : Option (List ℕ)) → e.receipt ≡ o → Becomes ((write.AddEntry row ∷ receipt_added row o) ++ change)
+        i (after_commit (AddEntry loan account) i)
+    row_becomes None none =
+        with_change (write.AddEntry row ∷ []) _ sound (refl, tt) refl refl refl (entries_changed row_put (no_receipt_put
+        x loan.number e account.loan.entries l new i.offices before.tree.ascending there refl are none))
+    row_becomes (Some r) some =
+        with_change (write.AddEntry row ∷ receipt_added row (Some r)) _ sound (refl, (refl, tt)) refl refl refl
+        (entries_changed row_put (receipt_put x loan.number e account.loan.entries l new i.offices r
+        before.tree.ascending there refl are some apart))
+
+    pub entry_becomes : (r : EntryRow) → r ≡ row → Becomes (entry_added r ++ change) i
+        (after_commit (AddEntry loan account) i)
+    entry_becomes r is = subst (λ s. Becomes (entry_added s ++ change) i (after_commit (AddEntry loan account) i))
+        (sym is) (row_becomes e.receipt refl)
+
+  -- ---- a reversal: one entry's own row
+
+  module _ (seq : ℕ) (sound : IsSound (after_commit (ReverseEntry loan seq account) i))
+      (numbers : AreNumbered 0 l.entries) (first : 1 ≤ seq) (last : seq ≤ length l.entries)
+      (marked : account.loan.entries ≡ with_mark l.entries (seq - 1) true) where
+    abbrev entry : Entry
+    entry = reversed_entry (entry_at l.entries (seq - 1))
+
+    puts : PutsEntry x loan.number entry l.entries account.loan.entries
+    puts = subst (PutsEntry x loan.number entry l.entries) (sym marked)
+        (puts_reversed x loan.number 0 (seq - 1) l.entries numbers (omega (arith, first, last)))
+
+    -- the receipts are as they were
+    same_uses : uses_from 1 new.loans ≡ uses_from 1 (rows_at x i).loans
+    same_uses =
+        let ls = (rows_at x i).loans in
+        ap (uses_from 1) (with_same_at loan.number (with_entries account.loan.entries) (with_reversal seq) ls l there
+        (ap (λ es. with_entries es l) marked)) ∙ uses_with loan.number 1 (with_reversal seq) ls
+        (λ l k. uses_marked k (seq - 1) l.entries)
+
+    pub reversal_becomes : (r : EntryRow) → r ≡ entry_in x loan.number entry → Becomes (write.ChangeEntry r ∷ change) i
+        (after_commit (ReverseEntry loan seq account) i)
+    reversal_becomes r is =
+        subst (λ s. Becomes (write.ChangeEntry s ∷ change) i (after_commit (ReverseEntry loan seq account) i)) (sym is)
+        (with_change (write.ChangeEntry (entry_in x loan.number entry) ∷ []) _ sound (refl, tt) refl refl refl
+        (entries_changed (entry_put x loan.number entry account.loan.entries l new i.offices before.tree.ascending there
+        refl puts) (same_receipts_of x new i.offices before.tree.ascending same_uses)))

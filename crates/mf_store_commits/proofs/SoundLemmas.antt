@@ -1,0 +1,57 @@
+-- What soundness says of the rows of an office, and which of its numbers are there.
+use Rattle.std.proofs.Common.{◌≡◌, ◌<◌, ◌≤◌, ◌-◌, ℕ, zero, suc, Bool, true, false, cond, List, [], ◌∷◌, length}
+use Rattle.std.proofs.Common.{slice_get, Some, refl, sym, subst, arith, ◌==◌, IsTrue, ◌↔◌, ◌≢◌, true≢false}
+use Rattle.std.specs.Option.{is_some}
+use Rattle.std.specs.List.{AllByRecursion}
+use Rattle.mf_office.specs.declared.caller.Caller.{Caller}
+use Rattle.mf_model.specs.Institution.{Catalogue, Office, office_at, item_numbered, Rows, with_rows}
+use Rattle.mf_model.specs.Sound.{IsSoundOffice, IsSoundRows}
+use Rattle.mf_model.specs.Store.{rows_of}
+use Rattle.mf_model.specs.Tree.{is_there}
+
+placed : {A : Type 0} (xs : List A) (d : ℕ) → (IsTrue (is_some (slice_get xs d)) → d < length xs)
+    × (d < length xs → IsTrue (is_some (slice_get xs d)))
+placed [] d = ((λ h. absurd (Rattle.std.proofs.Common.true≢false (sym h))), (λ h. absurd (omega arith)))
+placed (x ∷ xs) zero = ((λ h. omega arith), (λ h. refl))
+placed (x ∷ xs) (suc d) = let more =
+    placed xs d in ((λ h. let low = more.0 h in omega arith), (λ h. more.1 (omega arith)))
+
+pub has_number : {A : Type 0} (xs : List A) (n : ℕ) → IsTrue (is_some (item_numbered xs n))
+    ↔ ((1 ≤ n) × (n ≤ length xs))
+has_number xs zero =
+    ((λ h. absurd (Rattle.std.proofs.Common.true≢false (sym h))), (λ h. absurd (let low = h.0 in omega arith)))
+has_number xs (suc n) =
+    let same = Rattle.mf_store_commits.proofs.FlatLemmas.numbered-suc xs n in
+    let at = placed xs n in (
+      (λ h. (omega arith, (let low = at.0 (subst (λ o. IsTrue (is_some o)) same h) in omega arith))),
+      (λ h. subst (λ o. IsTrue (is_some o)) (sym same) (at.1 (let most = h.1 in omega arith))),
+    )
+
+pub office_sound : (k : Catalogue) (s : Caller → Bool) (x : ℕ) (fs : List Office) → AllByRecursion (IsSoundOffice k s)
+    fs → IsSoundRows k s (rows_of (office_at x fs))
+office_sound k s x [] all = record {
+  staff_limit = omega arith;
+  staff_names = tt;
+  client_limit = omega arith;
+  client_names = tt;
+  loan_limit = omega arith;
+  loans = tt;
+  receipts = tt;
+}
+office_sound k s x (f ∷ fs) all = go (f.number == x) (office_sound k s x fs all.1)
+  where
+    go : (b : Bool) → IsSoundRows k s (rows_of (office_at x fs))
+        → IsSoundRows k s (rows_of (cond b (Some f) (office_at x fs)))
+    go true more = all.0.rows
+    go false more = more
+
+pub own_rows : (x : ℕ) (new : Rows) (fs : List Office) → is_there fs x ≡ true
+    → rows_of (office_at x (with_rows x new fs)) ≡ new
+own_rows x new [] there = absurd (true≢false (sym there))
+own_rows x new (f ∷ fs) there = go (f.number == x) there (λ h. own_rows x new fs h)
+  where
+    go : (b : Bool) → is_some (cond b (Some f) (office_at x fs)) ≡ true
+        → (is_there fs x ≡ true → rows_of (office_at x (with_rows x new fs)) ≡ new)
+        → rows_of (cond b (Some (record f { rows = cond b new f.rows })) (office_at x (with_rows x new fs))) ≡ new
+    go true h more = refl
+    go false h more = more h

@@ -1,6 +1,0 @@
-pub mod Places
-pub mod Catalogue
-pub mod Offices
-pub mod Loans
-pub mod Entries
-pub mod Findings

@@ -1,9 +1,0 @@
-pub mod CallLemmas
-pub mod RowLemmas
-pub mod OnceLemmas
-pub mod OrderLemmas
-pub mod RangeLemmas
-pub mod RemoveLemmas
-pub mod PutLemmas
-pub mod MakeLemmas
-pub mod ReceiptLemmas

@@ -1,0 +1,12 @@
+use Rattle.std.proofs.Common.{rules}
+use Rattle.std.proofs.lemmas.Result.{on_ok_weaker}
+use Rattle.sqlite.specs.Held.{state}
+use Rattle.mf_store_schema.specs.Rows.{loan_row}
+use Rattle.mf_store_schema.proofs.CallLemmas.{ran_with}
+use Rattle.mf_store_schema.proofs.loans.LoanRowTable.execute.Goals as goal
+
+pub returns-clause-ok : goal.returns-clause-ok
+returns-clause-ok g c clean inside =
+    on_ok_weaker c.run.result (ran_with c.args.sql.now (state g.S.Store c.args.tx.now.conn.now)
+    (state g.S.Store c.run.new.tx.conn.now) _ (loan_row c.args.self.now) (search rules))
+    (c.run.ensures.ok clean inside)

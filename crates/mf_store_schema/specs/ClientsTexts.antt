@@ -1,0 +1,48 @@
+-- What the texts of clients mean, how its rows are ordered, and that its columns hold their values.
+use Rattle.std.specs.Prelude.{◌≡◌, take}
+use Rattle.std.proofs.Common.{inl, inr, refl, rules}
+use Rattle.sqlite_tied.specs.Compute.{everything}
+use Rattle.sqlite.specs.Listing.{understood}
+use Rattle.mf_store_sql.specs.Making.{IsDefined}
+use Rattle.mf_store_sql.specs.Meanings.{Asks, IsKept}
+use Rattle.mf_store_sql.specs.Rows.{AllFit, first_cmp}
+use Rattle.mf_store_schema.specs.Keys.{two_numbers}
+use Rattle.mf_store_schema.specs.Tables.{schema, first_schema, tables, made, clients}
+use Rattle.mf_store_schema.specs.Rows.{client_row, by_client}
+use Rattle.mf_store_schema.specs.declared.clients.ClientRow.{ClientRow}
+
+pub kept : IsKept schema 3 7 clients
+unfolding understood everything
+kept = record {
+  there = refl;
+  quiet = λ keys olds news. refl;
+  always = refl;
+  index = inr (inr (inr (inr (inl refl))));
+  guards_it = refl;
+  alone = λ new row. refl;
+  apart = refl;
+  under = λ trees. refl;
+  adds = record { plain = (refl, refl); is = refl };
+  puts = record { plain = (refl, refl); is = refl };
+  finds = record { plain = (refl, refl); unlisted = refl; is = refl };
+  shows = record { plain = (refl, refl); unlisted = refl; is = refl };
+}
+
+pub lists_by_1 : Asks schema 3 7 clients 1
+unfolding understood everything
+lists_by_1 = record { plain = (refl, refl); unlisted = refl; is = refl }
+
+pub first_shows : Asks first_schema 3 7 clients 0
+unfolding understood everything
+first_shows = record { plain = (refl, refl); unlisted = refl; is = refl }
+
+-- after the tables before it
+pub defined : IsDefined (made (take 3 tables)) 7 clients
+unfolding understood everything
+defined = record { command = refl; plain = (refl, refl); table_is = refl; uncounted = refl; tree_is = refl }
+
+pub ordered : (a b : ClientRow) → by_client a b ≡ first_cmp 2 (client_row a) (client_row b)
+ordered a b = two_numbers a.office a.number b.office b.number
+
+pub fits : (x : ClientRow) → AllFit clients.columns (client_row x)
+fits x = search rules

@@ -1,0 +1,48 @@
+-- What the texts of entries mean, how its rows are ordered, and that its columns hold their values.
+use Rattle.std.specs.Prelude.{◌≡◌, take}
+use Rattle.std.proofs.Common.{inl, inr, refl, rules}
+use Rattle.sqlite_tied.specs.Compute.{everything}
+use Rattle.sqlite.specs.Listing.{understood}
+use Rattle.mf_store_sql.specs.Making.{IsDefined}
+use Rattle.mf_store_sql.specs.Meanings.{Asks, IsKept}
+use Rattle.mf_store_sql.specs.Rows.{AllFit, first_cmp}
+use Rattle.mf_store_schema.specs.Keys.{three_numbers}
+use Rattle.mf_store_schema.specs.Tables.{schema, first_schema, tables, made, entries}
+use Rattle.mf_store_schema.specs.Rows.{entry_row, by_entry}
+use Rattle.mf_store_schema.specs.declared.entries.EntryRow.{EntryRow}
+
+pub kept : IsKept schema 7 15 entries
+unfolding understood everything
+kept = record {
+  there = refl;
+  quiet = λ keys olds news. refl;
+  always = refl;
+  index = inr (inr (inr (inr (inr (inr (inr (inr (inl refl))))))));
+  guards_it = refl;
+  alone = λ new row. refl;
+  apart = refl;
+  under = λ trees. refl;
+  adds = record { plain = (refl, refl); is = refl };
+  puts = record { plain = (refl, refl); is = refl };
+  finds = record { plain = (refl, refl); unlisted = refl; is = refl };
+  shows = record { plain = (refl, refl); unlisted = refl; is = refl };
+}
+
+pub lists_by_2 : Asks schema 7 15 entries 2
+unfolding understood everything
+lists_by_2 = record { plain = (refl, refl); unlisted = refl; is = refl }
+
+pub first_shows : Asks first_schema 7 15 entries 0
+unfolding understood everything
+first_shows = record { plain = (refl, refl); unlisted = refl; is = refl }
+
+-- after the tables before it
+pub defined : IsDefined (made (take 7 tables)) 15 entries
+unfolding understood everything
+defined = record { command = refl; plain = (refl, refl); table_is = refl; uncounted = refl; tree_is = refl }
+
+pub ordered : (a b : EntryRow) → by_entry a b ≡ first_cmp 3 (entry_row a) (entry_row b)
+ordered a b = three_numbers a.office a.loan a.seq b.office b.loan b.seq
+
+pub fits : (x : EntryRow) → AllFit entries.columns (entry_row x)
+fits x = search rules

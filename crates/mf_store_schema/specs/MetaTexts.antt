@@ -1,0 +1,44 @@
+-- What the texts of meta mean, how its rows are ordered, and that its columns hold their values.
+use Rattle.std.specs.Prelude.{◌≡◌, take}
+use Rattle.std.proofs.Common.{inl, refl, rules}
+use Rattle.sqlite_tied.specs.Compute.{everything}
+use Rattle.sqlite.specs.Listing.{understood}
+use Rattle.mf_store_sql.specs.Making.{IsDefined}
+use Rattle.mf_store_sql.specs.Meanings.{Asks, IsKept}
+use Rattle.mf_store_sql.specs.Rows.{AllFit, first_cmp}
+use Rattle.mf_store_schema.specs.Keys.{one_number}
+use Rattle.mf_store_schema.specs.Tables.{schema, first_schema, tables, made, meta}
+use Rattle.mf_store_schema.specs.Rows.{meta_row, by_meta}
+use Rattle.mf_store_schema.specs.declared.meta.MetaRow.{MetaRow}
+
+pub kept : IsKept schema 0 0 meta
+unfolding understood everything
+kept = record {
+  there = refl;
+  quiet = λ keys olds news. refl;
+  always = refl;
+  index = inl refl;
+  guards_it = refl;
+  alone = λ new row. refl;
+  apart = refl;
+  under = λ trees. refl;
+  adds = record { plain = (refl, refl); is = refl };
+  puts = record { plain = (refl, refl); is = refl };
+  finds = record { plain = (refl, refl); unlisted = refl; is = refl };
+  shows = record { plain = (refl, refl); unlisted = refl; is = refl };
+}
+
+pub first_shows : Asks first_schema 0 0 meta 0
+unfolding understood everything
+first_shows = record { plain = (refl, refl); unlisted = refl; is = refl }
+
+-- after the tables before it
+pub defined : IsDefined (made (take 0 tables)) 0 meta
+unfolding understood everything
+defined = record { command = refl; plain = (refl, refl); table_is = refl; uncounted = refl; tree_is = refl }
+
+pub ordered : (a b : MetaRow) → by_meta a b ≡ first_cmp 1 (meta_row a) (meta_row b)
+ordered a b = one_number a.one b.one
+
+pub fits : (x : MetaRow) → AllFit meta.columns (meta_row x)
+fits x = search rules

@@ -1,0 +1,44 @@
+-- What the texts of products mean, how its rows are ordered, and that its columns hold their values.
+use Rattle.std.specs.Prelude.{◌≡◌, take}
+use Rattle.std.proofs.Common.{inl, inr, refl, rules}
+use Rattle.sqlite_tied.specs.Compute.{everything}
+use Rattle.sqlite.specs.Listing.{understood}
+use Rattle.mf_store_sql.specs.Making.{IsDefined}
+use Rattle.mf_store_sql.specs.Meanings.{Asks, IsKept}
+use Rattle.mf_store_sql.specs.Rows.{AllFit, first_cmp}
+use Rattle.mf_store_schema.specs.Keys.{one_number}
+use Rattle.mf_store_schema.specs.Tables.{schema, first_schema, tables, made, products}
+use Rattle.mf_store_schema.specs.Rows.{product_row, by_product}
+use Rattle.mf_store_schema.specs.declared.products.ProductRow.{ProductRow}
+
+pub kept : IsKept schema 5 11 products
+unfolding understood everything
+kept = record {
+  there = refl;
+  quiet = λ keys olds news. refl;
+  always = refl;
+  index = inr (inr (inr (inr (inr (inr (inl refl))))));
+  guards_it = refl;
+  alone = λ new row. refl;
+  apart = refl;
+  under = λ trees. refl;
+  adds = record { plain = (refl, refl); is = refl };
+  puts = record { plain = (refl, refl); is = refl };
+  finds = record { plain = (refl, refl); unlisted = refl; is = refl };
+  shows = record { plain = (refl, refl); unlisted = refl; is = refl };
+}
+
+pub first_shows : Asks first_schema 5 11 products 0
+unfolding understood everything
+first_shows = record { plain = (refl, refl); unlisted = refl; is = refl }
+
+-- after the tables before it
+pub defined : IsDefined (made (take 5 tables)) 11 products
+unfolding understood everything
+defined = record { command = refl; plain = (refl, refl); table_is = refl; uncounted = refl; tree_is = refl }
+
+pub ordered : (a b : ProductRow) → by_product a b ≡ first_cmp 1 (product_row a) (product_row b)
+ordered a b = one_number a.number b.number
+
+pub fits : (x : ProductRow) → AllFit products.columns (product_row x)
+fits x = search rules

@@ -1,0 +1,48 @@
+-- What the texts of shares mean, how its rows are ordered, and that its columns hold their values.
+use Rattle.std.specs.Prelude.{◌≡◌, take}
+use Rattle.std.proofs.Common.{inl, inr, refl, rules}
+use Rattle.sqlite_tied.specs.Compute.{everything}
+use Rattle.sqlite.specs.Listing.{understood}
+use Rattle.mf_store_sql.specs.Making.{IsDefined}
+use Rattle.mf_store_sql.specs.Meanings.{Asks, IsKept}
+use Rattle.mf_store_sql.specs.Rows.{AllFit, first_cmp}
+use Rattle.mf_store_schema.specs.Keys.{four_numbers}
+use Rattle.mf_store_schema.specs.Tables.{schema, tables, made, shares}
+use Rattle.mf_store_schema.specs.Rows.{share_row, by_share}
+use Rattle.mf_store_schema.specs.declared.shares.ShareRow.{ShareRow}
+
+pub kept : IsKept schema 10 21 shares
+unfolding understood everything
+kept = record {
+  there = refl;
+  quiet = λ keys olds news. refl;
+  always = refl;
+  index = inr (inr (inr (inr (inr (inr (inr (inr (inr (inr (inr (inl refl)))))))))));
+  guards_it = refl;
+  alone = λ new row. refl;
+  apart = refl;
+  under = λ trees. refl;
+  adds = record { plain = (refl, refl); is = refl };
+  puts = record { plain = (refl, refl); is = refl };
+  finds = record { plain = (refl, refl); unlisted = refl; is = refl };
+  shows = record { plain = (refl, refl); unlisted = refl; is = refl };
+}
+
+pub lists_by_2 : Asks schema 10 21 shares 2
+unfolding understood everything
+lists_by_2 = record { plain = (refl, refl); unlisted = refl; is = refl }
+
+pub lists_by_3 : Asks schema 10 21 shares 3
+unfolding understood everything
+lists_by_3 = record { plain = (refl, refl); unlisted = refl; is = refl }
+
+-- after the tables before it
+pub defined : IsDefined (made (take 10 tables)) 21 shares
+unfolding understood everything
+defined = record { command = refl; plain = (refl, refl); table_is = refl; uncounted = refl; tree_is = refl }
+
+pub ordered : (a b : ShareRow) → by_share a b ≡ first_cmp 4 (share_row a) (share_row b)
+ordered a b = four_numbers a.office a.loan a.seq a.place b.office b.loan b.seq b.place
+
+pub fits : (x : ShareRow) → AllFit shares.columns (share_row x)
+fits x = search rules

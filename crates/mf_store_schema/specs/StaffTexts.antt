@@ -1,0 +1,48 @@
+-- What the texts of staff mean, how its rows are ordered, and that its columns hold their values.
+use Rattle.std.specs.Prelude.{◌≡◌, take}
+use Rattle.std.proofs.Common.{inl, inr, refl, rules}
+use Rattle.sqlite_tied.specs.Compute.{everything}
+use Rattle.sqlite.specs.Listing.{understood}
+use Rattle.mf_store_sql.specs.Making.{IsDefined}
+use Rattle.mf_store_sql.specs.Meanings.{Asks, IsKept}
+use Rattle.mf_store_sql.specs.Rows.{AllFit, first_cmp}
+use Rattle.mf_store_schema.specs.Keys.{two_numbers}
+use Rattle.mf_store_schema.specs.Tables.{schema, first_schema, tables, made, staff}
+use Rattle.mf_store_schema.specs.Rows.{staff_row, by_staff}
+use Rattle.mf_store_schema.specs.declared.staff.StaffRow.{StaffRow}
+
+pub kept : IsKept schema 2 5 staff
+unfolding understood everything
+kept = record {
+  there = refl;
+  quiet = λ keys olds news. refl;
+  always = refl;
+  index = inr (inr (inr (inl refl)));
+  guards_it = refl;
+  alone = λ new row. refl;
+  apart = refl;
+  under = λ trees. refl;
+  adds = record { plain = (refl, refl); is = refl };
+  puts = record { plain = (refl, refl); is = refl };
+  finds = record { plain = (refl, refl); unlisted = refl; is = refl };
+  shows = record { plain = (refl, refl); unlisted = refl; is = refl };
+}
+
+pub lists_by_1 : Asks schema 2 5 staff 1
+unfolding understood everything
+lists_by_1 = record { plain = (refl, refl); unlisted = refl; is = refl }
+
+pub first_shows : Asks first_schema 2 5 staff 0
+unfolding understood everything
+first_shows = record { plain = (refl, refl); unlisted = refl; is = refl }
+
+-- after the tables before it
+pub defined : IsDefined (made (take 2 tables)) 5 staff
+unfolding understood everything
+defined = record { command = refl; plain = (refl, refl); table_is = refl; uncounted = refl; tree_is = refl }
+
+pub ordered : (a b : StaffRow) → by_staff a b ≡ first_cmp 2 (staff_row a) (staff_row b)
+ordered a b = two_numbers a.office a.number b.office b.number
+
+pub fits : (x : StaffRow) → AllFit staff.columns (staff_row x)
+fits x = search rules

@@ -1,0 +1,90 @@
+-- The lists that the tables keep, and what each write makes of them. Before the tables are made there is none.
+use Rattle.std.specs.Prelude.{◌≡◌, ℕ, List, [], ◌∷◌, Option, Some, None, IsSome}
+use Rattle.std.specs.declared.cmp.Ordering.{Ordering}
+use Rattle.sqlite.specs.Order.{Row}
+use Rattle.sqlite.specs.Schema.{Schema}
+use Rattle.sqlite.specs.Tree.{Trees}
+use Rattle.sqlite_catalog.specs.Listing.{IsSound}
+use Rattle.mf_store_sql.specs.Keep.{Keeps}
+use Rattle.mf_store_sql.specs.Trees.{Condition, AllHold}
+use Rattle.sqlite.specs.State.{State}
+use Rattle.mf_store_sql.specs.Tables.{no_schema}
+use Rattle.mf_store_sql.specs.Writes.{Serves, Steps}
+use Rattle.mf_store_schema.specs.Tables.{schema}
+use Rattle.mf_store_schema.specs.Rows.{Lists, no_rows, meta_row, office_row, staff_row, client_row, charge_row}
+use Rattle.mf_store_schema.specs.Rows.{product_row, loan_row, entry_row, receipt_row, instalment_row, share_row}
+use Rattle.mf_store_schema.specs.Rows.{by_meta, by_office, by_staff, by_client, by_charge, by_product, by_loan}
+use Rattle.mf_store_schema.specs.Rows.{by_entry, by_receipt, by_instalment, by_share, put_meta, put_office, put_staff}
+use Rattle.mf_store_schema.specs.Rows.{put_client, put_charge, put_product, put_loan, put_entry, put_receipt}
+use Rattle.mf_store_schema.specs.Rows.{put_instalment, put_share, drop_shares}
+use Rattle.mf_store_schema.specs.declared.writes.StoreWrite.{StoreWrite}
+use Rattle.mf_store_schema.specs.declared.writes.StoreWrite.TheVariants.{MakeTables, PutMeta, PutOffice, PutStaff}
+use Rattle.mf_store_schema.specs.declared.writes.StoreWrite.TheVariants.{PutClient, PutCharge, AddProduct, PutProduct}
+use Rattle.mf_store_schema.specs.declared.writes.StoreWrite.TheVariants.{AddLoan, PutLoan, AddEntry, ChangeEntry}
+use Rattle.mf_store_schema.specs.declared.writes.StoreWrite.TheVariants.{AddReceipt, PutInstalment, PutShare}
+use Rattle.mf_store_schema.specs.declared.writes.StoreWrite.TheVariants.{RemoveShares}
+
+-- the tree keeps these rows, in the order of their keys
+abbrev pub kept_in : {X : Type 0} → ℕ → (X → Row) → (X → X → Ordering) → List X → Condition
+kept_in tree stored cmp items = (tree, λ rows. Keeps stored cmp rows items)
+
+-- what the tree of each table keeps, in the order of the tables
+abbrev pub conditions : Lists → List Condition
+conditions lists = kept_in 0 meta_row by_meta lists.meta ∷ kept_in 2 office_row by_office lists.offices
+    ∷ kept_in 5 staff_row by_staff lists.staff ∷ kept_in 7 client_row by_client lists.clients
+    ∷ kept_in 9 charge_row by_charge lists.charges ∷ kept_in 11 product_row by_product lists.products
+    ∷ kept_in 13 loan_row by_loan lists.loans ∷ kept_in 15 entry_row by_entry lists.entries
+    ∷ kept_in 17 receipt_row by_receipt lists.receipts
+    ∷ kept_in 19 instalment_row by_instalment lists.instalments ∷ kept_in 21 share_row by_share lists.shares ∷ []
+
+-- the trees list the schema and obey it, and keep these lists
+pub record HoldsLists (trees : Trees) (lists : Lists) : Type 0 where
+  pub sound : IsSound schema trees
+  pub all : AllHold trees (conditions lists)
+
+-- the schema of a database that keeps these lists; none where the tables are still to be made
+abbrev pub schema_of : Option Lists → Schema
+schema_of None = no_schema
+schema_of (Some lists) = schema
+
+-- the trees keep these lists and nothing else
+abbrev pub Holds : Trees → Option Lists → Type 0
+Holds trees None = IsSound no_schema trees
+Holds trees (Some lists) = HoldsLists trees lists
+
+-- the lists with a change, where there are tables
+abbrev pub lists_changed : (Lists → Lists) → Option Lists → Option Lists
+lists_changed change None = None
+lists_changed change (Some lists) = Some (change lists)
+
+-- the lists after a write
+abbrev pub after : StoreWrite → Option Lists → Option Lists
+after MakeTables lists = Some no_rows
+after (PutMeta x) lists = lists_changed (put_meta x) lists
+after (PutOffice x) lists = lists_changed (put_office x) lists
+after (PutStaff x) lists = lists_changed (put_staff x) lists
+after (PutClient x) lists = lists_changed (put_client x) lists
+after (PutCharge x) lists = lists_changed (put_charge x) lists
+after (AddProduct x) lists = lists_changed (put_product x) lists
+after (PutProduct x) lists = lists_changed (put_product x) lists
+after (AddLoan x) lists = lists_changed (put_loan x) lists
+after (PutLoan x) lists = lists_changed (put_loan x) lists
+after (AddEntry x) lists = lists_changed (put_entry x) lists
+after (ChangeEntry x) lists = lists_changed (put_entry x) lists
+after (AddReceipt x) lists = lists_changed (put_receipt x) lists
+after (PutInstalment x) lists = lists_changed (put_instalment x) lists
+after (PutShare x) lists = lists_changed (put_share x) lists
+after (RemoveShares e) lists = lists_changed (drop_shares e) lists
+
+-- tables are made where there is none, and rows are put and removed where there are
+abbrev pub Fits : StoreWrite → Option Lists → Type 0
+Fits MakeTables lists = lists ≡ None
+Fits _ lists = IsSome lists
+
+-- the transaction goes on; where there were no tables, they are there and have no rows
+abbrev pub Making : State → State → Type 0
+Making old new = Steps (Serves schema_of Holds) (λ lists. lists ≡ None) (λ _. Some no_rows) old new
+
+-- the transaction goes on, and the lists are changed so
+abbrev pub Putting : (Lists → Lists) → State → State → Type 0
+Putting change old new = Steps (Serves schema_of Holds) (λ lists. IsSome lists) (lists_changed change) old new

@@ -1,0 +1,245 @@
+//! The table instalments: its rows, and the texts that read and write them.
+
+ghost use Rattle.std.specs.Ordering.{is_eq};
+ghost use Rattle.mf_store_schema.specs.Tables.{instalments};
+ghost use Rattle.mf_store_schema.specs.InstalmentsTexts.{kept, fits, ordered, lists_by_2};
+ghost use Rattle.mf_store_schema.specs.Keys.{two_numbers, three_numbers};
+ghost use Rattle.mf_store_schema.specs.Rows.{by_instalment, instalment_row, put_instalment, is_instalment};
+ghost use Rattle.mf_store_schema.specs.Rows.{is_instalment_of};
+ghost use Rattle.mf_store_schema.specs.Schemas.{IsPresent};
+ghost use Rattle.mf_store_schema.specs.Whole.{asked_present};
+
+use crate::table::{Changing, Listed, Table, has_columns};
+use crate::text::Text;
+use crate::words::{ColumnWords, IndexWords, TableWords};
+use mf_store_sql::run;
+use sqlite::{Alter, Error, Row, Transaction, params};
+
+/// Makes the table.
+pub(crate) const CREATE_TEXT: &str =
+    "CREATE TABLE instalments (office INTEGER NOT NULL, loan INTEGER NOT NULL, number INTEGER NOT NULL, \
+     due TEXT NOT NULL, owed_penalty INTEGER NOT NULL, paid_penalty INTEGER NOT NULL, \
+     waived_penalty INTEGER NOT NULL, written_off_penalty INTEGER NOT NULL, owed_fee INTEGER NOT NULL, \
+     paid_fee INTEGER NOT NULL, waived_fee INTEGER NOT NULL, written_off_fee INTEGER NOT NULL, \
+     owed_interest INTEGER NOT NULL, paid_interest INTEGER NOT NULL, waived_interest INTEGER NOT NULL, \
+     written_off_interest INTEGER NOT NULL, owed_principal INTEGER NOT NULL, paid_principal INTEGER NOT NULL, \
+     waived_principal INTEGER NOT NULL, written_off_principal INTEGER NOT NULL, PRIMARY KEY (office, loan, \
+     number)) STRICT";
+
+/// The table in words that a schema found is compared with.
+pub(crate) const WORDS: TableWords = TableWords {
+    tree: 19,
+    name: "instalments",
+    columns: &[
+        ColumnWords::Int("office"),
+        ColumnWords::Int("loan"),
+        ColumnWords::Int("number"),
+        ColumnWords::Text("due"),
+        ColumnWords::Int("owed_penalty"),
+        ColumnWords::Int("paid_penalty"),
+        ColumnWords::Int("waived_penalty"),
+        ColumnWords::Int("written_off_penalty"),
+        ColumnWords::Int("owed_fee"),
+        ColumnWords::Int("paid_fee"),
+        ColumnWords::Int("waived_fee"),
+        ColumnWords::Int("written_off_fee"),
+        ColumnWords::Int("owed_interest"),
+        ColumnWords::Int("paid_interest"),
+        ColumnWords::Int("waived_interest"),
+        ColumnWords::Int("written_off_interest"),
+        ColumnWords::Int("owed_principal"),
+        ColumnWords::Int("paid_principal"),
+        ColumnWords::Int("waived_principal"),
+        ColumnWords::Int("written_off_principal"),
+    ],
+    primary: &[1, 2, 3],
+    uniques: &[&[1, 2, 3]],
+};
+
+/// The index of its key.
+pub(crate) const INDEX: IndexWords = IndexWords {
+    table: 19,
+    tree: 20,
+    name: "sqlite_autoindex_instalments_1",
+    key: &[1, 2, 3],
+};
+
+/// A row of the table instalments.
+#[derive(Drop)]
+pub struct InstalmentRow {
+    pub office: u32,
+    /// The loan's number within the office.
+    pub loan: u32,
+    /// The instalment's number within the loan, from 1.
+    pub number: u32,
+    /// The day on which it is due, as YYYY-MM-DD.
+    pub due: Text,
+    /// Cents, as in all that follow: by portion what is owed, and of it what is paid, waived and written off.
+    pub owed_penalty: i64,
+    pub paid_penalty: i64,
+    pub waived_penalty: i64,
+    pub written_off_penalty: i64,
+    pub owed_fee: i64,
+    pub paid_fee: i64,
+    pub waived_fee: i64,
+    pub written_off_fee: i64,
+    pub owed_interest: i64,
+    pub paid_interest: i64,
+    pub waived_interest: i64,
+    pub written_off_interest: i64,
+    pub owed_principal: i64,
+    pub paid_principal: i64,
+    pub waived_principal: i64,
+    pub written_off_principal: i64,
+}
+
+impl Table for InstalmentRow {
+    ghost use Rattle.std.proofs.Common.{ap, refl};
+
+    type Key = (u32, u32, u32);
+
+    ghost columns = { instalments };
+
+    ghost place = { 9 };
+
+    ghost tree = { 19 };
+
+    ghost IsUnder = { IsPresent };
+
+    ghost stored = { instalment_row };
+
+    ghost by = { by_instalment };
+
+    ghost list = { λ lists. lists.instalments };
+
+    ghost put = { put_instalment };
+
+    ghost is_at = { λ key. is_instalment key.0 key.1 key.2 };
+
+    fn read(row: &Row) -> Result<InstalmentRow, Error> {
+        has_columns(row, 20)?;
+        Ok(InstalmentRow {
+            office: row.get(0)?,
+            loan: row.get(1)?,
+            number: row.get(2)?,
+            owed_penalty: row.get(4)?,
+            paid_penalty: row.get(5)?,
+            waived_penalty: row.get(6)?,
+            written_off_penalty: row.get(7)?,
+            owed_fee: row.get(8)?,
+            paid_fee: row.get(9)?,
+            waived_fee: row.get(10)?,
+            written_off_fee: row.get(11)?,
+            owed_interest: row.get(12)?,
+            paid_interest: row.get(13)?,
+            waived_interest: row.get(14)?,
+            written_off_interest: row.get(15)?,
+            owed_principal: row.get(16)?,
+            paid_principal: row.get(17)?,
+            waived_principal: row.get(18)?,
+            written_off_principal: row.get(19)?,
+            due: row.get(3)?,
+        })
+    }
+
+    fn execute<S: Alter>(&self, tx: &mut Transaction<'_, S>, sql: &str) -> Result<(), Error> {
+        run(
+            tx,
+            sql,
+            params![
+                self.office,
+                self.loan,
+                self.number,
+                &self.due,
+                &self.owed_penalty,
+                &self.paid_penalty,
+                &self.waived_penalty,
+                &self.written_off_penalty,
+                &self.owed_fee,
+                &self.paid_fee,
+                &self.waived_fee,
+                &self.written_off_fee,
+                &self.owed_interest,
+                &self.paid_interest,
+                &self.waived_interest,
+                &self.written_off_interest,
+                &self.owed_principal,
+                &self.paid_principal,
+                &self.waived_principal,
+                &self.written_off_principal
+            ],
+        )
+    }
+
+    fn find_text() -> &'static str {
+        "SELECT office, loan, number, due, owed_penalty, paid_penalty, waived_penalty, written_off_penalty, \
+         owed_fee, paid_fee, waived_fee, written_off_fee, owed_interest, paid_interest, waived_interest, \
+         written_off_interest, owed_principal, paid_principal, waived_principal, \
+         written_off_principal FROM instalments WHERE office = ?1 AND loan = ?2 AND number = ?3 ORDER BY office, \
+         loan, number"
+    }
+
+    fn insert_text() -> &'static str {
+        "INSERT INTO instalments VALUES (?1, ?2, ?3, ?4, ?5, ?6, ?7, ?8, ?9, ?10, ?11, ?12, ?13, ?14, ?15, ?16, \
+         ?17, ?18, ?19, ?20)"
+    }
+
+    fn every_text() -> &'static str {
+        "SELECT office, loan, number, due, owed_penalty, paid_penalty, waived_penalty, written_off_penalty, \
+         owed_fee, paid_fee, waived_fee, written_off_fee, owed_interest, paid_interest, waived_interest, \
+         written_off_interest, owed_principal, paid_principal, waived_principal, \
+         written_off_principal FROM instalments ORDER BY office, loan, number"
+    }
+
+    ghost kept = { kept };
+
+    ghost asked = { asked_present 9 19 instalments kept };
+
+    ghost fits = { fits };
+
+    ghost ordered = { ordered };
+
+    ghost keyed = { refl };
+
+    ghost found = { λ key x. ap is_eq (three_numbers key.0 key.1 key.2 x.office x.loan x.number) };
+
+    ghost held = { λ trees lists holds. holds.all.1.1.1.1.1.1.1.1.1.0 };
+
+    ghost changes = { λ x lists trees all. all };
+}
+
+impl Changing for InstalmentRow {
+    fn upsert_text() -> &'static str {
+        "INSERT INTO instalments VALUES (?1, ?2, ?3, ?4, ?5, ?6, ?7, ?8, ?9, ?10, ?11, ?12, ?13, ?14, ?15, ?16, \
+         ?17, ?18, ?19, ?20) ON CONFLICT (office, loan, number) DO UPDATE SET due = excluded.due, \
+         owed_penalty = excluded.owed_penalty, paid_penalty = excluded.paid_penalty, \
+         waived_penalty = excluded.waived_penalty, written_off_penalty = excluded.written_off_penalty, \
+         owed_fee = excluded.owed_fee, paid_fee = excluded.paid_fee, waived_fee = excluded.waived_fee, \
+         written_off_fee = excluded.written_off_fee, owed_interest = excluded.owed_interest, \
+         paid_interest = excluded.paid_interest, waived_interest = excluded.waived_interest, \
+         written_off_interest = excluded.written_off_interest, owed_principal = excluded.owed_principal, \
+         paid_principal = excluded.paid_principal, waived_principal = excluded.waived_principal, \
+         written_off_principal = excluded.written_off_principal"
+    }
+}
+
+impl Listed for InstalmentRow {
+    ghost use Rattle.std.proofs.Common.{ap, refl};
+
+    type Part = (u32, u32);
+
+    ghost is_in = { λ loan. is_instalment_of loan.0 loan.1 };
+
+    fn list_text() -> &'static str {
+        "SELECT office, loan, number, due, owed_penalty, paid_penalty, waived_penalty, written_off_penalty, \
+         owed_fee, paid_fee, waived_fee, written_off_fee, owed_interest, paid_interest, waived_interest, \
+         written_off_interest, owed_principal, paid_principal, waived_principal, \
+         written_off_principal FROM instalments WHERE office = ?1 AND loan = ?2 ORDER BY office, loan, number"
+    }
+
+    ghost lists = { lists_by_2 };
+
+    ghost partly = { refl };
+
+    ghost listed = { λ part x. ap is_eq (two_numbers part.0 part.1 x.office x.loan) };
+}

@@ -1,0 +1,132 @@
+-- What an update of a row under the same key makes of it.
+use Rattle.std.proofs.Common.{◌≡◌, ℕ, ℤ, zero, suc, ◌+◌, ◌-◌, ◌≤◌, Bool, true, false, List, [], ◌∷◌, ◌++◌, map, length}
+use Rattle.std.proofs.Common.{refl, sym, ap, ap₂, ◌∙◌, arith, subst, Ordering, Less, Equal, Greater, is_eq, true≢false}
+use Rattle.std.specs.List.{range_with_len}
+use Rattle.std.proofs.lemmas.List.{map-append, length-map, append_assoc, length-append}
+use Rattle.std.proofs.lemmas.Map.Lookups.{exact_signed, exact_bytes}
+use Rattle.sqlite.specs.declared.types.Value.{Value}
+use Rattle.sqlite.specs.declared.types.Value.TheVariants.{Null, Int, Text as Words}
+use Rattle.sqlite.specs.Order.{Row, column, value_cmp}
+use Rattle.sqlite.specs.Rows.{shown}
+use Rattle.sqlite.specs.Term.{Term, col, eval, eval_all}
+use Rattle.sqlite_value.proofs.OrderLemmas.{value_cmp-Int, value_cmp-Text}
+use Rattle.mf_store_sql.proofs.CompareLemmas.{both_equal}
+use Rattle.mf_store_sql.specs.Columns.{Field, Number, Amount, Text, MaybeNumber, MaybeText, Named, Columns, upwards}
+use Rattle.mf_store_sql.specs.Columns.{is_always}
+use Rattle.mf_store_sql.specs.Columns.{sql_column, sql_table}
+use Rattle.mf_store_sql.specs.Rows.{columns_cmp, Fits, AllFit}
+use Rattle.mf_store_sql.specs.Meanings.{columns_of, are_always}
+use Rattle.mf_store_sql.specs.Rows.{ArePlain, IsPlainValue}
+use Rattle.mf_store_sql.proofs.ColumnLemmas.{columns_at, all_columns, reads_row, reads_parameters}
+use Rattle.mf_store_sql.proofs.ColumnLemmas.{columns_split}
+
+-- ---- the columns that `excluded` names
+
+place_next : (v : Value) (at n : ℕ) (row : Row) → map (λ k. column (v ∷ row) (k + 1)) (range_with_len at n)
+    ≡ columns_at at n row
+place_next v at zero row = refl
+place_next v at (suc n) row = ap₂ (λ w vs. w ∷ vs) (ap (column (v ∷ row)) next)
+    (ap (λ k. map (λ j. column (v ∷ row) (j + 1)) (range_with_len k n)) next ∙ place_next v (suc at) n row)
+  where
+    next : at + 1 ≡ suc at
+    next = omega arith
+
+-- the row as an update is shown it
+pub shown_is : (tree : ℕ) (t : Columns) (id : ℤ) (row : Row) → length row ≡ length t.columns
+    → shown (sql_table tree t) (Int id ∷ row) ≡ Int id ∷ row
+shown_is tree t id row many = ap (λ vs. Int id ∷ vs)
+    (ap (λ n. map (λ k. column (Int id ∷ row) (k + 1)) (range_with_len 0 n))
+    (length-map t.columns sql_column ∙ sym many)
+    ∙ place_next (Int id) 0 (length row) row ∙ all_columns row)
+
+-- ---- columns behind others
+
+behind : (pre row : Row) (at : ℕ) → column (pre ++ row) (length pre + at) ≡ column row at
+behind [] row at = ap (column row) (let e : 0 + at ≡ at = omega arith in e)
+behind (v ∷ pre) row at = ap (column (v ∷ pre ++ row)) (let e : suc (length pre) + at ≡ suc (length pre + at) =
+    omega arith in e) ∙ behind pre row at
+
+pub reads_behind : (pre row : Row) (env : List Row) (at n : ℕ) → eval_all (columns_of 0 (length pre + at) n)
+    ((pre ++ row) ∷ env) ≡ columns_at at n row
+reads_behind pre row env at zero = refl
+reads_behind pre row env at (suc n) = ap₂ (λ w vs. w ∷ vs) (behind pre row at)
+    (ap (λ k. eval_all (columns_of 0 k n) ((pre ++ row) ∷ env)) (let e : suc (length pre + at) ≡ length pre + suc at =
+    omega arith in e) ∙ reads_behind pre row env (suc at) n)
+
+-- ---- the same key
+
+-- an integer or a text
+data IsIntOrText (v : Value) : Type 0 where
+  an_int : (n : ℤ) → v ≡ Int n → IsIntOrText v
+  a_text : (t : List ℕ) → v ≡ Words t → IsIntOrText v
+
+int_or_text : (v : Value) → IsPlainValue v → IsIntOrText v
+int_or_text v h = go h.0 h.1 h.2
+  where
+    go : (f : Field) → is_always f ≡ true → Fits f v → IsIntOrText v
+    go Number a fit = an_int _ fit.1
+    go Amount a fit = an_int _ fit.1
+    go Text a fit = a_text _ fit.1
+    go MaybeNumber a fit = absurd (true≢false (sym a))
+    go MaybeText a fit = absurd (true≢false (sym a))
+
+equal_is : (o : Ordering) → is_eq o ≡ true → o ≡ Equal
+equal_is Less h = absurd (true≢false (sym h))
+equal_is Equal h = refl
+equal_is Greater h = absurd (true≢false (sym h))
+
+-- an integer comes before a text
+apart : (n : ℤ) (t : List ℕ) → is_eq (value_cmp (Int n) (Words t)) ≡ false
+unfolding value_cmp
+apart n t = refl
+
+apart_back : (n : ℤ) (t : List ℕ) → is_eq (value_cmp (Words t) (Int n)) ≡ false
+unfolding value_cmp
+apart_back n t = refl
+
+pub value_same : (v w : Value) → IsPlainValue v → IsPlainValue w → is_eq (value_cmp v w) ≡ true → w ≡ v
+value_same v w p q h = go (int_or_text v p) (int_or_text w q)
+  where
+    go : IsIntOrText v → IsIntOrText w → w ≡ v
+    go (an_int m a) (an_int n b) = let same = sym (value_cmp-Int m n) ∙ sym (ap₂ value_cmp a b)
+        ∙ equal_is (value_cmp v w) h in b ∙ sym (ap (λ k. Int k) (exact_signed m n same)) ∙ sym a
+    go (an_int m a) (a_text t b) = absurd (true≢false (sym h ∙ ap is_eq (ap₂ value_cmp a b) ∙ apart m t))
+    go (a_text t a) (an_int n b) = absurd (true≢false (sym h ∙ ap is_eq (ap₂ value_cmp a b) ∙ apart_back n t))
+    go (a_text s a) (a_text t b) = let same = sym (value_cmp-Text s t) ∙ sym (ap₂ value_cmp a b)
+        ∙ equal_is (value_cmp v w) h in b ∙ sym (ap (λ k. Words k) (exact_bytes s t same)) ∙ sym a
+
+-- rows whose first columns are equal have the same values there
+pub same_columns : (at n : ℕ) (x y : Row) → ArePlain at n x → ArePlain at n y → is_eq (columns_cmp at n x y) ≡ true
+    → columns_at at n y ≡ columns_at at n x
+same_columns at zero x y p q h = refl
+same_columns at (suc n) x y p q h = let both = both_equal _ _ h in ap₂ (λ v vs. v ∷ vs)
+    (value_same (column x at) (column y at) p.0 q.0 both.0) (same_columns (suc at) n x y p.1 q.1 both.1)
+
+-- what the update makes of a row: its rowid twice, and the columns of the new one
+pub updated : (tree : ℕ) (t : Columns) (id i : ℤ) (x y : Row) → are_always t.key t.columns ≡ true
+    → length x ≡ length t.columns → t.key ≤ length t.columns → ArePlain 0 t.key x → ArePlain 0 t.key y
+    → is_eq (columns_cmp 0 t.key x y) ≡ true
+    → eval_all (col 1 0 ∷ col 1 0 ∷ columns_of 1 1 t.key ++ columns_of 0 (length t.columns + 2 + t.key)
+    (length t.columns - t.key)) ((x ++ Int i ∷ shown (sql_table tree t) (Int id ∷ x)) ∷ (Int i ∷ y) ∷ [])
+    ≡ Int i ∷ Int i ∷ x
+updated tree t id i x y always many few p q h =
+    let w = length t.columns in
+    let k = t.key in
+    let given = x ++ Int i ∷ shown (sql_table tree t) (Int id ∷ x) in
+    let env = given ∷ (Int i ∷ y) ∷ [] in
+    let pre = x ++ Int i ∷ Int id ∷ [] in
+    let as_two : given ≡ pre ++ x = ap (λ r. x ++ Int i ∷ r) (shown_is tree t id x many) ∙ sym (append_assoc x (Int i
+    ∷ Int id ∷ []) x) in
+    let long : length pre ≡ w + 2 = length-append x (Int i ∷ Int id ∷ []) ∙ ap (λ n. n + 2) many in
+    let first : eval_all (columns_of 1 1 k) env ≡ columns_at 0 k x = reads_row given i 0 k y
+    ∙ same_columns 0 k x y p q h in
+    let rest : eval_all (columns_of 0 (w + 2 + k) (w - k)) env ≡ columns_at k (w - k) x =
+    ap₂ (λ g n. eval_all (columns_of 0 (n + k) (w - k)) (g ∷ (Int i ∷ y) ∷ [])) as_two (sym long)
+    ∙ reads_behind pre x ((Int i ∷ y) ∷ []) k (w - k) in
+    let both : eval_all (columns_of 1 1 k ++ columns_of 0 (w + 2 + k) (w - k)) env ≡ x =
+    map-append (λ (e : Term). eval e env) (columns_of 1 1 k) (columns_of 0 (w + 2 + k) (w - k)) ∙ ap₂ ◌++◌ first rest
+    ∙ ap (λ n. columns_at 0 k x ++ columns_at n (w - k) x) (let e : k ≡ 0 + k = omega arith in e)
+    ∙ columns_split 0 k (w - k) x
+    ∙ ap (λ n. columns_at 0 n x) (let e : k + (w - k) ≡ length x = omega (arith, few, many) in e)
+    ∙ all_columns x in
+    ap (λ vs. Int i ∷ Int i ∷ vs) both

@@ -1,0 +1,48 @@
+-- Rows of a table: the order of their keys, and which of them a query looks for.
+use Rattle.std.specs.Prelude.{◌≡◌, ℕ, ℤ, zero, suc, pos, ◌<◌, ◌^◌, Bool, true, List, [], ◌∷◌, length, Option, Some}
+use Rattle.std.specs.Prelude.{None, IsUtf8}
+use Rattle.std.specs.declared.cmp.Ordering.{Ordering}
+use Rattle.std.specs.declared.cmp.Ordering.TheVariants.{Equal}
+use Rattle.std.specs.Ordering.{ordering_then, is_eq}
+use Rattle.sqlite.specs.declared.types.Value.{Value}
+use Rattle.sqlite.specs.declared.types.Value.TheVariants.{Null, Int, Text as Words, Real, Blob}
+use Rattle.sqlite.specs.Order.{Row, column, value_cmp}
+use Rattle.mf_store_sql.specs.Columns.{Field, Number, Amount, Text, MaybeNumber, MaybeText, Named, Columns}
+use Rattle.mf_store_sql.specs.Columns.{is_always}
+
+-- two rows by so many columns, from this one on
+abbrev pub columns_cmp : ℕ → ℕ → Row → Row → Ordering
+columns_cmp at zero a b = Equal
+columns_cmp at (suc n) a b = ordering_then (value_cmp (column a at) (column b at)) (columns_cmp (suc at) n a b)
+
+-- two rows by their first columns
+abbrev pub first_cmp : ℕ → Row → Row → Ordering
+first_cmp n a b = columns_cmp 0 n a b
+
+-- the first columns of a row, so many, have these values
+abbrev pub begins : ℕ → Row → Row → Bool
+begins n values row = is_eq (first_cmp n values row)
+
+-- a value that a field can keep, but for its size
+abbrev pub Fits : Field → Value → Type 0
+Fits Number v = (n : ℕ) × (v ≡ Int (pos n))
+Fits Amount v = (n : ℤ) × (v ≡ Int n)
+Fits Text v = (t : List ℕ) × (v ≡ Words t)
+Fits MaybeNumber v = (n : Option ℕ) × (v ≡ Rattle.mf_store_sql.specs.Values.or_null n)
+Fits MaybeText v = (t : Option (List ℕ)) × (v ≡ Rattle.mf_store_sql.specs.Values.or_text t)
+
+-- column by column, and as many
+abbrev pub AllFit : List Named → Row → Type 0
+AllFit [] [] = Unit {0}
+AllFit [] (v ∷ vs) = ⊥
+AllFit (c ∷ cs) [] = ⊥
+AllFit (c ∷ cs) (v ∷ vs) = Fits c.field v × AllFit cs vs
+
+-- a value of a field that is always there
+abbrev pub IsPlainValue : Value → Type 0
+IsPlainValue v = (f : Field) × (is_always f ≡ true) × Fits f v
+
+-- so many columns have such values, from this one on
+abbrev pub ArePlain : ℕ → ℕ → Row → Type 0
+ArePlain at zero row = Unit {0}
+ArePlain at (suc n) row = IsPlainValue (column row at) × ArePlain (suc at) n row

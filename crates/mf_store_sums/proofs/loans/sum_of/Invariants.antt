@@ -1,8 +1,0 @@
-use Rattle.std.proofs.Common.{◌≡◌, ◌≤◌, ◌*◌, ◌^◌, sum, take}
-use Rattle.mf_store_sums.proofs.loans.sum_of.Given as goal
-
-abbrev pub invariant-loop-amount : goal.invariant-loop-amount
-invariant-loop-amount l = record {
-  so_far : l.total ≡ sum (take l.amount-index l.amounts);
-  most : l.total ≤ l.amount-index * 2 ^ 64;
-}

@@ -1,4 +1,0 @@
-pub mod UpgradeLemmas
-pub mod LawLemmas
-pub mod PutLemmas
-pub mod CommitLemmas

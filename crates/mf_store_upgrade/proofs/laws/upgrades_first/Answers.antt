@@ -1,5 +1,0 @@
-use Rattle.mf_store_upgrade.proofs.LawLemmas.{upgrades_first}
-use Rattle.mf_store_upgrade.proofs.laws.upgrades_first.Goals as goal
-
-pub returns : goal.returns
-returns c = upgrades_first
