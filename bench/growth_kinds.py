@@ -51,7 +51,8 @@ class Kinds:
 
     def all(self):
         """In the order in which they are measured: the reports while each branch has its first loans alone."""
-        return self.reports() + self.clients() + self.lending() + self.reading() + self.long_loans()
+        again = self.listed("list of the 100 loans again, each entered into shortly before")
+        return self.reports() + self.clients() + self.lending() + self.reading() + self.long_loans() + [again]
 
     def kind(self, name, request, times, statements, each=1):
         """A kind of which each batch asks the request of a number so many times, the numbers going on from batch to
@@ -131,9 +132,11 @@ class Kinds:
             for name, path, statements in paths
             for entries, times, place in places
         ]
-        listed = ("1/1 GET /offices/1/loans/1\n", (1, 1))
-        name = "list of 100 loans with 20 entries each"
-        return kinds + [self.kind(name, lambda _: listed, 10, same_work.loans_listed)]
+        return kinds + [self.listed("list of 100 loans with 20 entries each")]
+
+    def listed(self, name):
+        """The list of the hundred loans of office 1 with 20 entries."""
+        return self.kind(name, lambda _: ("1/1 GET /offices/1/loans/1\n", (1, 1)), 10, same_work.loans_listed)
 
     def long_loans(self):
         """One more entry on loans that have many, and the last one of others reversed: with 200 a batch on a loan

@@ -14,6 +14,7 @@ HOURS, WORKING_DAYS = 8, 22  # of a day, of a month
 SHARE, SHARE_NAME = 0.25, "a quarter"  # of a day's time in which requests are answered
 REPORT, REPORT_OF_ALL = "report, one branch of 1,000 loans", "report, all loans"
 LIST = "list of 100 loans with 20 entries each"
+LIST_AGAIN = "list of the 100 loans again, each entered into shortly before"
 ENTERED = ["client entered", "loan submitted, approved and paid out", "repayment, loan with 0 to 19 entries"]
 BY_ENTRIES = {  # kinds that are measured at several numbers of entries on a loan
     "one more entry": "one more entry, loan with {} entries",
@@ -187,8 +188,9 @@ def legend(results):
 def growing(results):
     """What grows with what, in sentences."""
     smallest, greatest = results.sizes[0], results.sizes[-1]
-    single = [results.growth(name) for name in results.kinds() if name not in (LIST, REPORT, REPORT_OF_ALL)]
-    listed, reported = results.medians(LIST)[-1] / 100, results.medians(REPORT)[-1] / LOANS
+    single = [results.growth(name) for name in results.kinds() if name not in (LIST, LIST_AGAIN, REPORT, REPORT_OF_ALL)]
+    listed, again = (results.medians(name)[-1] / 100 for name in (LIST, LIST_AGAIN))
+    reported = results.medians(REPORT)[-1] / LOANS
     return f"""**With the file.** A request about one client or one loan takes {between(single)} times as long in the
 greatest file, of {greatest.counts[1]:,} loans, as in the smallest, of {smallest.counts[1]:,}.
 
@@ -196,7 +198,8 @@ greatest file, of {greatest.counts[1]:,} loans, as in the smallest, of {smallest
 
 {by_entries(results)}
 **With the number of loans that are asked for.** A list takes {duration(listed)} for each of its loans, of 20 entries
-each. The report of arrears takes {duration(reported)} for each loan of a branch, and over all loans of the three files
+each, and {duration(again)} where each was entered into shortly before, so that its account is known. The report of
+arrears takes {duration(reported)} for each loan of a branch, and over all loans of the three files
 {", ".join(map(duration, results.medians(REPORT_OF_ALL)))}.
 
 {by_file(results)}
