@@ -1,27 +1,20 @@
 -- Numbers gathered one by one, and the parts of one entry.
-use Rattle.std.proofs.Common.{◌≡◌, ◌≢◌, ℕ, suc, ◌+◌, ◌-◌, ◌<◌, ◌≤◌, ◌↔◌, eqb, List, [], ◌∷◌, ◌++◌, length, get_or, take}
+use Rattle.std.proofs.Common.{◌≡◌, ◌≢◌, ℕ, suc, ◌+◌, ◌-◌, ◌<◌, ◌≤◌, ◌↔◌, eqb, List, [], ◌∷◌, ◌++◌, length, get_or}
 use Rattle.std.proofs.Common.{drop, arith, refl, ◌∙◌, ap, sym, subst, inl, inr, length-append, drop-cons}
 use Rattle.std.specs.List.{Contains}
 use Rattle.std.proofs.Math.ListN.{get_or-append}
-use Rattle.std.proofs.Math.Seq.{take-append_seam, drop-append_seam}
+use Rattle.std.proofs.Math.Seq.{drop-append_seam}
 use Rattle.std.proofs.lemmas.Bool.{cases_lt, cases_eq, cond-true, cond-false, eq-eqb, ne_eqb}
 use Rattle.std.proofs.lemmas.List.{get_or-append_right}
 use Rattle.std.specs.List.Sorted.{IsStrictlyIncreasing}
 use Rattle.std.specs.Prelude.{All}
 use Rattle.std.proofs.lemmas.List.Elements.{filter-append, All-nil, All-cons, All-head, All-tail, All-append}
 use Rattle.std.proofs.lemmas.List.Elements.{All-weaker, Contains-append_left, Contains-push}
-use Rattle.mf_account.specs.declared.settled.Settled.{Settled}
+use Rattle.mf_account.specs.declared.settled.SettledPart.{SettledPart}
 use Rattle.mf_account.specs.Effect.{State}
-use Rattle.mf_account.specs.Loan.{Loan, state_of_loan, settled_of_loan}
+use Rattle.mf_account.specs.Loan.{DisbursedLoan, state_of_loan, settled_of_loan}
 use Rattle.mf_account.specs.Change.{ChangedNumbers, AreThose, AreAll, HasOtherRow, HasOtherParts, IsChange, settled_in}
 use Rattle.mf_account.specs.Applicable.{no_settled}
-
-pub those-none : (P : ℕ → Type 0) → AreThose 0 P []
-those-none P = record {
-  ascend = λ k less. absurd (omega arith);
-  each = All-nil (λ i. (1 ≤ i) × (i ≤ 0) × P i);
-  all = λ i from to is. absurd (omega arith);
-}
 
 pub those-more : (n : ℕ) (P : ℕ → Type 0) (xs : List ℕ) → AreThose n P xs → P (n + 1)
     → AreThose (n + 1) P (xs ++ (n + 1) ∷ [])
@@ -69,15 +62,7 @@ those-same n P xs those not = record {
       ];
 }
 
--- the parts of one entry from a place on: another's is passed over, and its own is first
-pub in-other : (seq : ℕ) (parts : List Settled) (k : ℕ) → k < length parts → (get_or parts k no_settled).seq ≢ seq
-    → settled_in seq (drop k parts) ≡ settled_in seq (drop (k + 1) parts)
-in-other seq parts k within other =
-    ap (settled_in seq) (drop-cons parts k no_settled within)
-    ∙ cond-false (eqb (get_or parts k no_settled).seq seq) _ _ (ne_eqb (get_or parts k no_settled).seq seq other)
-    ∙ (let next : suc k ≡ k + 1 = omega arith in ap (λ n. settled_in seq (drop n parts)) next)
-
-pub in-own : (seq : ℕ) (parts : List Settled) (k : ℕ) → k < length parts → (get_or parts k no_settled).seq ≡ seq
+pub in-own : (seq : ℕ) (parts : List SettledPart) (k : ℕ) → k < length parts → (get_or parts k no_settled).seq ≡ seq
     → settled_in seq (drop k parts) ≡ get_or parts k no_settled ∷ settled_in seq (drop (k + 1) parts)
 in-own seq parts k within own =
     ap (settled_in seq) (drop-cons parts k no_settled within)
@@ -86,7 +71,8 @@ in-own seq parts k within own =
     next)
 
 -- two lists whose first own parts are the same are the same on where the rest is
-pub same-step : (seq : ℕ) (before after : List Settled) (i k next_i next_k : ℕ) → i < length before → k < length after
+pub same-step : (seq : ℕ) (before after : List SettledPart) (i k next_i next_k : ℕ) → i < length before
+    → k < length after
     → (get_or before i no_settled).seq ≡ seq → (get_or after k no_settled).seq ≡ seq → get_or before i no_settled
     ≡ get_or after k no_settled → settled_in seq (drop (i + 1) before) ≡ settled_in seq (drop next_i before)
     → settled_in seq (drop (k + 1) after) ≡ settled_in seq (drop next_k after)
@@ -103,16 +89,9 @@ same-step seq before after i k next_i next_k within_i within_k own_i own_k same 
           ∷ x) e ∙ sym two),
     )
 
--- two lists whose first own parts differ differ
-pub other-step : (seq : ℕ) (before after : List Settled) (i k : ℕ) → i < length before → k < length after
-    → (get_or before i no_settled).seq ≡ seq → (get_or after k no_settled).seq ≡ seq → (get_or before i no_settled
-    ≢ get_or after k no_settled) → settled_in seq (drop i before) ≢ settled_in seq (drop k after)
-other-step seq before after i k within_i within_k own_i own_k other e =
-    other (ap (λ x. get_or x 0 no_settled) (sym (in-own seq before i within_i own_i) ∙ e
-    ∙ in-own seq after k within_k own_k))
-
 -- what differs between the books and parts of two loans
-pub change-is : (before after : Loan) (old new : State) (old_parts new_parts : List Settled) (change : ChangedNumbers)
+pub change-is : (before after : DisbursedLoan) (old new : State) (old_parts new_parts : List SettledPart)
+    (change : ChangedNumbers)
     → old ≡ state_of_loan before → old_parts ≡ settled_of_loan before → new ≡ state_of_loan after
     → new_parts ≡ settled_of_loan after → length old.rows ≡ after.periods → AreThose (length old.rows)
     (HasOtherRow old.rows new.rows) change.rows → AreThose (length after.entries) (HasOtherParts old_parts new_parts)
@@ -127,24 +106,16 @@ change-is before after old new old_parts new_parts change old_is old_parts_is ne
           new_is
           (subst (λ (x : State). AreThose (length old.rows) (HasOtherRow x.rows new.rows) change.rows) old_is rows));
       seqs =
-          subst (λ (x : List Settled). AreThose (length after.entries) (HasOtherParts (settled_of_loan before) x)
+          subst (λ (x : List SettledPart). AreThose (length after.entries) (HasOtherParts (settled_of_loan before) x)
           change.seqs) new_parts_is
-          (subst (λ (x : List Settled). AreThose (length after.entries) (HasOtherParts x new_parts) change.seqs)
+          (subst (λ (x : List SettledPart). AreThose (length after.entries) (HasOtherParts x new_parts) change.seqs)
           old_parts_is seqs);
     }
 
--- the last given up again
-pub popped : {X : Type 0} → (all others rest : List X) (last : X) (n : ℕ) → rest ≡ take (n - 1) all → all ≡ others
-    ++ last ∷ [] → n ≡ length all → rest ≡ others
-popped all others rest last n is whole size =
-    let count : n - 1 ≡ length others = let both = ap length whole in let sum =
-    length-append others (last ∷ []) in omega (arith, both, sum, size) in
-    is ∙ ap (λ k. take k all) count ∙ ap (take (length others)) whole ∙ take-append_seam others (last ∷ [])
-
 -- what begins alike differs where the rest does
-pub settled_in-append : (seq : ℕ) (xs ys : List Settled) → settled_in seq (xs ++ ys) ≡ settled_in seq xs
+pub settled_in-append : (seq : ℕ) (xs ys : List SettledPart) → settled_in seq (xs ++ ys) ≡ settled_in seq xs
     ++ settled_in seq ys
-settled_in-append seq xs ys = filter-append (λ (s : Settled). eqb s.seq seq) xs ys
+settled_in-append seq xs ys = filter-append (λ (s : SettledPart). eqb s.seq seq) xs ys
 
 all-iff : (P Q : ℕ → Type 0) (xs : List ℕ) → ((i : ℕ) → P i → Q i) → ((i : ℕ) → Q i → P i) → AreAll P xs → AreAll Q xs
 all-iff P Q xs to from are = record {
@@ -153,12 +124,12 @@ all-iff P Q xs to from are = record {
   all = λ i holds. are.all i (from i holds);
 }
 
-pub all-tails : (front before after : List Settled) (xs : List ℕ) → AreAll (HasOtherParts before after) xs
+pub all-tails : (front before after : List SettledPart) (xs : List ℕ) → AreAll (HasOtherParts before after) xs
     → AreAll (HasOtherParts (front ++ before) (front ++ after)) xs
 all-tails front before after xs are =
     all-iff (HasOtherParts before after) (HasOtherParts (front ++ before) (front ++ after)) xs
     (λ seq other same.
-    let own : List Settled = settled_in seq front in
+    let own : List SettledPart = settled_in seq front in
     other (sym (drop-append_seam own (settled_in seq before)) ∙ ap (drop (length own))
     (sym (settled_in-append seq front before) ∙ same ∙ settled_in-append seq front after)
     ∙ drop-append_seam own (settled_in seq after)))
@@ -181,13 +152,6 @@ pub record AreBelow (m : ℕ) (P : ℕ → Type 0) (xs : List ℕ) : Type 0 wher
   pub ascend : IsStrictlyIncreasing xs
   pub each : All (λ i. (i < m) × P i) xs
   pub all : (i : ℕ) → i < m → P i → Contains xs i
-
-pub below-none : (P : ℕ → Type 0) → AreBelow 0 P []
-below-none P = record {
-  ascend = λ k less. absurd (omega arith);
-  each = All-nil (λ i. (i < 0) × P i);
-  all = λ i below is. absurd (omega arith);
-}
 
 pub below-more : (m q : ℕ) (P : ℕ → Type 0) (xs : List ℕ) → AreBelow m P xs → m ≤ q → ((i : ℕ) → m ≤ i → i < q → P i
     → ⊥) → P q → AreBelow (q + 1) P (xs ++ q ∷ [])
@@ -249,9 +213,10 @@ below-all m P xs are none = record {
 }
 
 -- no part of an entry
-pub none-in : (seq : ℕ) (parts : List Settled) → All (λ (s : Settled). s.seq ≢ seq) parts → settled_in seq parts ≡ []
+pub none-in : (seq : ℕ) (parts : List SettledPart) → All (λ (s : SettledPart). s.seq ≢ seq) parts → settled_in seq parts
+    ≡ []
 none-in seq [] apart = refl
 none-in seq (s ∷ parts) apart =
     cond-false (eqb s.seq seq) (s ∷ settled_in seq parts) (settled_in seq parts)
-    (ne_eqb s.seq seq (All-head (λ (x : Settled). x.seq ≢ seq) s parts apart))
-    ∙ none-in seq parts (All-tail (λ (x : Settled). x.seq ≢ seq) s parts apart)
+    (ne_eqb s.seq seq (All-head (λ (x : SettledPart). x.seq ≢ seq) s parts apart))
+    ∙ none-in seq parts (All-tail (λ (x : SettledPart). x.seq ≢ seq) s parts apart)

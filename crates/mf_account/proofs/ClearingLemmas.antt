@@ -6,7 +6,7 @@ use Rattle.std.specs.List.{range_with_len}
 use Rattle.std.proofs.lemmas.Bool.{cases_eq, cond_both, ltb-false}
 use Rattle.std.proofs.lemmas.List.{length-set, get_or-set_same, get_or-set_other}
 use Rattle.mf_alloc.specs.declared.row.Cell.{Cell}
-use Rattle.mf_alloc.specs.Sums.{Sums, open_at, IsWhole, AreWhole}
+use Rattle.mf_alloc.specs.Sums.{Instalment, open_at, IsWhole, AreWhole}
 use Rattle.mf_alloc.specs.Rows.{no_row, row_at, rows_changed_at, place_in_row, IsCell, outstanding}
 use Rattle.mf_alloc.proofs.PaymentLemmas.{same_cell, same_portion}
 use Rattle.mf_alloc.proofs.LeftOpen.{place_in_row-small, whole-at, IsLine, cell-at, cells-apart}
@@ -22,39 +22,39 @@ abbrev part_in : How → Cell → ℕ → Part
 part_in how cell amount = record { cell = cell; how = how; amount = amount }
 
 -- the sum that a part raises
-abbrev sum_of : How → Sums → List ℕ
+abbrev sum_of : How → Instalment → List ℕ
 sum_of Paid row = row.paid
 sum_of Waived row = row.waived
 sum_of WrittenOff row = row.written_off
 
-abbrev in_cell : How → List Sums → Cell → ℕ
+abbrev in_cell : How → List Instalment → Cell → ℕ
 in_cell how rows cell = get_or (sum_of how (row_at rows cell.instalment)) (place_in_row cell.portion) 0
 
-sum-settle_row : (how : How) (p amount : ℕ) (row : Sums) → sum_of how (settle_row how p amount row)
+sum-settle_row : (how : How) (p amount : ℕ) (row : Instalment) → sum_of how (settle_row how p amount row)
     ≡ set (sum_of how row) p (get_or (sum_of how row) p 0 + amount)
 sum-settle_row Paid p amount row = refl
 sum-settle_row Waived p amount row = refl
 sum-settle_row WrittenOff p amount row = refl
 
-length-sum : (how : How) (row : Sums) → IsWhole row → length (sum_of how row) ≡ 4
+length-sum : (how : How) (row : Instalment) → IsWhole row → length (sum_of how row) ≡ 4
 length-sum Paid row is = is.paid
 length-sum Waived row is = is.waived
 length-sum WrittenOff row is = is.written_off
 
-in-here : (how : How) (rows : List Sums) (cell : Cell) (amount : ℕ) → IsCell (length rows) cell → AreWhole rows
+in-here : (how : How) (rows : List Instalment) (cell : Cell) (amount : ℕ) → IsCell (length rows) cell → AreWhole rows
     → in_cell how (settle rows (part_in how cell amount)) cell ≡ in_cell how rows cell + amount
 in-here how rows cell amount there whole =
     let i : ℕ = cell.instalment - 1 in
     let p : ℕ = place_in_row cell.portion in
-    let row : Sums = get_or rows i no_row in
+    let row : Instalment = get_or rows i no_row in
     let size = length-sum how row (whole-at rows cell.instalment whole there.first there.last) in
     let small : p < 4 = place_in_row-small cell.portion in
-    ap (λ (x : Sums). get_or (sum_of how x) p 0) (get_or-set_same rows i (settle_row how p amount row) no_row
+    ap (λ (x : Instalment). get_or (sum_of how x) p 0) (get_or-set_same rows i (settle_row how p amount row) no_row
     (omega (arith, there.first, there.last)))
     ∙ ap (λ (s : List ℕ). get_or s p 0) (sum-settle_row how p amount row)
     ∙ get_or-set_same (sum_of how row) p (get_or (sum_of how row) p 0 + amount) 0 (omega (arith, size, small))
 
-in-other : (how : How) (rows : List Sums) (clearing cell : Cell) (amount : ℕ) → IsCell (length rows) clearing
+in-other : (how : How) (rows : List Instalment) (clearing cell : Cell) (amount : ℕ) → IsCell (length rows) clearing
     → IsCell (length rows) cell → cell ≢ clearing → in_cell how (settle rows (part_in how clearing amount)) cell
     ≡ in_cell how rows cell
 in-other how rows clearing cell amount there here apart =
@@ -62,28 +62,29 @@ in-other how rows clearing cell amount there here apart =
     let j : ℕ = cell.instalment - 1 in
     let p : ℕ = place_in_row clearing.portion in
     let q : ℕ = place_in_row cell.portion in
-    let change : Sums → Sums = settle_row how p amount in
+    let change : Instalment → Instalment = settle_row how p amount in
     elim (cases_eq cell.instalment clearing.instalment) [
       | inl same ↦
           let other : q ≢ p =
           λ e. apart (same_cell cell clearing same (same_portion cell.portion clearing.portion e)) in
           let at : j ≡ i = omega (arith, same) in
-          let row : Sums = get_or rows j no_row in
+          let row : Instalment = get_or rows j no_row in
           let read : get_or (rows_changed_at rows clearing.instalment change) j no_row ≡ change row =
           ap (λ x. get_or (rows_changed_at rows clearing.instalment change) x no_row) at
           ∙ get_or-set_same rows i (change (get_or rows i no_row)) no_row (omega (arith, there.first, there.last))
           ∙ sym (ap (λ x. change (get_or rows x no_row)) at) in
-          ap (λ (x : Sums). get_or (sum_of how x) q 0) read
+          ap (λ (x : Instalment). get_or (sum_of how x) q 0) read
           ∙ ap (λ (s : List ℕ). get_or s q 0) (sum-settle_row how p amount row)
           ∙ get_or-set_other (sum_of how row) p q (get_or (sum_of how row) p 0 + amount) 0 other
       | inr differ ↦
           let other : j ≢ i = λ e. differ (omega (arith, there.first, here.first, e)) in
-          ap (λ (x : Sums). get_or (sum_of how x) q 0) (get_or-set_other rows i j (change (get_or rows i no_row)) no_row
+          ap (λ (x : Instalment). get_or (sum_of how x) q 0)
+          (get_or-set_other rows i j (change (get_or rows i no_row)) no_row
           other)
     ]
 
 -- what is settled in a cell is outstanding there no more
-open_at-here : (how : How) (row : Sums) (p amount : ℕ) → p < length (sum_of how row)
+open_at-here : (how : How) (row : Instalment) (p amount : ℕ) → p < length (sum_of how row)
     → open_at (settle_row how p amount row) p ≡ open_at row p - amount
 open_at-here Paid row p amount within =
     ap (λ x. get_or row.owed p 0 - x - get_or row.waived p 0 - get_or row.written_off p 0)
@@ -95,12 +96,13 @@ open_at-here WrittenOff row p amount within =
     ap (λ x. get_or row.owed p 0 - get_or row.paid p 0 - get_or row.waived p 0 - x)
     (get_or-set_same row.written_off p (get_or row.written_off p 0 + amount) 0 within) ∙ omega arith
 
-outstanding-here : (how : How) (rows : List Sums) (cell : Cell) (amount : ℕ) → IsCell (length rows) cell → AreWhole rows
+outstanding-here : (how : How) (rows : List Instalment) (cell : Cell) (amount : ℕ) → IsCell (length rows) cell
+    → AreWhole rows
     → outstanding (settle rows (part_in how cell amount)) cell ≡ outstanding rows cell - amount
 outstanding-here how rows cell amount there whole =
     let i : ℕ = cell.instalment - 1 in
     let p : ℕ = place_in_row cell.portion in
-    let row : Sums = get_or rows i no_row in
+    let row : Instalment = get_or rows i no_row in
     let size = length-sum how row (whole-at rows cell.instalment whole there.first there.last) in
     let small : p < 4 = place_in_row-small cell.portion in
     ap (λ x. open_at x p) (get_or-set_same rows i (settle_row how p amount row) no_row (omega (
@@ -111,10 +113,10 @@ outstanding-here how rows cell amount there whole =
     ∙ open_at-here how row p amount (omega (arith, size, small))
 
 -- a number of each cell, and what a part makes of it in its cell
-record IsRead (how : How) (of : List Sums → Cell → ℕ) (then : ℕ → ℕ → ℕ) : Type 0 where
-  here : (rows : List Sums) (cell : Cell) (amount : ℕ) → IsCell (length rows) cell → AreWhole rows
+record IsRead (how : How) (of : List Instalment → Cell → ℕ) (then : ℕ → ℕ → ℕ) : Type 0 where
+  here : (rows : List Instalment) (cell : Cell) (amount : ℕ) → IsCell (length rows) cell → AreWhole rows
       → of (settle rows (part_in how cell amount)) cell ≡ then (of rows cell) amount
-  other : (rows : List Sums) (clearing cell : Cell) (amount : ℕ) → IsCell (length rows) clearing
+  other : (rows : List Instalment) (clearing cell : Cell) (amount : ℕ) → IsCell (length rows) clearing
       → IsCell (length rows) cell → cell ≢ clearing → of (settle rows (part_in how clearing amount)) cell ≡ of rows cell
   none : (x : ℕ) → then x 0 ≡ x
 
@@ -128,7 +130,7 @@ open-read how = record {
   none = λ x. omega arith;
 }
 
-line-settle : (how : How) (n : ℕ) (order : ℕ → Cell) (place : Cell → ℕ) (rows : List Sums) (j amount : ℕ)
+line-settle : (how : How) (n : ℕ) (order : ℕ → Cell) (place : Cell → ℕ) (rows : List Instalment) (j amount : ℕ)
     → IsLine n order place rows → IsLine n order place (settle rows (part_in how (order j) amount))
 line-settle how n order place rows j amount line = record {
   size = length-set rows ((order j).instalment - 1) (settle_row how (place_in_row (order j).portion) amount
@@ -142,8 +144,10 @@ abbrev parts_from : How → (ℕ → Cell) → (ℕ → ℕ) → ℕ → ℕ →
 parts_from how order amounts j len =
     filter is_some_part (map (λ k. part_in how (order k) (amounts k)) (range_with_len j len))
 
-read-untouched : (how : How) (of : List Sums → Cell → ℕ) (then : ℕ → ℕ → ℕ) (n : ℕ) (order : ℕ → Cell) (place : Cell
-    → ℕ) (amounts : ℕ → ℕ) (rows : List Sums) (j len k : ℕ) → IsRead how of then → IsLine n order place rows → j + len
+read-untouched : (how : How) (of : List Instalment → Cell → ℕ) (then : ℕ → ℕ → ℕ) (n : ℕ) (order : ℕ → Cell)
+    (place : Cell
+    → ℕ) (amounts : ℕ → ℕ) (rows : List Instalment) (j len k : ℕ) → IsRead how of then → IsLine n order place rows
+    → j + len
     ≤ 4 * n → k < j → of (with_settled rows (parts_from how order amounts j len)) (order k) ≡ of rows (order k)
 read-untouched how of then n order place amounts rows j zero k read line within before = refl
 read-untouched how of then n order place amounts rows j (suc len) k read line within before =
@@ -160,14 +164,15 @@ read-untouched how of then n order place amounts rows j (suc len) k read line wi
     (λ _. read-untouched how of then n order place amounts rows (j + 1) len k read line (omega (arith, within))
     (omega (arith, before)))
 
-read-touched : (how : How) (of : List Sums → Cell → ℕ) (then : ℕ → ℕ → ℕ) (n : ℕ) (order : ℕ → Cell) (place : Cell → ℕ)
-    (amounts : ℕ → ℕ) (rows : List Sums) (j len k : ℕ) → IsRead how of then → IsLine n order place rows
+read-touched : (how : How) (of : List Instalment → Cell → ℕ) (then : ℕ → ℕ → ℕ) (n : ℕ) (order : ℕ → Cell)
+    (place : Cell → ℕ)
+    (amounts : ℕ → ℕ) (rows : List Instalment) (j len k : ℕ) → IsRead how of then → IsLine n order place rows
     → j + len ≤ 4 * n → j ≤ k → k < j + len → of (with_settled rows (parts_from how order amounts j len)) (order k) ≡
     then (of rows (order k)) (amounts k)
 read-touched how of then n order place amounts rows j zero k read line within from to = absurd (omega (arith, from, to))
 read-touched how of then n order place amounts rows j (suc len) k read line within from to =
     let rest : List Part = parts_from how order amounts (j + 1) len in
-    let paid : List Sums = settle rows (part_in how (order j) (amounts j)) in
+    let paid : List Instalment = settle rows (part_in how (order j) (amounts j)) in
     let next : IsLine n order place paid = line-settle how n order place rows j (amounts j) line in
     let below : j < 4 * n = omega (arith, within) in
     let last : k < 4 * n = omega (arith, within, to) in
@@ -200,7 +205,7 @@ read-touched how of then n order place amounts rows j (suc len) k read line with
     ])
 
 -- nothing else changes
-but_written_off-set : (rows : List Sums) (i p amount : ℕ) → map but_written_off
+but_written_off-set : (rows : List Instalment) (i p amount : ℕ) → map but_written_off
     (set rows i (settle_row WrittenOff p amount (get_or rows i no_row))) ≡ map but_written_off rows
 but_written_off-set [] zero p amount = refl
 but_written_off-set [] (suc i) p amount = refl
@@ -208,14 +213,14 @@ but_written_off-set (row ∷ rows) zero p amount = refl
 but_written_off-set (row ∷ rows) (suc i) p amount =
     ap (λ x. but_written_off row ∷ x) (but_written_off-set rows i p amount)
 
-but_waived-set : (rows : List Sums) (i p amount : ℕ)
+but_waived-set : (rows : List Instalment) (i p amount : ℕ)
     → map but_waived (set rows i (settle_row Waived p amount (get_or rows i no_row))) ≡ map but_waived rows
 but_waived-set [] zero p amount = refl
 but_waived-set [] (suc i) p amount = refl
 but_waived-set (row ∷ rows) zero p amount = refl
 but_waived-set (row ∷ rows) (suc i) p amount = ap (λ x. but_waived row ∷ x) (but_waived-set rows i p amount)
 
-but_written_off-settled : (order : ℕ → Cell) (amounts : ℕ → ℕ) (rows : List Sums) (j len : ℕ)
+but_written_off-settled : (order : ℕ → Cell) (amounts : ℕ → ℕ) (rows : List Instalment) (j len : ℕ)
     → map but_written_off (with_settled rows (parts_from WrittenOff order amounts j len)) ≡ map but_written_off rows
 but_written_off-settled order amounts rows j zero = refl
 but_written_off-settled order amounts rows j (suc len) =

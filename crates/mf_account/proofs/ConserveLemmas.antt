@@ -8,13 +8,14 @@ use Rattle.std.proofs.lemmas.List.{get_or-set_other, set_past}
 use Rattle.std.proofs.lemmas.List.Elements.{All-nil, All-cons, All-head, All-tail, All-append}
 use Rattle.std.proofs.lemmas.List.Sums.{sum_by-append, sum_by-set}
 use Rattle.mf_catalog.specs.declared.terms.StrategyName.{StrategyName}
-use Rattle.mf_schedule.specs.declared.instalment.Instalment.{Instalment}
+use Rattle.mf_schedule.specs.declared.instalment.FreshInstalment.{FreshInstalment}
 use Rattle.mf_schedule.specs.Fresh.{total_principal}
 use Rattle.mf_schedule.proofs.LoanLemmas.{scheduled-principal-sum}
 use Rattle.mf_alloc.specs.declared.row.Cell.{Cell}
 use Rattle.mf_alloc.specs.declared.row.Portion.{Portion}
-use Rattle.mf_alloc.specs.declared.row.Portion.TheVariants.{Penalty as PenaltyPart, Fee as FeePart, Interest, Principal}
-use Rattle.mf_alloc.specs.Sums.{Sums, open_at, IsWhole, AreWhole}
+use Rattle.mf_alloc.specs.declared.row.Portion.TheVariants as portion
+use Rattle.mf_alloc.specs.declared.row.Portion.TheVariants.{Interest, Principal}
+use Rattle.mf_alloc.specs.Sums.{Instalment, open_at, IsWhole, AreWhole}
 use Rattle.mf_alloc.specs.Rows.{outstanding, no_row, row_at, rows_changed_at, place_in_row, IsCell}
 use Rattle.mf_alloc.specs.Payment.{shares_of}
 use Rattle.mf_alloc.specs.Order.{cell_by, place_by, standard}
@@ -27,15 +28,16 @@ use Rattle.mf_account.specs.declared.entry.Kind.TheVariants.{Repay, Fee, Penalty
 use Rattle.mf_account.specs.declared.settled.How.{How}
 use Rattle.mf_account.specs.declared.settled.How.TheVariants.{Paid, Waived, WrittenOff}
 use Rattle.mf_account.specs.Kinds.{money_in}
-use Rattle.mf_account.specs.Effect.{State, Part, after, settle, settle_row, owe_row, with_settled, with_charge}
+use Rattle.mf_account.specs.Effect.{State, Part, after_entry, settle, settle_row, owe_row, with_settled, with_charge}
 use Rattle.mf_account.specs.Effect.{whole_part, is_some_part, some_parts, parts_by, parts_cleared, parts_paid, parts_of}
 use Rattle.mf_account.specs.Effect.{own_effect, state_acted, own_share, later_share, paid_at}
 use Rattle.mf_account.specs.AtOnce.{paid_part, rows_charged}
-use Rattle.mf_account.specs.Account.{Orders, after_all, first_state, row_of, sum_at}
+use Rattle.mf_account.specs.Account.{Orders, after_entries, first_state, row_of, sum_at}
 use Rattle.mf_account.specs.Standing.{standing_entries}
 use Rattle.mf_account.specs.Applicable.{IsSettleable}
 use Rattle.mf_account.specs.Undo.{paid_by, paid_in}
-use Rattle.mf_account.specs.Loan.{Loan, HasColumns, IsEntry, IsSound, schedule_of, orders_of, cell_places_of}
+use Rattle.mf_account.specs.Loan.{DisbursedLoan, HasColumns, IsEntry, IsSoundDisbursed, schedule_of, orders_of}
+use Rattle.mf_account.specs.Loan.{cell_places_of}
 use Rattle.mf_account.specs.Loan.{state_of_loan}
 use Rattle.mf_account.specs.Balance.{balances_of, sum_repaid, HasRoom, balances_by}
 use Rattle.mf_account.proofs.EffectLemmas.{with_settled-paid}
@@ -50,11 +52,11 @@ use Rattle.mf_account.proofs.SoundLemmas.{lawful, lawful-of, due_at, due_at-le, 
 use Rattle.mf_account.proofs.SoundLemmas.{good-sound}
 
 -- in each portion of rows, what is settled and what is outstanding make up what is owed
-abbrev pub column : (Sums → List ℕ) → ℕ → Sums → ℕ
+abbrev pub column : (Instalment → List ℕ) → ℕ → Instalment → ℕ
 column of p row = get_or (of row) p 0
 
-pub balanced : (p : ℕ) (rows : List Sums) → p < 4 → AreWithin rows → sum_at (λ r. r.paid) p rows
-    + sum_at (λ r. r.waived) p rows + sum_at (λ r. r.written_off) p rows + sum_by (λ (r : Sums). open_at r p) rows
+pub balanced : (p : ℕ) (rows : List Instalment) → p < 4 → AreWithin rows → sum_at (λ r. r.paid) p rows
+    + sum_at (λ r. r.waived) p rows + sum_at (λ r. r.written_off) p rows + sum_by (λ (r : Instalment). open_at r p) rows
     ≡ sum_at (λ r. r.owed) p rows
 balanced p [] small within = refl
 balanced p (row ∷ rows) small within =
@@ -65,14 +67,14 @@ balanced p (row ∷ rows) small within =
     let waived = sum_by-append (column (λ r. r.waived) p) (row ∷ []) rows in
     let written_off = sum_by-append (column (λ r. r.written_off) p) (row ∷ []) rows in
     let owed = sum_by-append (column (λ r. r.owed) p) (row ∷ []) rows in
-    let left = sum_by-append (λ (r : Sums). open_at r p) (row ∷ []) rows in
+    let left = sum_by-append (λ (r : Instalment). open_at r p) (row ∷ []) rows in
     omega (arith, own, rest, paid, waived, written_off, owed, left)
 
 -- what is paid in all rows
-abbrev pub row_paid : Sums → ℕ
+abbrev pub row_paid : Instalment → ℕ
 row_paid row = sum row.paid
 
-abbrev pub total_paid : List Sums → ℕ
+abbrev pub total_paid : List Instalment → ℕ
 total_paid rows = sum_by row_paid rows
 
 pub sum-plus_at : (xs : List ℕ) (p amount : ℕ) → p < length xs → sum (set xs p (get_or xs p 0 + amount)) ≡ sum xs
@@ -80,22 +82,23 @@ pub sum-plus_at : (xs : List ℕ) (p amount : ℕ) → p < length xs → sum (se
 sum-plus_at xs p amount within = let at = sum_by-set (λ (x : ℕ). x) xs p (get_or xs p 0 + amount) 0 within in
     omega (arith, at)
 
-paid-settle_row : (how : How) (p amount : ℕ) (row : Sums) → p < 4 → IsWhole row → row_paid (settle_row how p amount row)
+paid-settle_row : (how : How) (p amount : ℕ) (row : Instalment) → p < 4 → IsWhole row
+    → row_paid (settle_row how p amount row)
     ≡ row_paid row + paid_by how amount
 paid-settle_row Paid p amount row small is = sum-plus_at row.paid p amount (omega (arith, is.paid))
 paid-settle_row Waived p amount row small is = omega arith
 paid-settle_row WrittenOff p amount row small is = omega arith
 
-pub whole-settled : (rows : List Sums) (part : Part) → AreWhole rows → AreWhole (settle rows part)
+pub whole-settled : (rows : List Instalment) (part : Part) → AreWhole rows → AreWhole (settle rows part)
 whole-settled rows part whole = whole-with_settled rows (part ∷ []) whole
 
-paid-with_settled : (rows : List Sums) (parts : List Part) → AreWhole rows → IsSettleable rows parts
+paid-with_settled : (rows : List Instalment) (parts : List Part) → AreWhole rows → IsSettleable rows parts
     → total_paid (with_settled rows parts) ≡ total_paid rows + paid_in parts
 paid-with_settled rows [] whole fits = omega arith
 paid-with_settled rows (part ∷ parts) whole fits =
     let i : ℕ = part.cell.instalment - 1 in
     let p : ℕ = place_in_row part.cell.portion in
-    let row : Sums = row_at rows part.cell.instalment in
+    let row : Instalment = row_at rows part.cell.instalment in
     let here : i < length rows = omega (arith, fits.0.first, fits.0.last) in
     let one = sum_by-set row_paid rows i (settle_row part.how p part.amount row) no_row here in
     let own = paid-settle_row part.how p part.amount row (place_in_row-small part.cell.portion) (whole i no_row here) in
@@ -104,8 +107,8 @@ paid-with_settled rows (part ∷ parts) whole fits =
     omega (arith, one, own, rest, all)
 
 -- a change that leaves a sum of each row leaves that of all rows
-pub sum-same : (f : Sums → ℕ) (rows : List Sums) (instalment : ℕ) (change : Sums → Sums)
-    → ((row : Sums) → f (change row) ≡ f row) → sum_by f (rows_changed_at rows instalment change) ≡ sum_by f rows
+pub sum-same : (f : Instalment → ℕ) (rows : List Instalment) (instalment : ℕ) (change : Instalment → Instalment)
+    → ((row : Instalment) → f (change row) ≡ f row) → sum_by f (rows_changed_at rows instalment change) ≡ sum_by f rows
 sum-same f rows instalment change same =
     elim (cases_lt (instalment - 1) (length rows)) [
       | inl within ↦
@@ -115,7 +118,7 @@ sum-same f rows instalment change same =
       | inr past ↦ ap (sum_by f) (set_past rows (instalment - 1) (change (row_at rows instalment)) past)
     ]
 
-paid-with_charge : (kind : Kind) (entry : Entry) (rows : List Sums) → total_paid (with_charge kind entry rows)
+paid-with_charge : (kind : Kind) (entry : Entry) (rows : List Instalment) → total_paid (with_charge kind entry rows)
     ≡ total_paid rows
 paid-with_charge Fee entry rows = sum-same row_paid rows entry.instalment (owe_row 1 entry.amount) (λ row. refl)
 paid-with_charge Penalty entry rows = sum-same row_paid rows entry.instalment (owe_row 0 entry.amount) (λ row. refl)
@@ -131,13 +134,13 @@ abbrev pub brought : List Entry → ℕ
 brought entries = sum_by (λ (e : Entry). money_in e.kind e.amount) entries
 
 held-after : (n used : ℕ) (order : ℕ → Cell) (place : Cell → ℕ) (entry : Entry) (before : State) → IsOrder n order place
-    → HasInstalment entry.kind entry n → IsBounded n used before → money_held (after order entry before)
+    → HasInstalment entry.kind entry n → IsBounded n used before → money_held (after_entry order entry before)
     ≡ money_held before + money_in entry.kind entry.amount
 held-after n used order place entry before is has good =
     let line : IsLine n order place before.rows = record { size = good.size; is = is; whole = good.whole } in
-    let charged : List Sums = rows_charged entry before in
+    let charged : List Instalment = rows_charged entry before in
     let parts : List Part = parts_of order entry before in
-    let rows : total_paid (after order entry before).rows ≡ total_paid (with_settled charged parts) =
+    let rows : total_paid (after_entry order entry before).rows ≡ total_paid (with_settled charged parts) =
     ap total_paid (rows-after order entry before) in
     let settled = paid-with_settled charged parts (whole-with_charge entry.kind entry before.rows good.whole)
     (settleable-after n order place entry before line has) in
@@ -149,24 +152,24 @@ held-after n used order place entry before is has good =
 
 held-all : (n used : ℕ) (orders : Orders) (places : Entry → Cell → ℕ) (entries : List Entry) (before : State)
     → ((e : Entry) → IsOrder n (orders e) (places e)) → All (IsReplayable n) entries → IsBounded n used before
-    → money_held (after_all orders entries before) ≡ money_held before + brought entries
+    → money_held (after_entries orders entries before) ≡ money_held before + brought entries
 held-all n used orders places [] before is each good = omega arith
 held-all n used orders places (entry ∷ entries) before is each good =
     let one : IsReplayable n entry = All-head (IsReplayable n) entry entries each in
     let own = held-after n used (orders entry) (places entry) entry before (is entry) one.there good in
-    let rest = held-all n (used + entry.amount) orders places entries (after (orders entry) entry before) is
+    let rest = held-all n (used + entry.amount) orders places entries (after_entry (orders entry) entry before) is
     (All-tail (IsReplayable n) entry entries each) (good-after n used (orders entry) (places entry) entry before
     (is entry) one.there good) in
     let all = sum_by-append (λ (e : Entry). money_in e.kind e.amount) (entry ∷ []) entries in
     omega (arith, own, rest, all)
 
-paid-first : (schedule : List Instalment) → total_paid (map row_of schedule) ≡ 0
+paid-first : (schedule : List FreshInstalment) → total_paid (map row_of schedule) ≡ 0
 paid-first [] = refl
 paid-first (i ∷ schedule) = let rest = paid-first schedule in let all =
     sum_by-append row_paid (row_of i ∷ []) (map row_of schedule) in omega (arith, rest, all)
 
 -- what is repaid is paid, overpaid or refunded
-pub held-sound : (loan : Loan) → IsSound loan → money_held (state_of_loan loan)
+pub held-sound : (loan : DisbursedLoan) → IsSoundDisbursed loan → money_held (state_of_loan loan)
     ≡ brought (standing_entries loan.entries)
 held-sound loan sound =
     let all = held-all loan.periods (2 ^ 54) (orders_of loan) (cell_places_of loan) (standing_entries loan.entries)
@@ -184,7 +187,7 @@ sum-four (a ∷ b ∷ c ∷ []) size = absurd (omega (arith, size))
 sum-four (a ∷ b ∷ c ∷ d ∷ []) size = omega arith
 sum-four (a ∷ b ∷ c ∷ d ∷ e ∷ xs) size = absurd (omega (arith, size))
 
-pub paid-columns : (rows : List Sums) → AreWhole rows → total_paid rows ≡ sum_at (λ r. r.paid) 0 rows
+pub paid-columns : (rows : List Instalment) → AreWhole rows → total_paid rows ≡ sum_at (λ r. r.paid) 0 rows
     + sum_at (λ r. r.paid) 1 rows + sum_at (λ r. r.paid) 2 rows + sum_at (λ r. r.paid) 3 rows
 paid-columns [] whole = refl
 paid-columns (row ∷ rows) whole =
@@ -198,13 +201,14 @@ paid-columns (row ∷ rows) whole =
     omega (arith, own, rest, all, a, b, c, d)
 
 -- the principal owed is never changed, and none of it is waived
-abbrev principal_owed : Sums → ℕ
+abbrev principal_owed : Instalment → ℕ
 principal_owed row = get_or row.owed 3 0
 
-abbrev principal_waived : Sums → ℕ
+abbrev principal_waived : Instalment → ℕ
 principal_waived row = get_or row.waived 3 0
 
-owed-charge : (kind : Kind) (entry : Entry) (rows : List Sums) → sum_by principal_owed (with_charge kind entry rows)
+owed-charge : (kind : Kind) (entry : Entry) (rows : List Instalment)
+    → sum_by principal_owed (with_charge kind entry rows)
     ≡ sum_by principal_owed rows
 owed-charge Fee entry rows = sum-same principal_owed rows entry.instalment (owe_row 1 entry.amount)
     (λ row. get_or-set_other row.owed 1 3 (get_or row.owed 1 0 + entry.amount) 0 (omega arith))
@@ -215,7 +219,8 @@ owed-charge Waive entry rows = refl
 owed-charge WriteOff entry rows = refl
 owed-charge Refund entry rows = refl
 
-waived-charge : (kind : Kind) (entry : Entry) (rows : List Sums) → sum_by principal_waived (with_charge kind entry rows)
+waived-charge : (kind : Kind) (entry : Entry) (rows : List Instalment)
+    → sum_by principal_waived (with_charge kind entry rows)
     ≡ sum_by principal_waived rows
 waived-charge Fee entry rows = sum-same principal_waived rows entry.instalment (owe_row 1 entry.amount) (λ row. refl)
 waived-charge Penalty entry rows = sum-same principal_waived rows entry.instalment (owe_row 0 entry.amount)
@@ -225,13 +230,13 @@ waived-charge Waive entry rows = refl
 waived-charge WriteOff entry rows = refl
 waived-charge Refund entry rows = refl
 
-owed-settle_row : (how : How) (p amount : ℕ) (row : Sums) → principal_owed (settle_row how p amount row)
+owed-settle_row : (how : How) (p amount : ℕ) (row : Instalment) → principal_owed (settle_row how p amount row)
     ≡ principal_owed row
 owed-settle_row Paid p amount row = refl
 owed-settle_row Waived p amount row = refl
 owed-settle_row WrittenOff p amount row = refl
 
-owed-settled : (rows : List Sums) (parts : List Part) → sum_by principal_owed (with_settled rows parts)
+owed-settled : (rows : List Instalment) (parts : List Part) → sum_by principal_owed (with_settled rows parts)
     ≡ sum_by principal_owed rows
 owed-settled rows [] = refl
 owed-settled rows (part ∷ parts) =
@@ -241,10 +246,11 @@ owed-settled rows (part ∷ parts) =
 
 -- a part that waives no principal
 abbrev WaivesNone : Part → Type 0
-WaivesNone part = (row : Sums) → principal_waived (settle_row part.how (place_in_row part.cell.portion) part.amount row)
+WaivesNone part = (row : Instalment)
+    → principal_waived (settle_row part.how (place_in_row part.cell.portion) part.amount row)
     ≡ principal_waived row
 
-waived-settled : (rows : List Sums) (parts : List Part) → All WaivesNone parts
+waived-settled : (rows : List Instalment) (parts : List Part) → All WaivesNone parts
     → sum_by principal_waived (with_settled rows parts) ≡ sum_by principal_waived rows
 waived-settled rows [] each = refl
 waived-settled rows (part ∷ parts) each =
@@ -260,17 +266,19 @@ each-some f (k ∷ places) none =
     (λ _. All-cons WaivesNone (f k) rest (none k) (each-some f places none)) (λ _. each-some f places none)
 
 portion-apart : (portion : Portion) → portion ≢ Principal → 3 ≢ place_in_row portion
-portion-apart PenaltyPart other = omega arith
-portion-apart FeePart other = omega arith
+portion-apart portion.Penalty other = omega arith
+portion-apart portion.Fee other = omega arith
 portion-apart Interest other = omega arith
 portion-apart Principal other = absurd (other refl)
 
-waives-portion : (rows : List Sums) (cell : Cell) → cell.portion ≢ Principal → WaivesNone (whole_part Waived rows cell)
+waives-portion : (rows : List Instalment) (cell : Cell) → cell.portion ≢ Principal
+    → WaivesNone (whole_part Waived rows cell)
 waives-portion rows cell other row =
     let p : ℕ = place_in_row cell.portion in
     get_or-set_other row.waived p 3 (get_or row.waived p 0 + outstanding rows cell) 0 (portion-apart cell.portion other)
 
-each-cleared : (kind : Kind) (n : ℕ) (order : ℕ → Cell) (entry : Entry) (rows : List Sums) → HasColumns kind n entry
+each-cleared : (kind : Kind) (n : ℕ) (order : ℕ → Cell) (entry : Entry) (rows : List Instalment)
+    → HasColumns kind n entry
     → All WaivesNone (parts_by kind order entry rows)
 each-cleared Repay n order entry rows has = All-nil WaivesNone
 each-cleared Fee n order entry rows has = All-nil WaivesNone
@@ -296,10 +304,10 @@ pub record HasPrincipal (principal : ℕ) (state : State) : Type 0 where
   pub waived : sum_by principal_waived state.rows ≡ 0
 
 principal-after : (principal n : ℕ) (order : ℕ → Cell) (entry : Entry) (before : State) → HasColumns entry.kind n entry
-    → HasPrincipal principal before → HasPrincipal principal (after order entry before)
+    → HasPrincipal principal before → HasPrincipal principal (after_entry order entry before)
 principal-after principal n order entry before has is =
     let rows = rows-after order entry before in
-    let charged : List Sums = rows_charged entry before in
+    let charged : List Instalment = rows_charged entry before in
     let parts : List Part = parts_of order entry before in
     record {
       owed = ap (sum_by principal_owed) rows ∙ owed-settled charged parts ∙ owed-charge entry.kind entry before.rows
@@ -308,34 +316,31 @@ principal-after principal n order entry before has is =
           ∙ waived-charge entry.kind entry before.rows ∙ is.waived;
     }
 
-abbrev HasOwnColumns : ℕ → Entry → Type 0
-HasOwnColumns n e = HasColumns e.kind n e
-
 principal-all : (principal n : ℕ) (orders : Orders) (entries : List Entry) (before : State) → All (IsEntry n 0) entries
-    → HasPrincipal principal before → HasPrincipal principal (after_all orders entries before)
+    → HasPrincipal principal before → HasPrincipal principal (after_entries orders entries before)
 principal-all principal n orders [] before each is = is
 principal-all principal n orders (entry ∷ entries) before each is =
-    principal-all principal n orders entries (after (orders entry) entry before)
+    principal-all principal n orders entries (after_entry (orders entry) entry before)
     (All-tail (IsEntry n 0) entry entries each)
     (principal-after principal n (orders entry) entry before (All-head (IsEntry n 0) entry entries each).columns is)
 
-principal-first : (schedule : List Instalment) → HasPrincipal (total_principal schedule) (first_state schedule)
+principal-first : (schedule : List FreshInstalment) → HasPrincipal (total_principal schedule) (first_state schedule)
 principal-first schedule = record { owed = owed schedule; waived = waived schedule } where
-  owed : (s : List Instalment) → sum_by principal_owed (map row_of s) ≡ total_principal s
+  owed : (s : List FreshInstalment) → sum_by principal_owed (map row_of s) ≡ total_principal s
   owed [] = refl
   owed (i ∷ s) =
       let rest = owed s in
       let left = sum_by-append principal_owed (row_of i ∷ []) (map row_of s) in
-      let right = sum_by-append (λ (x : Instalment). x.principal) (i ∷ []) s in
+      let right = sum_by-append (λ (x : FreshInstalment). x.principal) (i ∷ []) s in
       omega (arith, rest, left, right)
 
-  waived : (s : List Instalment) → sum_by principal_waived (map row_of s) ≡ 0
+  waived : (s : List FreshInstalment) → sum_by principal_waived (map row_of s) ≡ 0
   waived [] = refl
   waived (i ∷ s) = let rest = waived s in let left =
       sum_by-append principal_waived (row_of i ∷ []) (map row_of s) in omega (arith, rest, left)
 
 -- the principal disbursed is paid, written off or outstanding
-pub principal-sound : (loan : Loan) → IsSound loan → HasPrincipal loan.principal (state_of_loan loan)
+pub principal-sound : (loan : DisbursedLoan) → IsSoundDisbursed loan → HasPrincipal loan.principal (state_of_loan loan)
 principal-sound loan sound =
     let first : HasPrincipal loan.principal (first_state (schedule_of loan)) =
     subst (λ (x : ℕ). HasPrincipal x (first_state (schedule_of loan))) (scheduled-principal-sum loan.terms
@@ -372,7 +377,7 @@ portion-at (suc (suc (suc zero))) small = refl
 portion-at (suc (suc (suc (suc p)))) small = absurd (omega arith)
 
 closed-after : (n used : ℕ) (name : StrategyName) (due : ℕ) (entry : Entry) (before : State) → due ≤ n
-    → IsBounded n used before → IsClosed (after (cell_by name due) entry before)
+    → IsBounded n used before → IsClosed (after_entry (cell_by name due) entry before)
 closed-after n used name due entry before few good some i p within small =
     let order : ℕ → Cell = cell_by name due in
     let place : Cell → ℕ = place_by name due in
@@ -389,43 +394,44 @@ closed-after n used name due entry before few good some i p within small =
     let there : IsCell n cell = record { first = omega arith; last = omega (arith, within, length_after, size) } in
     let none = outstanding-none n order place acted.rows acted.overpaid (place cell) line (in_range-place_by name n due
     cell few there) some in
-    let at : outstanding (after order entry before).rows cell ≡ 0 =
-    ap (outstanding (after order entry before).rows) (sym (forth-place_by name n due cell there)) ∙ none in
+    let at : outstanding (after_entry order entry before).rows cell ≡ 0 =
+    ap (outstanding (after_entry order entry before).rows) (sym (forth-place_by name n due cell there)) ∙ none in
     let row : i + 1 - 1 ≡ i = omega arith in
-    ap (λ x. open_at (get_or (after order entry before).rows x no_row) p) (sym row)
-    ∙ ap (λ x. open_at (get_or (after order entry before).rows (i + 1 - 1) no_row) x) (sym (portion-at p small))
+    ap (λ x. open_at (get_or (after_entry order entry before).rows x no_row) p) (sym row)
+    ∙ ap (λ x. open_at (get_or (after_entry order entry before).rows (i + 1 - 1) no_row) x) (sym (portion-at p small))
     ∙ at
 
 pub closed-all : (n used : ℕ) (name : StrategyName) (dues : Entry → ℕ) (entries : List Entry) (before : State)
     → ((e : Entry) → dues e ≤ n) → All (IsReplayable n) entries → IsBounded n used before → IsClosed before
-    → IsClosed (after_all (λ e. cell_by name (dues e)) entries before)
+    → IsClosed (after_entries (λ e. cell_by name (dues e)) entries before)
 closed-all n used name dues [] before few each good closed = closed
 closed-all n used name dues (entry ∷ entries) before few each good closed =
     let one : IsReplayable n entry = All-head (IsReplayable n) entry entries each in
     let due : ℕ = dues entry in
-    closed-all n (used + entry.amount) name dues entries (after (cell_by name due) entry before) few
+    closed-all n (used + entry.amount) name dues entries (after_entry (cell_by name due) entry before) few
     (All-tail (IsReplayable n) entry entries each)
     (good-after n used (cell_by name due) (place_by name due) entry before (lawful name n due (few entry)) one.there
     good) (closed-after n used name due entry before (few entry) good)
 
-pub closed-sound : (loan : Loan) → IsSound loan → IsClosed (state_of_loan loan)
+pub closed-sound : (loan : DisbursedLoan) → IsSoundDisbursed loan → IsClosed (state_of_loan loan)
 closed-sound loan sound =
     closed-all loan.periods (2 ^ 54) loan.terms.strategy (due_at loan) (standing_entries loan.entries)
     (first_state (schedule_of loan)) (due_at-le loan) (each-standing loan sound) (first-good loan sound)
     (λ some. absurd (omega (arith, some)))
 
 -- so what is outstanding adds up to nothing
-pub none-open : (p : ℕ) (rows : List Sums) → ((i : ℕ) → i < length rows → open_at (get_or rows i no_row) p ≡ 0)
-    → sum_by (λ (r : Sums). open_at r p) rows ≡ 0
+pub none-open : (p : ℕ) (rows : List Instalment) → ((i : ℕ) → i < length rows → open_at (get_or rows i no_row) p ≡ 0)
+    → sum_by (λ (r : Instalment). open_at r p) rows ≡ 0
 none-open p [] none = refl
 none-open p (row ∷ rows) none =
     let own = none 0 (omega arith) in
     let rest = none-open p rows (λ i within. none (suc i) (omega arith)) in
-    let all = sum_by-append (λ (r : Sums). open_at r p) (row ∷ []) rows in
+    let all = sum_by-append (λ (r : Instalment). open_at r p) (row ∷ []) rows in
     omega (arith, own, rest, all)
 
 -- the same, of the balances
-pub balances-repaid : (loan : Loan) → IsSound loan → sum (balances_of loan).paid + (balances_of loan).overpaid
+pub balances-repaid : (loan : DisbursedLoan) → IsSoundDisbursed loan
+    → sum (balances_of loan).paid + (balances_of loan).overpaid
     + (balances_of loan).refunded ≡ sum_repaid loan.entries
 balances-repaid loan sound =
     let all = held-sound loan sound in
@@ -433,23 +439,26 @@ balances-repaid loan sound =
     let four = sum-four (balances_of loan).paid refl in
     omega (arith, all, columns, four)
 
-balance-at : (loan : Loan) → IsSound loan → (p : ℕ) → p < 4 → sum_at (λ r. r.paid) p (state_of_loan loan).rows
+balance-at : (loan : DisbursedLoan) → IsSoundDisbursed loan → (p : ℕ) → p < 4
+    → sum_at (λ r. r.paid) p (state_of_loan loan).rows
     + sum_at (λ r. r.waived) p (state_of_loan loan).rows + sum_at (λ r. r.written_off) p (state_of_loan loan).rows
-    + sum_by (λ (r : Sums). open_at r p) (state_of_loan loan).rows ≡ sum_at (λ r. r.owed) p (state_of_loan loan).rows
+    + sum_by (λ (r : Instalment). open_at r p) (state_of_loan loan).rows
+    ≡ sum_at (λ r. r.owed) p (state_of_loan loan).rows
 balance-at loan sound p small = balanced p (state_of_loan loan).rows small (good-sound loan sound).within
 
-pub balances-principal : (loan : Loan) → IsSound loan → get_or (balances_of loan).paid 3 0
+pub balances-principal : (loan : DisbursedLoan) → IsSoundDisbursed loan → get_or (balances_of loan).paid 3 0
     + get_or (balances_of loan).written_off 3 0 + get_or (balances_of loan).outstanding 3 0 ≡ loan.principal
 balances-principal loan sound =
     let all = balance-at loan sound 3 (omega arith) in
     let is = principal-sound loan sound in
     omega (arith, all, is.owed, is.waived)
 
-pub balances-apart : (loan : Loan) → IsSound loan → 0 < (balances_of loan).overpaid → sum (balances_of loan).outstanding
+pub balances-apart : (loan : DisbursedLoan) → IsSoundDisbursed loan → 0 < (balances_of loan).overpaid
+    → sum (balances_of loan).outstanding
     ≡ 0
 balances-apart loan sound some =
     let state : State = state_of_loan loan in
-    let none : (p : ℕ) → p < 4 → sum_by (λ (r : Sums). open_at r p) state.rows ≡ 0 =
+    let none : (p : ℕ) → p < 4 → sum_by (λ (r : Instalment). open_at r p) state.rows ≡ 0 =
     λ p small. none-open p state.rows (λ i within. closed-sound loan sound some i p within small) in
     let a = none 0 (omega arith) in
     let b = none 1 (omega arith) in

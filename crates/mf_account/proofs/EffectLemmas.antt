@@ -7,9 +7,9 @@ use Rattle.std.proofs.lemmas.Bool.{cond_both}
 use Rattle.std.proofs.lemmas.List.{get_or-set_other, length-set, length-map, length-take-le, take_more, map-append}
 use Rattle.std.proofs.lemmas.List.FromFn.{filter_of_map_range_with_len_more}
 use Rattle.mf_alloc.specs.declared.row.Cell.{Cell}
-use Rattle.mf_alloc.specs.declared.row.Portion.TheVariants.{Penalty as NoPortion}
+use Rattle.mf_alloc.specs.declared.row.Portion.TheVariants as portion
 use Rattle.mf_alloc.specs.declared.row.Share.{Share}
-use Rattle.mf_alloc.specs.Sums.{Sums, open_at}
+use Rattle.mf_alloc.specs.Sums.{Instalment, open_at}
 use Rattle.mf_alloc.specs.Rows.{outstanding, row_at, place_in_row, IsCell, with_paid, pay_into}
 use Rattle.mf_alloc.specs.Payment.{shares_of, rest_of}
 use Rattle.mf_alloc.specs.OrderLaws.{IsOrder}
@@ -17,7 +17,7 @@ use Rattle.mf_alloc.proofs.PaymentLemmas.{outstanding-changed}
 use Rattle.mf_account.specs.declared.entry.Entry.{Entry}
 use Rattle.mf_account.specs.declared.entry.Kind.{Kind}
 use Rattle.mf_account.specs.declared.entry.Kind.TheVariants.{Repay, Fee, Penalty, Waive, WriteOff, Refund}
-use Rattle.mf_account.specs.declared.settled.Settled.{Settled}
+use Rattle.mf_account.specs.declared.settled.SettledPart.{SettledPart}
 use Rattle.mf_account.specs.declared.settled.How.{How}
 use Rattle.mf_account.specs.declared.settled.How.TheVariants.{Paid, Waived, WrittenOff}
 use Rattle.mf_account.specs.Kinds.{money_out}
@@ -26,7 +26,7 @@ use Rattle.mf_account.specs.Effect.{with_charge, owe_row, parts_by, parts_cleare
 use Rattle.mf_account.specs.AtOnce.{with_cleared, after_at_once, parts_at_once, shares_at_once, rows_charged}
 use Rattle.mf_account.specs.AtOnce.{rows_cleared, money_to_pay, paid_part}
 use Rattle.mf_account.specs.Account.{parts_numbered, part_of}
-use Rattle.mf_account.specs.Applicable.{HasRow, HasCell, IsSettleable}
+use Rattle.mf_account.specs.Applicable.{HasCell, IsSettleable}
 
 pub length-numbered : (seq place : ℕ) (parts : List Part) → length (parts_numbered seq place parts) ≡ length parts
 length-numbered seq place [] = refl
@@ -36,7 +36,8 @@ pub numbered-append : (seq place : ℕ) (xs ys : List Part) → parts_numbered s
     ≡ parts_numbered seq place xs ++ parts_numbered seq (place + length xs) ys
 numbered-append seq place [] ys = let e : place ≡ place + 0 = omega arith in ap (λ x. parts_numbered seq x ys) e
 numbered-append seq place (part ∷ parts) ys =
-    let own : Settled = record { seq = seq; place = place; cell = part.cell; how = part.how; amount = part.amount } in
+    let own : SettledPart = record { seq = seq; place = place; cell = part.cell; how = part.how; amount = part.amount }
+    in
     let e : place + 1 + length parts ≡ place + suc (length parts) = omega arith in
     ap (λ x. own ∷ x) (numbered-append seq (place + 1) parts ys ∙ ap (λ x. parts_numbered seq (place + 1) parts
     ++ parts_numbered seq x ys) e)
@@ -46,7 +47,7 @@ part_of-numbered seq place [] = refl
 part_of-numbered seq place (part ∷ parts) = ap (λ x. part ∷ x) (part_of-numbered seq (place + 1) parts)
 
 -- another sum of the row
-open_at-settle_row : (how : How) (row : Sums) (p q amount : ℕ) → q ≢ p → open_at (settle_row how p amount row) q
+open_at-settle_row : (how : How) (row : Instalment) (p q amount : ℕ) → q ≢ p → open_at (settle_row how p amount row) q
     ≡ open_at row q
 open_at-settle_row Paid row p q amount apart =
     ap (λ x. get_or row.owed q 0 - x - get_or row.waived q 0 - get_or row.written_off q 0)
@@ -58,7 +59,7 @@ open_at-settle_row WrittenOff row p q amount apart =
     ap (λ x. get_or row.owed q 0 - get_or row.paid q 0 - get_or row.waived q 0 - x)
     (get_or-set_other row.written_off p q (get_or row.written_off p 0 + amount) 0 apart)
 
-pub outstanding-settle : (rows : List Sums) (part : Part) (cell : Cell) → IsCell (length rows) part.cell
+pub outstanding-settle : (rows : List Instalment) (part : Part) (cell : Cell) → IsCell (length rows) part.cell
     → IsCell (length rows) cell → cell ≢ part.cell → outstanding (settle rows part) cell ≡ outstanding rows cell
 outstanding-settle rows part cell there here apart =
     outstanding-changed rows part.cell cell (settle_row part.how (place_in_row part.cell.portion) part.amount) there
@@ -66,7 +67,7 @@ outstanding-settle rows part cell there here apart =
     (λ row q other. open_at-settle_row part.how row (place_in_row part.cell.portion) q part.amount other)
 
 -- what places j to j + len - 1 clear, of rows that differ from the first ones in earlier cells alone
-settleable_from : (n : ℕ) (how : How) (order : ℕ → Cell) (place : Cell → ℕ) (line rows : List Sums) (j len : ℕ)
+settleable_from : (n : ℕ) (how : How) (order : ℕ → Cell) (place : Cell → ℕ) (line rows : List Instalment) (j len : ℕ)
     → IsOrder n order place → length rows ≡ n → j + len ≤ 4 * n → ((k : ℕ) → j ≤ k → k < 4 * n
     → outstanding rows (order k) ≡ outstanding line (order k))
     → IsSettleable rows (filter is_some_part (map (λ k. whole_part how line (order k)) (range_with_len j len)))
@@ -81,7 +82,7 @@ settleable_from n how order place line rows j (suc len) is size within same =
     let most : outstanding rows (order j) ≡ outstanding line (order j) = same j (omega arith) (omega arith) in
     cond_both (is_some_part part) (part ∷ others) others (IsSettleable rows)
     (λ _.
-    let settled : List Sums = settle rows part in
+    let settled : List Instalment = settle rows part in
     let size_settled : length settled ≡ n = length-set rows ((order j).instalment - 1)
     (settle_row how (place_in_row (order j).portion) part.amount (row_at rows (order j).instalment)) ∙ size in (
       at,
@@ -99,14 +100,14 @@ settleable_from n how order place line rows j (suc len) is size within same =
     (λ k from to. same k (omega arith) to))
 
 -- one cell
-settleable_one : (how : How) (rows : List Sums) (cell : Cell) → IsCell (length rows) cell
+settleable_one : (how : How) (rows : List Instalment) (cell : Cell) → IsCell (length rows) cell
     → IsSettleable rows (filter is_some_part (whole_part how rows cell ∷ []))
 settleable_one how rows cell is =
     cond_both (is_some_part (whole_part how rows cell)) (whole_part how rows cell ∷ []) [] (IsSettleable rows)
     (λ _. (is, omega arith, tt)) (λ _. tt)
 
 -- what an entry clears
-pub cleared_settleable : (kind : Kind) (order : ℕ → Cell) (place : Cell → ℕ) (entry : Entry) (rows : List Sums)
+pub cleared_settleable : (kind : Kind) (order : ℕ → Cell) (place : Cell → ℕ) (entry : Entry) (rows : List Instalment)
     → IsOrder (length rows) order place → HasCell kind entry (length rows)
     → IsSettleable rows (parts_by kind order entry rows)
 cleared_settleable Repay order place entry rows is has = tt
@@ -121,11 +122,11 @@ cleared_settleable WriteOff order place entry rows is has =
     (λ k from to. refl)
 
 -- the parts of the first k places
-abbrev pub written_below : (ℕ → Cell) → List Sums → ℕ → List Part
+abbrev pub written_below : (ℕ → Cell) → List Instalment → ℕ → List Part
 written_below order rows k = filter is_some_part (map (λ j. whole_part WrittenOff rows (order j)) (range_with_len 0 k))
 
 -- one place more
-pub written_more : (order : ℕ → Cell) (rows : List Sums) (seq k : ℕ) (cell : Cell) (so_far all : List Settled)
+pub written_more : (order : ℕ → Cell) (rows : List Instalment) (seq k : ℕ) (cell : Cell) (so_far all : List SettledPart)
     → so_far ≡ parts_numbered seq 1 (written_below order rows k) → cell ≡ order k → all ≡ so_far
     ++ parts_numbered seq (1 + length so_far) (filter is_some_part (whole_part WrittenOff rows cell ∷ []))
     → all ≡ parts_numbered seq 1 (written_below order rows (k + 1))
@@ -142,23 +143,23 @@ written_more order rows seq k cell so_far all before here more =
     (order j)) 0 k k (omega arith)))
 
 -- a payment's parts
-pub with_settled-paid : (rows : List Sums) (shares : List Share) → with_settled rows (map paid_part shares)
+pub with_settled-paid : (rows : List Instalment) (shares : List Share) → with_settled rows (map paid_part shares)
     ≡ with_paid rows shares
 with_settled-paid rows [] = refl
 with_settled-paid rows (share ∷ shares) = with_settled-paid (pay_into rows share) shares
 
-pub with_settled-append : (rows : List Sums) (xs ys : List Part) → with_settled rows (xs ++ ys)
+pub with_settled-append : (rows : List Instalment) (xs ys : List Part) → with_settled rows (xs ++ ys)
     ≡ with_settled (with_settled rows xs) ys
 with_settled-append rows [] ys = refl
 with_settled-append rows (part ∷ parts) ys = with_settled-append (settle rows part) parts ys
 
 -- parts with places, of which the parts can be settled
-pub settleable-numbered : (rows : List Sums) (seq : ℕ) (parts : List Part) (settled : List Settled)
+pub settleable-numbered : (rows : List Instalment) (seq : ℕ) (parts : List Part) (settled : List SettledPart)
     → settled ≡ parts_numbered seq 1 parts → IsSettleable rows parts → IsSettleable rows (map part_of settled)
 settleable-numbered rows seq parts settled same can =
     subst (IsSettleable rows) (sym (ap (map part_of) same ∙ part_of-numbered seq 1 parts)) can
 
-pub length-with_charge : (kind : Kind) (entry : Entry) (rows : List Sums) → length (with_charge kind entry rows)
+pub length-with_charge : (kind : Kind) (entry : Entry) (rows : List Instalment) → length (with_charge kind entry rows)
     ≡ length rows
 length-with_charge Fee entry rows =
     length-set rows (entry.instalment - 1) (owe_row 1 entry.amount (row_at rows entry.instalment))
@@ -169,27 +170,16 @@ length-with_charge Waive entry rows = refl
 length-with_charge WriteOff entry rows = refl
 length-with_charge Refund entry rows = refl
 
-pub length-with_settled : (rows : List Sums) (parts : List Part) → length (with_settled rows parts) ≡ length rows
+pub length-with_settled : (rows : List Instalment) (parts : List Part) → length (with_settled rows parts) ≡ length rows
 length-with_settled rows [] = refl
 length-with_settled rows (part ∷ parts) =
     length-with_settled (settle rows part) parts
     ∙ length-set rows (part.cell.instalment - 1) (settle_row part.how (place_in_row part.cell.portion) part.amount
     (row_at rows part.cell.instalment))
 
--- a row to charge is a row to clear
-pub has_cell : (kind : Kind) (entry : Entry) (rows charged : List Sums) → charged ≡ with_charge kind entry rows
-    → HasRow kind entry rows → HasCell kind entry (length charged)
-has_cell Repay entry rows charged same has = tt
-has_cell Fee entry rows charged same has = tt
-has_cell Penalty entry rows charged same has = tt
-has_cell WriteOff entry rows charged same has = tt
-has_cell Refund entry rows charged same has = tt
-has_cell Waive entry rows charged same has = let size : length charged ≡ length rows =
-    ap length same in (has.0, omega (arith, size, has.1))
-
 -- one more of a payment's parts
 pub add_more : (seq place here : ℕ) (shares : List Share) (k : ℕ) (default share : Share)
-    (first so_far all : List Settled) → so_far ≡ first ++ parts_numbered seq place (map paid_part (take k shares))
+    (first so_far all : List SettledPart) → so_far ≡ first ++ parts_numbered seq place (map paid_part (take k shares))
     → k < length shares → share ≡ get_or shares k default → here ≡ place + k → all ≡ so_far ++ record {
       seq = seq;
       place = here;
@@ -214,7 +204,8 @@ add_more seq place here shares k default share first so_far all before within is
     ∙ ap (λ x. first ++ parts_numbered seq place x) (sym next)
 
 -- the cleared parts settled
-pub with_cleared-from : (order : ℕ → Cell) (entry : Entry) (seq : ℕ) (charged new : List Sums) (parts : List Settled)
+pub with_cleared-from : (order : ℕ → Cell) (entry : Entry) (seq : ℕ) (charged new : List Instalment)
+    (parts : List SettledPart)
     → parts ≡ parts_numbered seq 1 (parts_cleared order entry charged) → new ≡ with_settled charged (map part_of parts)
     → new ≡ with_cleared order entry charged
 with_cleared-from order entry seq charged new parts are settled =
@@ -222,16 +213,18 @@ with_cleared-from order entry seq charged new parts are settled =
     (part_of-numbered seq 1 (parts_cleared order entry charged))
 
 abbrev pub no_share : Share
-no_share = record { cell = record { instalment = 0; portion = NoPortion }; amount = 0 }
+no_share = record { cell = record { instalment = 0; portion = portion.Penalty }; amount = 0 }
 
-shares-are : (order : ℕ → Cell) (entry : Entry) (before : State) (cleared : List Sums) (shares : List Share) (money : ℕ)
+shares-are : (order : ℕ → Cell) (entry : Entry) (before : State) (cleared : List Instalment) (shares : List Share)
+    (money : ℕ)
     → cleared ≡ rows_cleared order entry before → money ≡ money_to_pay entry before → shares ≡ shares_of order cleared
     money → shares ≡ shares_of order (rows_cleared order entry before) (money_to_pay entry before)
 shares-are order entry before cleared shares money clear pays are =
     are ∙ ap (λ x. shares_of order x money) clear ∙ ap (shares_of order (rows_cleared order entry before)) pays
 
 -- the state after an entry, from what its steps gave
-pub state-applied : (order : ℕ → Cell) (entry : Entry) (before : State) (cleared paid : List Sums) (shares : List Share)
+pub state-applied : (order : ℕ → Cell) (entry : Entry) (before : State) (cleared paid : List Instalment)
+    (shares : List Share)
     (money rest given : ℕ) → cleared ≡ rows_cleared order entry before → money ≡ money_to_pay entry before
     → given ≡ money_out entry.kind before.overpaid → shares ≡ shares_of order cleared money
     → rest ≡ rest_of order cleared money → paid ≡ with_paid cleared shares → (let now : State = record {
@@ -240,8 +233,8 @@ pub state-applied : (order : ℕ → Cell) (entry : Entry) (before : State) (cle
       refunded = before.refunded + given;
     } in now ≡ after_at_once order entry before)
 state-applied order entry before cleared paid shares money rest given clear pays gives are left rows =
-    let at : List Sums → ℕ → ℕ → State = λ r o f. record { rows = r; overpaid = o; refunded = f } in
-    let clean : List Sums = rows_cleared order entry before in
+    let at : List Instalment → ℕ → ℕ → State = λ r o f. record { rows = r; overpaid = o; refunded = f } in
+    let clean : List Instalment = rows_cleared order entry before in
     let all : List Share = shares_of order clean (money_to_pay entry before) in
     let rows_after : paid ≡ with_settled (rows_charged entry before) (parts_at_once order entry before) =
     rows ∙ ap (λ x. with_paid x shares) clear ∙ ap (with_paid clean) (shares-are order entry before cleared shares money
@@ -256,8 +249,8 @@ state-applied order entry before cleared paid shares money rest given clear pays
     + g)) gives
 
 -- and its parts
-pub parts-applied : (order : ℕ → Cell) (entry : Entry) (before : State) (seq : ℕ) (cleared : List Sums)
-    (shares : List Share) (money : ℕ) (first all : List Settled) → cleared ≡ rows_cleared order entry before
+pub parts-applied : (order : ℕ → Cell) (entry : Entry) (before : State) (seq : ℕ) (cleared : List Instalment)
+    (shares : List Share) (money : ℕ) (first all : List SettledPart) → cleared ≡ rows_cleared order entry before
     → money ≡ money_to_pay entry before → shares ≡ shares_of order cleared money
     → first ≡ parts_numbered seq 1 (parts_cleared order entry (rows_charged entry before)) → all ≡ first
     ++ parts_numbered seq (1 + length first) (map paid_part shares)

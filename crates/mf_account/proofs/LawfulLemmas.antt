@@ -1,23 +1,15 @@
 -- When entries can be one loan's, place by place.
-use Rattle.std.proofs.Common.{◌≡◌, ◌≢◌, ℕ, zero, suc, ◌+◌, ◌<◌, Bool, true, false, List, [], ◌∷◌, length, refl, ap, ◌∙◌}
-use Rattle.std.proofs.Common.{inl, inr, subst, arith}
+use Rattle.std.proofs.Common.{◌≡◌, ◌≢◌, ℕ, zero, suc, ◌<◌, Bool, true, false, List, [], ◌∷◌, length, refl, ap, ◌∙◌}
+use Rattle.std.proofs.Common.{arith}
 use Rattle.std.specs.Prelude.{◌==◌, ◌&&◌, ◌||◌, not}
 use Rattle.std.specs.List.{list_all}
 use Rattle.std.proofs.lemmas.Bool.Decides.{nat_tests}
-use Rattle.std.proofs.lemmas.Bool.{cases_lt}
 use Rattle.mf_account.specs.Told.{AreNumbered}
 use Rattle.mf_account.specs.declared.entry.Entry.{Entry}
 use Rattle.mf_account.specs.Kinds.{is_seal}
 use Rattle.mf_account.specs.Standing.{is_before, entry_at}
 use Rattle.mf_account.specs.Lawful.{is_last_of, are_seals_last}
 use Rattle.mf_account.specs.Loan.{SealIsLast}
-
--- what holds at each place below one, and at that one
-pub one_more : {P : ℕ → Type 0} (k : ℕ) → ((i : ℕ) → i < k → P i) → P k → (i : ℕ) → i < k + 1 → P i
-one_more {P} k before here i below = elim (cases_lt i k) [
-  | inl earlier ↦ before i earlier
-  | inr not_earlier ↦ let same : k ≡ i = omega (arith, below, not_earlier) in subst P same here
-]
 
 or_left : (a b : Bool) → a ≡ false → (a || b) ≡ true → b ≡ true
 or_left false b e h = h

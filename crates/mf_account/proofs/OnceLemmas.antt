@@ -7,7 +7,7 @@ use Rattle.std.proofs.lemmas.Bool.{cond_both, ltb-false}
 use Rattle.std.proofs.lemmas.List.Sums.{sum_by-append}
 use Rattle.mf_alloc.specs.declared.row.Cell.{Cell}
 use Rattle.mf_alloc.specs.declared.row.Share.{Share}
-use Rattle.mf_alloc.specs.Sums.{Sums}
+use Rattle.mf_alloc.specs.Sums.{Instalment}
 use Rattle.mf_alloc.specs.Rows.{with_paid}
 use Rattle.mf_alloc.specs.Payment.{share_at, rest_of, is_some_share, amount_of_shares}
 use Rattle.mf_alloc.proofs.PaymentLemmas.{total-shares}
@@ -20,7 +20,8 @@ use Rattle.mf_account.specs.declared.entry.Kind.TheVariants.{Repay, Fee, Penalty
 use Rattle.mf_account.specs.declared.settled.How.TheVariants.{Waived, WrittenOff}
 use Rattle.mf_account.specs.Kinds.{money_in, money_out}
 use Rattle.mf_account.specs.Effect.{State, Part, with_settled, with_charge, whole_part, is_some_part, some_parts}
-use Rattle.mf_account.specs.Effect.{parts_by, parts_cleared, own_effect, state_acted, after, own_share, later_share}
+use Rattle.mf_account.specs.Effect.{parts_by, parts_cleared, own_effect, state_acted, after_entry, own_share}
+use Rattle.mf_account.specs.Effect.{later_share}
 use Rattle.mf_account.specs.Effect.{paid_at, parts_paid, parts_of}
 use Rattle.mf_account.specs.AtOnce.{paid_part, rows_charged, rows_cleared, money_to_pay, shares_at_once, parts_at_once}
 use Rattle.mf_account.specs.AtOnce.{after_at_once}
@@ -43,7 +44,7 @@ parts-by order amounts (k ∷ places) =
       | false ↦ same
     ]
 
-with_settled-by : (order : ℕ → Cell) (amounts : ℕ → ℕ) (places : List ℕ) (rows : List Sums) → with_settled rows
+with_settled-by : (order : ℕ → Cell) (amounts : ℕ → ℕ) (places : List ℕ) (rows : List Instalment) → with_settled rows
     (some_parts (map (paid_at order amounts) places)) ≡ with_paid rows (shares_by order amounts places)
 with_settled-by order amounts places rows =
     ap (with_settled rows) (parts-by order amounts places)
@@ -51,7 +52,7 @@ with_settled-by order amounts places rows =
     ∙ with_paid-some rows (shares_by order amounts places)
 
 -- nothing paid
-with_paid-zero : (order : ℕ → Cell) (places : List ℕ) (rows : List Sums)
+with_paid-zero : (order : ℕ → Cell) (places : List ℕ) (rows : List Instalment)
     → with_paid rows (shares_by order (λ _. 0) places) ≡ rows
 with_paid-zero order [] rows = refl
 with_paid-zero order (k ∷ places) rows =
@@ -63,7 +64,7 @@ abbrev pub places_of : State → List ℕ
 places_of before = range_with_len 0 (4 * length before.rows)
 
 -- an entry that clears charges nothing
-cleared-charged : (kind : Kind) (order : ℕ → Cell) (entry : Entry) (rows : List Sums)
+cleared-charged : (kind : Kind) (order : ℕ → Cell) (entry : Entry) (rows : List Instalment)
     → parts_by kind order entry (with_charge kind entry rows) ≡ parts_by kind order entry rows
 cleared-charged Repay order entry rows = refl
 cleared-charged Fee order entry rows = refl
@@ -72,7 +73,7 @@ cleared-charged Waive order entry rows = refl
 cleared-charged WriteOff order entry rows = refl
 cleared-charged Refund order entry rows = refl
 
-abbrev rows_by : Kind → (ℕ → Cell) → Entry → List Sums → List Sums
+abbrev rows_by : Kind → (ℕ → Cell) → Entry → List Instalment → List Instalment
 rows_by kind order entry rows =
     with_settled (with_charge kind entry rows) (parts_by kind order entry (with_charge kind entry rows))
 
@@ -101,7 +102,7 @@ length-acted WriteOff order entry before = length-with_settled before.rows (part
 length-acted Refund order entry before = refl
 
 -- what is overpaid, paid by places
-later-rows : (order : ℕ → Cell) (entry : Entry) (before : State) → (after order entry before).rows ≡ with_paid
+later-rows : (order : ℕ → Cell) (entry : Entry) (before : State) → (after_entry order entry before).rows ≡ with_paid
     (state_acted order entry before).rows (shares_by order (later_share order entry before) (places_of before))
 later-rows order entry before =
     let acted : State = state_acted order entry before in
@@ -110,12 +111,12 @@ later-rows order entry before =
     (length-acted entry.kind order entry before)
 
 -- the rows after an entry are those that it charges, with all that it settles
-pub rows-after : (order : ℕ → Cell) (entry : Entry) (before : State) → (after order entry before).rows
+pub rows-after : (order : ℕ → Cell) (entry : Entry) (before : State) → (after_entry order entry before).rows
     ≡ with_settled (rows_charged entry before) (parts_of order entry before)
 rows-after order entry before =
     let own : ℕ → ℕ = own_share entry.kind order entry before in
     let later : ℕ → ℕ = later_share order entry before in
-    let charged : List Sums = rows_charged entry before in
+    let charged : List Instalment = rows_charged entry before in
     let cleared : List Part = parts_cleared order entry before.rows in
     later-rows order entry before
     ∙ ap (λ x. with_paid x (shares_by order later (places_of before))) (acted-rows entry.kind order entry before)
@@ -172,7 +173,7 @@ sum_by-zero (k ∷ places) = let all = sum_by-append (λ (j : ℕ). 0) (k ∷ []
     sum_by-zero places in omega (arith, all, rest)
 
 -- shares and rest of an amount, by places
-amounts-rest : (order : ℕ → Cell) (rows : List Sums) (amount : ℕ) → sum_by (amounts_of order rows amount)
+amounts-rest : (order : ℕ → Cell) (rows : List Instalment) (amount : ℕ) → sum_by (amounts_of order rows amount)
     (range_with_len 0 (4 * length rows)) + rest_of order rows amount ≡ amount
 amounts-rest order rows amount =
     let total = total-by order (amounts_of order rows amount) (range_with_len 0 (4 * length rows)) in
@@ -201,7 +202,7 @@ unpaid_parts f (x ∷ places) none =
     (λ _. paid_in-cons (f x) others ∙ omega (arith, own, rest)) (λ _. rest)
 
 -- clearing pays nothing
-pub clears_unpaid : (kind : Kind) (order : ℕ → Cell) (entry : Entry) (rows : List Sums)
+pub clears_unpaid : (kind : Kind) (order : ℕ → Cell) (entry : Entry) (rows : List Instalment)
     → paid_in (parts_by kind order entry rows) ≡ 0
 clears_unpaid Repay order entry rows = refl
 clears_unpaid Fee order entry rows = refl
@@ -214,7 +215,7 @@ clears_unpaid WriteOff order entry rows =
 
 -- what an entry's parts pay and what it leaves overpaid is the money that it brings and finds, less what it gives back
 pub money-after : (order : ℕ → Cell) (entry : Entry) (before : State) → paid_in (parts_of order entry before)
-    + (after order entry before).overpaid ≡ money_to_pay entry before
+    + (after_entry order entry before).overpaid ≡ money_to_pay entry before
 money-after order entry before =
     let acted : State = state_acted order entry before in
     let places : List ℕ = places_of before in
@@ -309,7 +310,7 @@ pub parts-once : (n : ℕ) (order : ℕ → Cell) (place : Cell → ℕ) (entry 
 parts-once n order place entry before line =
     let own : ℕ → ℕ = own_share entry.kind order entry before in
     let later : ℕ → ℕ = later_share order entry before in
-    let cleared : List Sums = rows_cleared order entry before in
+    let cleared : List Instalment = rows_cleared order entry before in
     let money : ℕ = money_to_pay entry before in
     let shares : shares_by order (λ k. own k + later k) (places_of before) ≡ map (share_at order cleared money)
     (range_with_len 0 (4 * length cleared)) =
@@ -324,10 +325,10 @@ parts-once n order place entry before line =
 
 -- and so is the state
 pub after-once : (n : ℕ) (order : ℕ → Cell) (place : Cell → ℕ) (entry : Entry) (before : State)
-    → IsLine n order place before.rows → after order entry before ≡ after_at_once order entry before
+    → IsLine n order place before.rows → after_entry order entry before ≡ after_at_once order entry before
 after-once n order place entry before line =
-    let at : List Sums → ℕ → ℕ → State = λ r o f. record { rows = r; overpaid = o; refunded = f } in
-    let then : State = after order entry before in
+    let at : List Instalment → ℕ → ℕ → State = λ r o f. record { rows = r; overpaid = o; refunded = f } in
+    let then : State = after_entry order entry before in
     let once : State = after_at_once order entry before in
     ap (λ r. at r then.overpaid then.refunded) (rows-after order entry before
     ∙ ap (with_settled (rows_charged entry before)) (parts-once n order place entry before line))

@@ -8,7 +8,7 @@ use Rattle.mf_catalog.specs.declared.terms.StrategyName.{StrategyName}
 use Rattle.mf_catalog.specs.declared.terms.Terms.{Terms}
 use Rattle.mf_schedule.specs.Fresh.{fee_at_disbursement, fresh_schedule}
 use Rattle.mf_alloc.specs.declared.row.Cell.{Cell}
-use Rattle.mf_alloc.specs.Sums.{Sums, is_open, open_at}
+use Rattle.mf_alloc.specs.Sums.{Instalment, is_open, open_at}
 use Rattle.mf_alloc.specs.Rows.{outstanding, no_row, place_in_row, IsCell}
 use Rattle.mf_alloc.specs.Order.{cell_by, place_by, standard}
 use Rattle.mf_alloc.specs.OrderLaws.{in_range-place_by, forth-place_by}
@@ -17,11 +17,11 @@ use Rattle.mf_account.specs.declared.entry.Entry.{Entry}
 use Rattle.mf_account.specs.declared.entry.Kind.{Kind}
 use Rattle.mf_account.specs.declared.entry.Kind.TheVariants.{Repay, Fee, Penalty, Waive, WriteOff, Refund}
 use Rattle.mf_account.specs.Kinds.{is_seal, is_write_off, money_out}
-use Rattle.mf_account.specs.Effect.{State, after, own_effect, state_acted}
+use Rattle.mf_account.specs.Effect.{State, after_entry, own_effect, state_acted}
 use Rattle.mf_account.specs.Account.{first_state}
 use Rattle.mf_account.specs.Standing.{standing_entries, entry_at}
 use Rattle.mf_account.specs.Balance.{balances_by, balances_of}
-use Rattle.mf_account.specs.Loan.{Loan, IsSound, schedule_of, orders_of, state_of_loan, fee_of_loan}
+use Rattle.mf_account.specs.Loan.{DisbursedLoan, IsSoundDisbursed, schedule_of, orders_of, state_of_loan, fee_of_loan}
 use Rattle.mf_account.specs.OpenLaw.{OpenLoansHoldNoMoney}
 use Rattle.mf_account.specs.Rewind.{state_before}
 use Rattle.mf_account.specs.Safe.{IsBounded}
@@ -36,7 +36,7 @@ use Rattle.mf_account.proofs.TailLemmas.{good-before, none-before}
 -- a refund leaves rows closed that were
 refund-closed : (n used : ℕ) (name : StrategyName) (due : ℕ) (entry : Entry) (before : State) → due ≤ n
     → IsBounded n used before → entry.kind ≡ Refund → AreClosed before.rows
-    → AreClosed (after (cell_by name due) entry before).rows
+    → AreClosed (after_entry (cell_by name due) entry before).rows
 refund-closed n used name due entry before few good is closed i p within small =
     let order : ℕ → Cell = cell_by name due in
     let place : Cell → ℕ = place_by name due in
@@ -63,16 +63,16 @@ refund-closed n used name due entry before few good is closed i p within small =
     ap (λ kind. outstanding (own_effect kind order entry before).rows (order k)) is
     ∙ ap (outstanding before.rows) back ∙ own in
     let paid = outstanding-rows_paid n order place acted.rows acted.overpaid k line inside in
-    let left : outstanding (after order entry before).rows (order k) ≡ 0 =
+    let left : outstanding (after_entry order entry before).rows (order k) ≡ 0 =
     paid ∙ ap (λ x. x - amounts_of order acted.rows acted.overpaid k) here ∙ omega arith in
-    let at : outstanding (after order entry before).rows cell ≡ 0 =
-    ap (outstanding (after order entry before).rows) (sym back) ∙ left in
-    ap (λ x. open_at (get_or (after order entry before).rows x no_row) p) (sym row)
-    ∙ ap (λ x. open_at (get_or (after order entry before).rows (i + 1 - 1) no_row) x) (sym (portion-at p small))
+    let at : outstanding (after_entry order entry before).rows cell ≡ 0 =
+    ap (outstanding (after_entry order entry before).rows) (sym back) ∙ left in
+    ap (λ x. open_at (get_or (after_entry order entry before).rows x no_row) p) (sym row)
+    ∙ ap (λ x. open_at (get_or (after_entry order entry before).rows (i + 1 - 1) no_row) x) (sym (portion-at p small))
     ∙ at
 
 -- what is overpaid closes the rows, before any of the standing entries too
-closed-before : (loan : Loan) (k : ℕ) → IsSound loan → IsClosed (state_before loan k)
+closed-before : (loan : DisbursedLoan) (k : ℕ) → IsSoundDisbursed loan → IsClosed (state_before loan k)
 closed-before loan k sound =
     closed-all loan.periods (2 ^ 54) loan.terms.strategy (due_at loan) (take k (standing_entries loan.entries))
     (first_state (schedule_of loan)) (due_at-le loan)
@@ -80,7 +80,7 @@ closed-before loan k sound =
     (first-good loan sound) (λ some. absurd (omega (arith, some)))
 
 -- a refund that stands while something is outstanding gave nothing back
-none-given : (loan : Loan) → IsSound loan → list_any is_open (state_of_loan loan).rows ≡ true
+none-given : (loan : DisbursedLoan) → IsSoundDisbursed loan → list_any is_open (state_of_loan loan).rows ≡ true
     → EndsInRefund (standing_entries loan.entries) (length (standing_entries loan.entries))
     → (state_of_loan loan).refunded ≡ 0
 none-given loan sound left ends =
@@ -89,11 +89,12 @@ none-given loan sound left ends =
     let within : k < length all = omega (arith, ends.0) in
     let e : Entry = entry_at all k in
     let past : State = state_before loan k in
-    let state : state_of_loan loan ≡ after (orders_of loan e) e past = last-state loan k (omega (arith, ends.0)) in
+    let state : state_of_loan loan ≡ after_entry (orders_of loan e) e past = last-state loan k (omega (arith, ends.0))
+    in
     let given = refunded-after e.kind (orders_of loan e) e past in
     let gives : money_out e.kind past.overpaid ≡ past.overpaid = ap (λ x. money_out x past.overpaid) ends.1 in
     let before = none-before loan k sound within in
-    let last : (state_of_loan loan).refunded ≡ (after (orders_of loan e) e past).refunded =
+    let last : (state_of_loan loan).refunded ≡ (after_entry (orders_of loan e) e past).refunded =
     ap (λ (s : State). s.refunded) state in
     elim (cases_lt 0 past.overpaid) [
       | inl some ↦
@@ -137,8 +138,9 @@ open-holds_nothing loan sound left =
     )
 
 -- so the sums of the rows, beside nothing overpaid and nothing refunded, are the loan's
-pub open-balances : (loan : Loan) (terms : Terms) (principal periods day : ℕ) (rows : List Sums) (fee : ℕ)
-    → IsSound loan → loan.terms ≡ terms → loan.principal ≡ principal → loan.periods ≡ periods → loan.day ≡ day
+pub open-balances : (loan : DisbursedLoan) (terms : Terms) (principal periods day : ℕ) (rows : List Instalment)
+    (fee : ℕ)
+    → IsSoundDisbursed loan → loan.terms ≡ terms → loan.principal ≡ principal → loan.periods ≡ periods → loan.day ≡ day
     → rows ≡ (state_of_loan loan).rows → list_any is_open rows ≡ true
     → fee ≡ fee_at_disbursement terms principal (fresh_schedule terms principal periods day)
     → balances_by fee (book_at rows 0 0) ≡ balances_of loan
@@ -153,7 +155,7 @@ open-balances loan terms principal periods day rows fee sound terms_is principal
     (sym periods_is)
     ∙ ap (λ (d : ℕ). fee_at_disbursement loan.terms loan.principal
     (fresh_schedule loan.terms loan.principal loan.periods d)) (sym day_is) in
-    let own_state : book_at rows 0 0 ≡ state = ap (λ (r : List Sums). book_at r 0 0) rows_are
+    let own_state : book_at rows 0 0 ≡ state = ap (λ (r : List Instalment). book_at r 0 0) rows_are
     ∙ ap (λ (o : ℕ). book_at state.rows o 0) (sym held.0)
     ∙ ap (λ (f : ℕ). book_at state.rows state.overpaid f) (sym held.1) in
     ap (λ (f : ℕ). balances_by f (book_at rows 0 0)) own_fee ∙ ap (balances_by (fee_of_loan loan)) own_state

@@ -2,7 +2,7 @@
 use Rattle.std.proofs.Common.{◌≡◌, ◌≢◌, ℕ, zero, suc, ◌+◌, ◌-◌, ◌<◌, true, false, List, [], ◌∷◌, ◌++◌, length, get_or}
 use Rattle.std.proofs.Common.{map, take, drop, arith, refl, ◌∙◌, ap, sym, subst, length-append}
 use Rattle.std.specs.Prelude.{insert, remove, All}
-use Rattle.std.proofs.lemmas.List.{length-map, length-set, get_or-map, get_or_default}
+use Rattle.std.proofs.lemmas.List.{length-map, length-set, get_or-map}
 use Rattle.std.proofs.lemmas.List.Elements.{All-head, All-tail, All-take, All-drop, All-append, All-weaker}
 use Rattle.mf_account.specs.declared.entry.Entry.{Entry}
 use Rattle.mf_account.specs.Standing.{order_with, standing_entries, no_entry, entry_at, entries_at, with_mark}
@@ -19,17 +19,6 @@ use Rattle.mf_account.proofs.RedoneLemmas.{standing-entered}
 pub length-order : (entries : List Entry) (order : List ℕ) → entries_at entries order ≡ standing_entries entries
     → length order ≡ length (standing_entries entries)
 length-order entries order is = sym (length-map order (λ i. get_or entries i no_entry)) ∙ ap length is
-
--- the last of an order
-pub last-read : (entries : List Entry) (order : List ℕ) (at : ℕ) (e : Entry) → at < length order → get_or order at 0
-    < length entries → e ≡ get_or entries (get_or order at 0) e → at + 1 ≡ length order
-    → (entry_at (entries_at entries order) (length (entries_at entries order) - 1)).kind ≡ e.kind
-last-read entries order at e within there is last =
-    let size = length-map order (λ i. get_or entries i no_entry) in
-    let same : length (entries_at entries order) - 1 ≡ at = omega (arith, size, last) in
-    ap (λ j. (entry_at (entries_at entries order) j).kind) same
-    ∙ ap (λ (x : Entry). x.kind) (get_or-map (λ i. get_or entries i no_entry) order at 0 no_entry within
-    ∙ get_or_default entries (get_or order at 0) no_entry e there ∙ sym is)
 
 -- an entry behind all others changes none of those before it
 longer-same : (entries : List Entry) (e : Entry) (order : List ℕ) → All (λ i. i < length entries) order

@@ -10,16 +10,16 @@ use Rattle.std.proofs.lemmas.List.Elements.{All-from_recursion, recursion_from_A
 use Rattle.std.proofs.lemmas.List.Sorted.{All-permutation}
 use Rattle.std.proofs.lemmas.Bool.{cases_lt, cases_eq, cond-true, cond-false, eq-eqb, ne_eqb, eqb-true}
 use Rattle.std.proofs.lemmas.List.{length-map, get_or-map}
-use Rattle.mf_account.specs.declared.settled.Settled.{Settled}
+use Rattle.mf_account.specs.declared.settled.SettledPart.{SettledPart}
 use Rattle.mf_account.specs.declared.entry.Entry.{Entry}
 use Rattle.mf_account.specs.declared.replay.Standing.{Standing}
 use Rattle.mf_account.specs.Applicable.{no_settled}
 use Rattle.mf_account.specs.Told.{AreNumberedTo}
-use Rattle.mf_account.specs.Effect.{State, Part, after, parts_of}
+use Rattle.mf_account.specs.Effect.{State, Part, after_entry, parts_of}
 use Rattle.mf_account.specs.Account.{Orders, parts_numbered, settled_by, first_state}
 use Rattle.mf_account.specs.Change.{settled_in}
-use Rattle.mf_account.specs.Standing.{standing_entries, no_entry, entry_at, entries_at, AreApart}
-use Rattle.mf_account.specs.Loan.{Loan, IsSound, schedule_of, orders_of, settled_of_loan}
+use Rattle.mf_account.specs.Standing.{standing_entries, no_entry, entry_at, entries_at, AreDistinct}
+use Rattle.mf_account.specs.Loan.{DisbursedLoan, IsSoundDisbursed, schedule_of, orders_of, settled_of_loan}
 use Rattle.mf_account.proofs.TailLemmas.{numbers-standing}
 use Rattle.mf_account.proofs.ToldLemmas.{parts-numbered}
 
@@ -112,23 +112,23 @@ all_weaker P Q (x ∷ xs) weaker all = (weaker x all.0, all_weaker P Q xs weaker
 
 -- what entries settle has their numbers, in their order
 module _ (key : ℕ → ℕ) where
-  abbrev part_key : Settled → ℕ
+  abbrev part_key : SettledPart → ℕ
   part_key s = key s.seq
 
   abbrev entry_key : Entry → ℕ
   entry_key e = key e.seq
 
-  at_least_numbered : (seq place : ℕ) (parts : List Part) (ys : List Settled) → AtLeast part_key (key seq) ys
+  at_least_numbered : (seq place : ℕ) (parts : List Part) (ys : List SettledPart) → AtLeast part_key (key seq) ys
       → AtLeast part_key (key seq) (parts_numbered seq place parts ++ ys)
   at_least_numbered seq place [] ys later = later
   at_least_numbered seq place (part ∷ parts) ys later = (omega arith, at_least_numbered seq (place + 1) parts ys later)
 
-  at_least_behind : (q seq place : ℕ) (parts : List Part) (ys : List Settled) → q ≤ key seq → AtLeast part_key q ys
+  at_least_behind : (q seq place : ℕ) (parts : List Part) (ys : List SettledPart) → q ≤ key seq → AtLeast part_key q ys
       → AtLeast part_key q (parts_numbered seq place parts ++ ys)
   at_least_behind q seq place [] ys le later = later
   at_least_behind q seq place (part ∷ parts) ys le later = (le, at_least_behind q seq (place + 1) parts ys le later)
 
-  rises_numbered : (seq place : ℕ) (parts : List Part) (ys : List Settled) → AtLeast part_key (key seq) ys
+  rises_numbered : (seq place : ℕ) (parts : List Part) (ys : List SettledPart) → AtLeast part_key (key seq) ys
       → Rises part_key ys → Rises part_key (parts_numbered seq place parts ++ ys)
   rises_numbered seq place [] ys later up = up
   rises_numbered seq place (part ∷ parts) ys later up =
@@ -138,33 +138,35 @@ module _ (key : ℕ → ℕ) where
       → AtLeast part_key q (settled_by orders es from)
   at_least_settled q orders [] from all = tt
   at_least_settled q orders (e ∷ es) from all =
-      at_least_behind q e.seq 1 (parts_of (orders e) e from) (settled_by orders es (after (orders e) e from)) all.0
-      (at_least_settled q orders es (after (orders e) e from) all.1)
+      at_least_behind q e.seq 1 (parts_of (orders e) e from) (settled_by orders es (after_entry (orders e) e from))
+      all.0
+      (at_least_settled q orders es (after_entry (orders e) e from) all.1)
 
   pub rises_settled : (orders : Orders) (es : List Entry) (from : State) → Rises entry_key es
       → Rises part_key (settled_by orders es from)
   rises_settled orders [] from up = tt
   rises_settled orders (e ∷ es) from up =
-      rises_numbered e.seq 1 (parts_of (orders e) e from) (settled_by orders es (after (orders e) e from))
-      (at_least_settled (entry_key e) orders es (after (orders e) e from) up.0)
-      (rises_settled orders es (after (orders e) e from) up.1)
+      rises_numbered e.seq 1 (parts_of (orders e) e from) (settled_by orders es (after_entry (orders e) e from))
+      (at_least_settled (entry_key e) orders es (after_entry (orders e) e from) up.0)
+      (rises_settled orders es (after_entry (orders e) e from) up.1)
 
 -- what holds of the numbers of entries holds of those of their parts
 module _ (P : ℕ → Type 0) where
-  all_numbered : (seq place : ℕ) (parts : List Part) (ys : List Settled) → P seq → AllByRecursion (λ (s : Settled).
-      P s.seq) ys → AllByRecursion (λ (s : Settled). P s.seq) (parts_numbered seq place parts ++ ys)
+  all_numbered : (seq place : ℕ) (parts : List Part) (ys : List SettledPart) → P seq
+      → AllByRecursion (λ (s : SettledPart).
+      P s.seq) ys → AllByRecursion (λ (s : SettledPart). P s.seq) (parts_numbered seq place parts ++ ys)
   all_numbered seq place [] ys own later = later
   all_numbered seq place (part ∷ parts) ys own later = (own, all_numbered seq (place + 1) parts ys own later)
 
   all_settled : (orders : Orders) (es : List Entry) (from : State) → AllByRecursion (λ (e : Entry). P e.seq) es
-      → AllByRecursion (λ (s : Settled). P s.seq) (settled_by orders es from)
+      → AllByRecursion (λ (s : SettledPart). P s.seq) (settled_by orders es from)
   all_settled orders [] from all = tt
   all_settled orders (e ∷ es) from all =
-      all_numbered e.seq 1 (parts_of (orders e) e from) (settled_by orders es (after (orders e) e from)) all.0
-      (all_settled orders es (after (orders e) e from) all.1)
+      all_numbered e.seq 1 (parts_of (orders e) e from) (settled_by orders es (after_entry (orders e) e from)) all.0
+      (all_settled orders es (after_entry (orders e) e from) all.1)
 
   -- where some part has a number
-  some_has : (seq : ℕ) (ys : List Settled) → AllByRecursion (λ (s : Settled). P s.seq) ys
+  some_has : (seq : ℕ) (ys : List SettledPart) → AllByRecursion (λ (s : SettledPart). P s.seq) ys
       → 0 < length (settled_in seq ys) → P seq
   some_has seq [] all some = absurd (omega (arith, some))
   some_has seq (y ∷ ys) all some =
@@ -177,8 +179,8 @@ module _ (P : ℕ → Type 0) where
             some_has seq ys all.1 (omega (arith, some, size))
       ]
 
-  all_from_some : (xs : List Settled) → ((seq : ℕ) → 0 < length (settled_in seq xs) → P seq)
-      → AllByRecursion (λ (s : Settled). P s.seq) xs
+  all_from_some : (xs : List SettledPart) → ((seq : ℕ) → 0 < length (settled_in seq xs) → P seq)
+      → AllByRecursion (λ (s : SettledPart). P s.seq) xs
   all_from_some [] has = tt
   all_from_some (x ∷ xs) has =
       let own : settled_in x.seq (x ∷ xs) ≡ x ∷ settled_in x.seq xs =
@@ -214,11 +216,12 @@ module _ (order : List ℕ) (place : ℕ → ℕ) (at : (k : ℕ) → k < length
       ap place less ∙ at has.0 has.1
 
   -- the parts of one key are those of one entry
-  one_key : (q : ℕ) (xs : List Settled) → q < length order → AllByRecursion (λ (s : Settled). HasPlace order s.seq) xs
-      → of_key (λ (s : Settled). key_of s.seq) q xs ≡ settled_in (get_or order q 0 + 1) xs
+  one_key : (q : ℕ) (xs : List SettledPart) → q < length order
+      → AllByRecursion (λ (s : SettledPart). HasPlace order s.seq) xs
+      → of_key (λ (s : SettledPart). key_of s.seq) q xs ≡ settled_in (get_or order q 0 + 1) xs
   one_key q xs below all =
-      filter_same (λ (s : Settled). key_of s.seq == q) (λ (s : Settled). s.seq == get_or order q 0 + 1) xs
-      (all_weaker (λ (s : Settled). HasPlace order s.seq) (λ (s : Settled). (key_of s.seq == q)
+      filter_same (λ (s : SettledPart). key_of s.seq == q) (λ (s : SettledPart). s.seq == get_or order q 0 + 1) xs
+      (all_weaker (λ (s : SettledPart). HasPlace order s.seq) (λ (s : SettledPart). (key_of s.seq == q)
       ≡ (s.seq == get_or order q 0 + 1)) xs
       (λ s has.
       elim (cases_eq s.seq (get_or order q 0 + 1)) [
@@ -232,17 +235,19 @@ module _ (order : List ℕ) (place : ℕ → ℕ) (at : (k : ℕ) → k < length
             ∙ sym (ne_eqb s.seq (get_or order q 0 + 1) other)
       ]) all)
 
-  no_key : (q : ℕ) (xs : List Settled) → length order ≤ q → AllByRecursion (λ (s : Settled). HasPlace order s.seq) xs
-      → of_key (λ (s : Settled). key_of s.seq) q xs ≡ []
+  no_key : (q : ℕ) (xs : List SettledPart) → length order ≤ q
+      → AllByRecursion (λ (s : SettledPart). HasPlace order s.seq) xs
+      → of_key (λ (s : SettledPart). key_of s.seq) q xs ≡ []
   no_key q [] past all = refl
   no_key q (x ∷ xs) past all =
-      other_first (λ (s : Settled). key_of s.seq) q x xs (λ is. let k = key_at x.seq all.0 in let below = all.0.1 in
+      other_first (λ (s : SettledPart). key_of s.seq) q x xs (λ is. let k = key_at x.seq all.0 in let below = all.0.1 in
       absurd (omega (arith, is, k, below, past)))
       ∙ no_key q xs past all.1
 
-  same_keys : (xs ys : List Settled) → AllByRecursion (λ (s : Settled). HasPlace order s.seq) xs
-      → AllByRecursion (λ (s : Settled). HasPlace order s.seq) ys → ((seq : ℕ) → settled_in seq xs ≡ settled_in seq ys)
-      → (q : ℕ) → of_key (λ (s : Settled). key_of s.seq) q xs ≡ of_key (λ (s : Settled). key_of s.seq) q ys
+  same_keys : (xs ys : List SettledPart) → AllByRecursion (λ (s : SettledPart). HasPlace order s.seq) xs
+      → AllByRecursion (λ (s : SettledPart). HasPlace order s.seq) ys
+      → ((seq : ℕ) → settled_in seq xs ≡ settled_in seq ys)
+      → (q : ℕ) → of_key (λ (s : SettledPart). key_of s.seq) q xs ≡ of_key (λ (s : SettledPart). key_of s.seq) q ys
   same_keys xs ys all_x all_y same q =
       elim (cases_lt q (length order)) [
         | inl below ↦ one_key q xs below all_x ∙ same (get_or order q 0 + 1) ∙ sym (one_key q ys below all_y)
@@ -250,7 +255,8 @@ module _ (order : List ℕ) (place : ℕ → ℕ) (at : (k : ℕ) → k < length
       ]
 
 -- the entry at a place of an order has the number of its place
-number-at : (loan : Loan) (order : List ℕ) (k : ℕ) (d : Entry) → IsSound loan → All (λ i. i < length loan.entries) order
+number-at : (loan : DisbursedLoan) (order : List ℕ) (k : ℕ) (d : Entry) → IsSoundDisbursed loan
+    → All (λ i. i < length loan.entries) order
     → k < length order → (get_or (entries_at loan.entries order) k d).seq ≡ get_or order k 0 + 1
 number-at loan order k d sound within below =
     let size = length-map order (λ i. get_or loan.entries i no_entry) in
@@ -263,8 +269,9 @@ all_from P [] all = tt
 all_from P (x ∷ xs) all = (all 0 x (omega arith), all_from P xs (λ k d below. all (suc k) d (omega arith)))
 
 -- no two places of an order are the same
-pub apart-order : (loan : Loan) (order : List ℕ) → IsSound loan → All (λ i. i < length loan.entries) order
-    → entries_at loan.entries order ≡ standing_entries loan.entries → AreApart order
+pub apart-order : (loan : DisbursedLoan) (order : List ℕ) → IsSoundDisbursed loan
+    → All (λ i. i < length loan.entries) order
+    → entries_at loan.entries order ≡ standing_entries loan.entries → AreDistinct order
 apart-order loan order sound within is i j less below same =
     let size : length order ≡ length (standing_entries loan.entries) =
     sym (length-map order (λ i. get_or loan.entries i no_entry)) ∙ ap length is in
@@ -276,10 +283,11 @@ apart-order loan order sound within is i j less below same =
     numbers-standing loan.periods loan.day loan.entries i j sound.entries less (omega (arith, below, size)) seqs
 
 -- sorted by the places of their entries, parts are the loan's where each entry's are
-pub ordered-is : (loan : Loan) (order : List ℕ) (place : ℕ → ℕ) (sorted : List Settled) → IsSound loan
+pub ordered-is : (loan : DisbursedLoan) (order : List ℕ) (place : ℕ → ℕ) (sorted : List SettledPart)
+    → IsSoundDisbursed loan
     → All (λ i. i < length loan.entries) order → entries_at loan.entries order ≡ standing_entries loan.entries
     → ((k : ℕ) → k < length order → place (get_or order k 0) ≡ k) → ((seq : ℕ) → settled_in seq sorted ≡ settled_in seq
-    (settled_of_loan loan)) → Rises (λ (s : Settled). place (s.seq - 1)) sorted → sorted ≡ settled_of_loan loan
+    (settled_of_loan loan)) → Rises (λ (s : SettledPart). place (s.seq - 1)) sorted → sorted ≡ settled_of_loan loan
 ordered-is loan order place sorted sound within is at same up =
     let es : List Entry = entries_at loan.entries order in
     let size : length es ≡ length order = length-map order (λ i. get_or loan.entries i no_entry) in
@@ -301,9 +309,9 @@ ordered-is loan order place sorted sound within is at same up =
     let one = keyed i d (omega (arith, le, below)) in
     let other = keyed j d below in
     omega (arith, one, other, le))) in
-    let own : AllByRecursion (λ (s : Settled). HasPlace order s.seq) (settled_of_loan loan) = all_settled
+    let own : AllByRecursion (λ (s : SettledPart). HasPlace order s.seq) (settled_of_loan loan) = all_settled
     (HasPlace order) (orders_of loan) (standing_entries loan.entries) (first_state (schedule_of loan)) has in
-    let seen : AllByRecursion (λ (s : Settled). HasPlace order s.seq) sorted =
+    let seen : AllByRecursion (λ (s : SettledPart). HasPlace order s.seq) sorted =
     all_from_some (HasPlace order) sorted (λ seq some. let size = ap length (same seq) in some_has (HasPlace order) seq
     (settled_of_loan loan) own (omega (arith, some, size))) in
     rises_unique (part_key (key_of order place at)) sorted (settled_of_loan loan)
@@ -315,24 +323,24 @@ ordered-is loan order place sorted sound within is at same up =
 -- ---- parts with the places of their entries
 
 -- a part's place, by the places of entries
-abbrev place_in : List ℕ → Settled → ℕ
+abbrev place_in : List ℕ → SettledPart → ℕ
 place_in places s = get_or places (s.seq - 1) 0
 
-abbrev pub with_place : List ℕ → Settled → Standing
+abbrev pub with_place : List ℕ → SettledPart → Standing
 with_place places s = record { place = place_in places s; part = s }
 
-abbrev pub part_in : Standing → Settled
+abbrev pub part_in : Standing → SettledPart
 part_in p = p.part
 
 -- each has the place of its part's entry
 abbrev HasItsPlace : List ℕ → Standing → Type 0
 HasItsPlace places p = p.place ≡ place_in places p.part
 
-parts_back : (places : List ℕ) (xs : List Settled) → map part_in (map (with_place places) xs) ≡ xs
+parts_back : (places : List ℕ) (xs : List SettledPart) → map part_in (map (with_place places) xs) ≡ xs
 parts_back places [] = refl
 parts_back places (x ∷ xs) = ap (λ l. x ∷ l) (parts_back places xs)
 
-placed_so : (places : List ℕ) (xs : List Settled) → AllByRecursion (HasItsPlace places) (map (with_place places) xs)
+placed_so : (places : List ℕ) (xs : List SettledPart) → AllByRecursion (HasItsPlace places) (map (with_place places) xs)
 placed_so places [] = tt
 placed_so places (x ∷ xs) = (refl, placed_so places xs)
 
@@ -414,7 +422,8 @@ moved_so places ps sorted moved so = recursion_from_All (HasItsPlace places) sor
     (All-permutation (HasItsPlace places) ps sorted moved (All-from_recursion (HasItsPlace places) ps so))
 
 -- sorted by place, the parts are the loan's where each entry's are
-pub sorted-parts : (loan : Loan) (order places : List ℕ) (xs : List Settled) (sorted : List Standing) → IsSound loan
+pub sorted-parts : (loan : DisbursedLoan) (order places : List ℕ) (xs : List SettledPart) (sorted : List Standing)
+    → IsSoundDisbursed loan
     → All (λ i. i < length loan.entries) order → entries_at loan.entries order ≡ standing_entries loan.entries
     → ((k : ℕ) → k < length order → get_or places (get_or order k 0) 0 ≡ k)
     → ((seq : ℕ) → settled_in seq xs ≡ settled_in seq (settled_of_loan loan))
@@ -431,13 +440,13 @@ sorted-parts loan order places xs sorted sound within is at same moved up stable
     (rises_parts places sorted so_sorted (rises_from (λ (p : Standing). p.place) sorted up))
 
 -- where each entry's parts are the loan's, each part is of one of its entries
-pub numbered-kept : (loan : Loan) (xs : List Settled) → IsSound loan
+pub numbered-kept : (loan : DisbursedLoan) (xs : List SettledPart) → IsSoundDisbursed loan
     → ((seq : ℕ) → settled_in seq xs ≡ settled_in seq (settled_of_loan loan)) → AreNumberedTo (length loan.entries) xs
 numbered-kept loan xs sound same =
     let n : ℕ = length loan.entries in
     let P : ℕ → Type 0 = λ seq. (1 ≤ seq) × (seq ≤ n) in
-    let own : AllByRecursion (λ (s : Settled). P s.seq) (settled_of_loan loan) =
-    recursion_from_All (λ (s : Settled). P s.seq) (settled_of_loan loan) (parts-numbered loan sound) in
-    All-from_recursion (λ (s : Settled). P s.seq) xs
+    let own : AllByRecursion (λ (s : SettledPart). P s.seq) (settled_of_loan loan) =
+    recursion_from_All (λ (s : SettledPart). P s.seq) (settled_of_loan loan) (parts-numbered loan sound) in
+    All-from_recursion (λ (s : SettledPart). P s.seq) xs
     (all_from_some P xs (λ seq some. let size = ap length (same seq) in some_has P seq (settled_of_loan loan) own
     (omega (arith, some, size))))

@@ -10,9 +10,9 @@ use Rattle.std.proofs.lemmas.List.{get_or-set_same, get_or-set_other, get_or_def
 use Rattle.std.proofs.lemmas.List.Elements.{All-head, All-tail}
 use Rattle.std.proofs.lemmas.List.Folds.{list_any_at, Any-from_list_any}
 use Rattle.std.proofs.lemmas.List.Sums.{sum_by-append}
-use Rattle.mf_schedule.specs.declared.instalment.Instalment.{Instalment}
+use Rattle.mf_schedule.specs.declared.instalment.FreshInstalment.{FreshInstalment}
 use Rattle.mf_alloc.specs.declared.row.Cell.{Cell}
-use Rattle.mf_alloc.specs.Sums.{Sums, AreWhole}
+use Rattle.mf_alloc.specs.Sums.{Instalment, AreWhole}
 use Rattle.mf_alloc.specs.Rows.{no_row, row_at, place_in_row}
 use Rattle.mf_alloc.specs.OrderLaws.{IsOrder}
 use Rattle.mf_account.specs.declared.entry.Entry.{Entry}
@@ -21,14 +21,15 @@ use Rattle.mf_account.specs.declared.entry.Kind.TheVariants.{Repay, Fee, Penalty
 use Rattle.mf_account.specs.declared.settled.How.{How}
 use Rattle.mf_account.specs.declared.settled.How.TheVariants.{Paid, Waived, WrittenOff}
 use Rattle.mf_account.specs.Kinds.{is_penalty}
-use Rattle.mf_account.specs.Effect.{State, Part, settle, settle_row, owe_row, with_settled, with_charge, after}
+use Rattle.mf_account.specs.Effect.{State, Part, settle, settle_row, owe_row, with_settled, with_charge, after_entry}
 use Rattle.mf_account.specs.Effect.{parts_of}
 use Rattle.mf_account.specs.AtOnce.{rows_charged}
-use Rattle.mf_account.specs.Account.{Orders, after_all, first_state, row_of}
+use Rattle.mf_account.specs.Account.{Orders, after_entries, first_state, row_of}
 use Rattle.mf_account.specs.Applicable.{HasInstalment}
 use Rattle.mf_account.specs.Standing.{standing_entries, no_entry, entry_at}
 use Rattle.mf_account.specs.StandingLaw.{IsAmong}
-use Rattle.mf_account.specs.Loan.{Loan, HasColumns, IsEntry, IsSound, schedule_of, orders_of, cell_places_of}
+use Rattle.mf_account.specs.Loan.{DisbursedLoan, HasColumns, IsEntry, IsSoundDisbursed, schedule_of, orders_of}
+use Rattle.mf_account.specs.Loan.{cell_places_of}
 use Rattle.mf_account.specs.Loan.{state_of_loan}
 use Rattle.mf_account.specs.Refusals.{is_penalty_on, has_penalty}
 use Rattle.mf_account.proofs.OnceLemmas.{rows-after}
@@ -40,7 +41,7 @@ use Rattle.mf_account.proofs.TailLemmas.{among-index, at-among}
 use Rattle.mf_account.proofs.SealLemmas.{not_true}
 
 -- what an instalment owes of penalties
-abbrev penalties_owed : ℕ → List Sums → ℕ
+abbrev penalties_owed : ℕ → List Instalment → ℕ
 penalties_owed instalment rows = get_or (row_at rows instalment).owed 0 0
 
 -- what an entry adds to the penalties of an instalment, and what several add
@@ -54,7 +55,8 @@ abbrev added : ℕ → List Entry → ℕ
 added instalment entries = sum_by (adds instalment) entries
 
 -- a change that leaves something of a row leaves it of each row
-read-changed : (f : Sums → ℕ) (change : Sums → Sums) (rows : List Sums) (i j : ℕ) → ((row : Sums) → f (change row)
+read-changed : (f : Instalment → ℕ) (change : Instalment → Instalment) (rows : List Instalment) (i j : ℕ)
+    → ((row : Instalment) → f (change row)
     ≡ f row) → f (get_or (set rows i (change (get_or rows i no_row))) j no_row) ≡ f (get_or rows j no_row)
 read-changed f change [] zero j same = refl
 read-changed f change [] (suc i) j same = refl
@@ -63,17 +65,17 @@ read-changed f change (row ∷ rows) zero (suc j) same = refl
 read-changed f change (row ∷ rows) (suc i) zero same = refl
 read-changed f change (row ∷ rows) (suc i) (suc j) same = read-changed f change rows i j same
 
-abbrev penalty_owed : Sums → ℕ
+abbrev penalty_owed : Instalment → ℕ
 penalty_owed row = get_or row.owed 0 0
 
 -- what is settled changes nothing that is owed
-settle_row-owes : (how : How) (p amount : ℕ) (row : Sums) → penalty_owed (settle_row how p amount row)
+settle_row-owes : (how : How) (p amount : ℕ) (row : Instalment) → penalty_owed (settle_row how p amount row)
     ≡ penalty_owed row
 settle_row-owes Paid p amount row = refl
 settle_row-owes Waived p amount row = refl
 settle_row-owes WrittenOff p amount row = refl
 
-settled-owes : (instalment : ℕ) (rows : List Sums) (parts : List Part)
+settled-owes : (instalment : ℕ) (rows : List Instalment) (parts : List Part)
     → penalties_owed instalment (with_settled rows parts) ≡ penalties_owed instalment rows
 settled-owes instalment rows [] = refl
 settled-owes instalment rows (part ∷ parts) =
@@ -83,13 +85,13 @@ settled-owes instalment rows (part ∷ parts) =
     part.amount)
 
 -- a penalty adds its amount to its own instalment, and nothing else adds to one
-penalty-owes : (instalment : ℕ) (e : Entry) (rows : List Sums) → AreWhole rows → 1 ≤ instalment → 1 ≤ e.instalment
+penalty-owes : (instalment : ℕ) (e : Entry) (rows : List Instalment) → AreWhole rows → 1 ≤ instalment → 1 ≤ e.instalment
     → e.instalment ≤ length rows → penalties_owed instalment (with_charge Penalty e rows) ≡ penalties_owed instalment
     rows + adds_by Penalty instalment e
 penalty-owes instalment e rows whole first there last =
     let i : ℕ = e.instalment - 1 in
-    let row : Sums = row_at rows e.instalment in
-    let charged : Sums = owe_row 0 e.amount row in
+    let row : Instalment = row_at rows e.instalment in
+    let charged : Instalment = owe_row 0 e.amount row in
     elim (cases_Bool (eqb e.instalment instalment)) [
       | inl own ↦
           let same : e.instalment ≡ instalment = eqb-true e.instalment instalment own in
@@ -114,7 +116,7 @@ penalty-owes instalment e rows whole first there last =
           omega (arith, adds_is, read)
     ]
 
-charge-owes : (kind : Kind) (instalment : ℕ) (e : Entry) (rows : List Sums) → AreWhole rows → 1 ≤ instalment
+charge-owes : (kind : Kind) (instalment : ℕ) (e : Entry) (rows : List Instalment) → AreWhole rows → 1 ≤ instalment
     → HasInstalment kind e (length rows) → penalties_owed instalment (with_charge kind e rows)
     ≡ penalties_owed instalment rows + adds_by kind instalment e
 charge-owes Penalty instalment e rows whole first has = penalty-owes instalment e rows whole first has.0 has.1
@@ -129,7 +131,7 @@ charge-owes WriteOff instalment e rows whole first has = omega arith
 charge-owes Refund instalment e rows whole first has = omega arith
 
 after-owes : (n used instalment : ℕ) (order : ℕ → Cell) (e : Entry) (before : State) → 1 ≤ instalment
-    → HasInstalment e.kind e n → IsBounded n used before → penalties_owed instalment (after order e before).rows
+    → HasInstalment e.kind e n → IsBounded n used before → penalties_owed instalment (after_entry order e before).rows
     ≡ penalties_owed instalment before.rows + adds instalment e
 after-owes n used instalment order e before first has good =
     ap (penalties_owed instalment) (rows-after order e before)
@@ -138,26 +140,26 @@ after-owes n used instalment order e before first has good =
 
 all-owes : (n used instalment : ℕ) (orders : Orders) (places : Entry → Cell → ℕ) (entries : List Entry) (before : State)
     → 1 ≤ instalment → ((e : Entry) → IsOrder n (orders e) (places e)) → All (IsReplayable n) entries
-    → IsBounded n used before → penalties_owed instalment (after_all orders entries before).rows
+    → IsBounded n used before → penalties_owed instalment (after_entries orders entries before).rows
     ≡ penalties_owed instalment before.rows + added instalment entries
 all-owes n used instalment orders places [] before first is each good = omega arith
 all-owes n used instalment orders places (e ∷ entries) before first is each good =
     let one : IsReplayable n e = All-head (IsReplayable n) e entries each in
     let own = after-owes n used instalment (orders e) e before first one.there good in
-    let rest = all-owes n (used + e.amount) instalment orders places entries (after (orders e) e before) first is
+    let rest = all-owes n (used + e.amount) instalment orders places entries (after_entry (orders e) e before) first is
     (All-tail (IsReplayable n) e entries each) (good-after n used (orders e) (places e) e before (is e) one.there
     good) in
     let all = sum_by-append (adds instalment) (e ∷ []) entries in
     omega (arith, own, rest, all)
 
-first-owes : (schedule : List Instalment) (i : ℕ) → penalty_owed (get_or (map row_of schedule) i no_row) ≡ 0
+first-owes : (schedule : List FreshInstalment) (i : ℕ) → penalty_owed (get_or (map row_of schedule) i no_row) ≡ 0
 first-owes [] zero = refl
 first-owes [] (suc i) = refl
 first-owes (x ∷ schedule) zero = refl
 first-owes (x ∷ schedule) (suc i) = first-owes schedule i
 
 -- an instalment owes what its standing penalties come to
-loan-owes : (loan : Loan) (instalment : ℕ) → IsSound loan → 1 ≤ instalment
+loan-owes : (loan : DisbursedLoan) (instalment : ℕ) → IsSoundDisbursed loan → 1 ≤ instalment
     → penalties_owed instalment (state_of_loan loan).rows ≡ added instalment (standing_entries loan.entries)
 loan-owes loan instalment sound first =
     let all = all-owes loan.periods (2 ^ 54) instalment (orders_of loan) (cell_places_of loan)
@@ -210,7 +212,8 @@ adds-penalty instalment e some =
     ]
 
 -- where an instalment owes penalties one stands on it
-owing-has : (loan : Loan) (instalment : ℕ) → IsSound loan → 0 < added instalment (standing_entries loan.entries)
+owing-has : (loan : DisbursedLoan) (instalment : ℕ) → IsSoundDisbursed loan
+    → 0 < added instalment (standing_entries loan.entries)
     → has_penalty loan.entries instalment ≡ true
 owing-has loan instalment sound some =
     let found = some-adds instalment (standing_entries loan.entries) some in
@@ -223,7 +226,8 @@ owing-has loan instalment sound some =
     ∙ holds)
 
 -- and where one stands on it, it owes penalties
-having-owes : (loan : Loan) (instalment : ℕ) → IsSound loan → has_penalty loan.entries instalment ≡ true
+having-owes : (loan : DisbursedLoan) (instalment : ℕ) → IsSoundDisbursed loan → has_penalty loan.entries instalment
+    ≡ true
     → 0 < added instalment (standing_entries loan.entries)
 having-owes loan instalment sound any =
     let found = Any-from_list_any (is_penalty_on instalment) loan.entries any in
@@ -245,7 +249,8 @@ having-owes loan instalment sound any =
     omega (arith, amount, own, most)
 
 -- so the row alone tells it
-pub owed-tells : (loan : Loan) (instalment : ℕ) (row : Sums) → IsSound loan → 1 ≤ instalment → row
+pub owed-tells : (loan : DisbursedLoan) (instalment : ℕ) (row : Instalment) → IsSoundDisbursed loan → 1 ≤ instalment
+    → row
     ≡ row_at (state_of_loan loan).rows instalment → ltb 0 (get_or row.owed 0 0) ≡ has_penalty loan.entries instalment
 owed-tells loan instalment row sound first is =
     let owes = loan-owes loan instalment sound first in

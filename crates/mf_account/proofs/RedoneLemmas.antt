@@ -11,20 +11,20 @@ use Rattle.mf_catalog.specs.declared.terms.StrategyName.{StrategyName}
 use Rattle.mf_alloc.specs.declared.row.Cell.{Cell}
 use Rattle.mf_alloc.specs.Order.{cell_by}
 use Rattle.mf_account.specs.declared.entry.Entry.{Entry}
-use Rattle.mf_account.specs.declared.settled.Settled.{Settled}
+use Rattle.mf_account.specs.declared.settled.SettledPart.{SettledPart}
 use Rattle.mf_account.specs.Effect.{State}
-use Rattle.mf_account.specs.Account.{Orders, orders_by, after_all, settled_by, first_state}
+use Rattle.mf_account.specs.Account.{Orders, orders_by, after_entries, settled_by, first_state}
 use Rattle.mf_account.specs.Applicable.{AreApplicable}
 use Rattle.mf_account.specs.Standing.{order_with, with_entry, standing_entries, no_entry, entry_at, entries_at}
 use Rattle.mf_account.specs.Standing.{with_mark}
 use Rattle.mf_account.specs.StandingLaw.{IsStandingOf}
-use Rattle.mf_account.specs.Loan.{Loan, AreEntries, IsSound, cells_of, orders_of, schedule_of, state_of_loan}
+use Rattle.mf_account.specs.Loan.{DisbursedLoan, AreEntries, IsSoundDisbursed, cells_of, orders_of, schedule_of}
+use Rattle.mf_account.specs.Loan.{state_of_loan}
 use Rattle.mf_account.specs.Loan.{settled_of_loan}
 use Rattle.mf_account.specs.Change.{ChangedNumbers, AreThose, AreAll, HasOtherRow, HasOtherParts, IsChange, settled_in}
 use Rattle.mf_account.specs.Rewind.{IsRedone, state_before, settled_upto}
-use Rattle.mf_account.proofs.SoundLemmas.{applicable-sound}
 use Rattle.mf_account.proofs.DueLemmas.{dues-after_all, orders-same}
-use Rattle.mf_account.proofs.TailLemmas.{after_all-append, settled_by-append, applicable-append, among-index, at-among}
+use Rattle.mf_account.proofs.TailLemmas.{after_all-append, settled_by-append, among-index, at-among}
 use Rattle.mf_account.proofs.TailLemmas.{standing-at}
 use Rattle.mf_account.proofs.RewindLemmas.{numbers-apart}
 use Rattle.mf_account.proofs.ChangeLemmas.{change-is, all-tails, those-all, none-in}
@@ -108,29 +108,16 @@ standing-without-it n day entries at k are are_marked there within here =
     ∙ ap (λ n. take k (standing_entries entries) ++ drop n (standing_entries entries)) (sym (add-one k))
 
 -- the orders of a loan are those over its rows at any place
-orders-before : (old : Loan) (k : ℕ) → orders_by (cells_of old) (state_before old k).rows ≡ orders_of old
+orders-before : (old : DisbursedLoan) (k : ℕ) → orders_by (cells_of old) (state_before old k).rows ≡ orders_of old
 orders-before old k =
     orders-same (cells_of old) (state_before old k).rows (first_state (schedule_of old)).rows
     (dues-after_all (orders_of old) (take k (standing_entries old.entries)) (first_state (schedule_of old)))
 
-pub fits-redone : (old : Loan) (es back applied : List Entry) (k : ℕ) (book : State)
-    → IsSound (record old { entries = es }) → standing_entries es ≡ take k (standing_entries old.entries) ++ back
-    → book ≡ state_before old k → applied ≡ back → AreApplicable (orders_by (cells_of old) book.rows) applied book
-fits-redone old es back applied k book sound stands book_is applied_is =
-    let all : AreApplicable (orders_of old) (take k (standing_entries old.entries) ++ back)
-    (first_state (schedule_of old)) =
-    subst (λ (x : List Entry). AreApplicable (orders_of old) x (first_state (schedule_of old))) stands
-    (applicable-sound (record old { entries = es }) sound) in
-    subst (λ (x : List Entry). AreApplicable (orders_by (cells_of old) book.rows) x book) (sym applied_is)
-    (subst (λ (x : State). AreApplicable (orders_by (cells_of old) x.rows) back x) (sym book_is)
-    (subst (λ (o : Orders). AreApplicable o back (state_before old k)) (sym (orders-before old k))
-    (applicable-append (orders_of old) (take k (standing_entries old.entries)) back (first_state (schedule_of old))
-    all)))
-
-pub redone-from : (old : Loan) (es back applied : List Entry) (k kept : ℕ) (book next : State) (parts : List Settled)
+pub redone-from : (old : DisbursedLoan) (es back applied : List Entry) (k kept : ℕ) (book next : State)
+    (parts : List SettledPart)
     → standing_entries es ≡ take k (standing_entries old.entries) ++ back → kept ≤ length (settled_of_loan old)
     → take kept (settled_of_loan old) ≡ settled_upto old k → book ≡ state_before old k → applied ≡ back
-    → next ≡ after_all (orders_by (cells_of old) book.rows) applied book → parts ≡ settled_by
+    → next ≡ after_entries (orders_by (cells_of old) book.rows) applied book → parts ≡ settled_by
     (orders_by (cells_of old) book.rows) applied book → IsRedone old (record old { entries = es }) next kept parts
 redone-from old es back applied k kept book next parts stands within front book_is applied_is next_is parts_is =
     let orders : Orders = orders_of old in
@@ -138,11 +125,11 @@ redone-from old es back applied k kept book next parts stands within front book_
     let before : List Entry = take k (standing_entries old.entries) in
     record {
       book_is = next_is
-          ∙ ap (λ x. after_all (orders_by (cells_of old) book.rows) x book) applied_is
-          ∙ ap (λ (x : State). after_all (orders_by (cells_of old) x.rows) back x) book_is
-          ∙ ap (λ (o : Orders). after_all o back (state_before old k)) (orders-before old k)
+          ∙ ap (λ x. after_entries (orders_by (cells_of old) book.rows) x book) applied_is
+          ∙ ap (λ (x : State). after_entries (orders_by (cells_of old) x.rows) back x) book_is
+          ∙ ap (λ (o : Orders). after_entries o back (state_before old k)) (orders-before old k)
           ∙ sym (after_all-append orders before back first)
-          ∙ ap (λ x. after_all orders x first) (sym stands);
+          ∙ ap (λ x. after_entries orders x first) (sym stands);
       within = within;
       parts_are = ap (λ x. x ++ parts) front
           ∙ ap (λ x. settled_upto old k ++ x)
@@ -155,7 +142,7 @@ redone-from old es back applied k kept book next parts stands within front book_
     }
 
 -- a number that no entry has is that of no part
-none-of-number : (loan : Loan) (seq : ℕ) → IsSound loan → (1 ≤ seq → seq ≤ length loan.entries → ⊥)
+none-of-number : (loan : DisbursedLoan) (seq : ℕ) → IsSoundDisbursed loan → (1 ≤ seq → seq ≤ length loan.entries → ⊥)
     → settled_in seq (settled_of_loan loan) ≡ []
 none-of-number loan seq sound outside =
     none-in seq (settled_of_loan loan)
@@ -168,7 +155,8 @@ none-of-number loan seq sound outside =
     let there = at.1.within in
     outside (omega (arith, number, own, same)) (omega (arith, number, own, same, there))))
 
-other-within : (before after : Loan) → IsSound before → IsSound after → length before.entries ≤ length after.entries
+other-within : (before after : DisbursedLoan) → IsSoundDisbursed before → IsSoundDisbursed after → length before.entries
+    ≤ length after.entries
     → (seq : ℕ) → HasOtherParts (settled_of_loan before) (settled_of_loan after) seq → (1 ≤ seq)
     × (seq ≤ length after.entries)
 other-within before after sound_before sound_after more seq differ =
@@ -188,29 +176,31 @@ other-within before after sound_before sound_after more seq differ =
     ]
 
 -- what a change changes, seen from the parts that stay on
-pub change-tails : (before after : Loan) (old new : State) (kept : ℕ) (tail parts : List Settled)
-    (change : ChangedNumbers) → IsSound before → IsSound after → length before.entries ≤ length after.entries
+pub change-tails : (before after : DisbursedLoan) (old new : State) (kept : ℕ) (tail parts : List SettledPart)
+    (change : ChangedNumbers) → IsSoundDisbursed before → IsSoundDisbursed after → length before.entries
+    ≤ length after.entries
     → old ≡ state_of_loan before → tail ≡ drop kept (settled_of_loan before) → IsRedone before after new kept parts
     → length old.rows ≡ after.periods → AreThose (length old.rows) (HasOtherRow old.rows new.rows) change.rows
     → AreAll (HasOtherParts tail parts) change.seqs → IsChange before after change
 change-tails before after old new kept tail parts change sound_before sound_after more old_is tail_is redone periods
     rows seqs =
-    let all : List Settled = settled_of_loan before in
-    let front : List Settled = take kept all in
+    let all : List SettledPart = settled_of_loan before in
+    let front : List SettledPart = take kept all in
     let later : AreAll (HasOtherParts (drop kept all) parts) change.seqs =
-    subst (λ (x : List Settled). AreAll (HasOtherParts x parts) change.seqs) tail_is seqs in
+    subst (λ (x : List SettledPart). AreAll (HasOtherParts x parts) change.seqs) tail_is seqs in
     let whole : AreAll (HasOtherParts all (front ++ parts)) change.seqs =
-    subst (λ (x : List Settled). AreAll (HasOtherParts x (front ++ parts)) change.seqs) (take-append-drop kept all)
+    subst (λ (x : List SettledPart). AreAll (HasOtherParts x (front ++ parts)) change.seqs) (take-append-drop kept all)
     (all-tails front (drop kept all) parts change.seqs later) in
     let within : AreThose (length after.entries) (HasOtherParts all (front ++ parts)) change.seqs =
     those-all (length after.entries) (HasOtherParts all (front ++ parts)) change.seqs whole
     (λ seq differ. other-within before after sound_before sound_after more seq
-    (subst (λ (x : List Settled). HasOtherParts all x seq) redone.parts_are differ)) in
+    (subst (λ (x : List SettledPart). HasOtherParts all x seq) redone.parts_are differ)) in
     change-is before after old new all (front ++ parts) change old_is refl redone.book_is redone.parts_are periods rows
     within
 
 -- the slice of the parts from a place on
-pub tail-from : (slice all : List Settled) (k : ℕ) → slice ≡ all → take (length slice - k) (drop k slice) ≡ drop k all
+pub tail-from : (slice all : List SettledPart) (k : ℕ) → slice ≡ all → take (length slice - k) (drop k slice)
+    ≡ drop k all
 tail-from slice all k is = take_rest slice k ∙ ap (drop k) is
 
 -- ---- by the name of a loan's strategy: what it orders is what the loan does
@@ -219,19 +209,20 @@ tail-from slice all k is = take_rest slice k ∙ ap (drop k) is
 abbrev pub cells_named : StrategyName → ℕ → ℕ → ℕ → Cell
 cells_named name n due = cell_by name due
 
-pub after-named : (loan : Loan) (name : StrategyName) (applied : List Entry) (book next : State)
-    → name ≡ loan.terms.strategy → next ≡ after_all (orders_by (cells_named name) book.rows) applied book
-    → next ≡ after_all (orders_by (cells_of loan) book.rows) applied book
+pub after-named : (loan : DisbursedLoan) (name : StrategyName) (applied : List Entry) (book next : State)
+    → name ≡ loan.terms.strategy → next ≡ after_entries (orders_by (cells_named name) book.rows) applied book
+    → next ≡ after_entries (orders_by (cells_of loan) book.rows) applied book
 after-named loan name applied book next same is =
-    is ∙ ap (λ (n : StrategyName). after_all (orders_by (cells_named n) book.rows) applied book) same
+    is ∙ ap (λ (n : StrategyName). after_entries (orders_by (cells_named n) book.rows) applied book) same
 
-pub settled-named : (loan : Loan) (name : StrategyName) (applied : List Entry) (book : State) (parts : List Settled)
+pub settled-named : (loan : DisbursedLoan) (name : StrategyName) (applied : List Entry) (book : State)
+    (parts : List SettledPart)
     → name ≡ loan.terms.strategy → parts ≡ settled_by (orders_by (cells_named name) book.rows) applied book
     → parts ≡ settled_by (orders_by (cells_of loan) book.rows) applied book
 settled-named loan name applied book parts same is =
     is ∙ ap (λ (n : StrategyName). settled_by (orders_by (cells_named n) book.rows) applied book) same
 
-pub fits-named : (loan : Loan) (name : StrategyName) (applied : List Entry) (book : State)
+pub fits-named : (loan : DisbursedLoan) (name : StrategyName) (applied : List Entry) (book : State)
     → name ≡ loan.terms.strategy → AreApplicable (orders_by (cells_of loan) book.rows) applied book
     → AreApplicable (orders_by (cells_named name) book.rows) applied book
 fits-named loan name applied book same is =

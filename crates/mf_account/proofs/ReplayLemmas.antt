@@ -2,14 +2,14 @@
 use Rattle.std.proofs.Common.{◌≡◌, ℕ, suc, ◌+◌, ◌<◌, List, ◌∷◌, length, get_or, drop, ◌∙◌, ap, sym, add-one, drop-cons}
 use Rattle.std.proofs.lemmas.List.{get_or_default}
 use Rattle.mf_account.specs.declared.entry.Entry.{Entry}
-use Rattle.mf_account.specs.Effect.{State, after, parts_of}
+use Rattle.mf_account.specs.Effect.{State, after_entry, parts_of}
 use Rattle.mf_account.specs.AtOnce.{rows_charged}
 use Rattle.mf_account.proofs.OnceLemmas.{rows-after}
 use Rattle.mf_account.specs.Account.{Orders}
 use Rattle.mf_account.specs.Standing.{entries_at, no_entry}
 use Rattle.mf_account.proofs.EffectLemmas.{length-with_settled, length-with_charge}
 
-pub length-after : (orders : Orders) (entry : Entry) (now : State) → length (after (orders entry) entry now).rows
+pub length-after : (orders : Orders) (entry : Entry) (now : State) → length (after_entry (orders entry) entry now).rows
     ≡ length now.rows
 length-after orders entry now =
     ap length (rows-after (orders entry) entry now)

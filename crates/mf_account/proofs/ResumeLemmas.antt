@@ -4,14 +4,14 @@ use Rattle.std.proofs.Common.{inr, arith, refl, ◌∙◌, ap, sym, subst}
 use Rattle.std.proofs.lemmas.Bool.{cases_lt}
 use Rattle.std.proofs.lemmas.List.{length-map, take-map, take_more, drop_more, drop_all}
 use Rattle.std.proofs.lemmas.List.Sums.{sum_by-append, sum_by-take-le}
-use Rattle.mf_alloc.specs.Sums.{Sums}
+use Rattle.mf_alloc.specs.Sums.{Instalment}
 use Rattle.mf_account.specs.declared.entry.Entry.{Entry}
 use Rattle.mf_account.specs.declared.entry.Kind.TheVariants.{Refund}
 use Rattle.mf_account.specs.Kinds.{money_in, money_out}
-use Rattle.mf_account.specs.Effect.{State, after}
-use Rattle.mf_account.specs.Account.{after_all, first_state, sum_at}
+use Rattle.mf_account.specs.Effect.{State, after_entry}
+use Rattle.mf_account.specs.Account.{after_entries, first_state, sum_at}
 use Rattle.mf_account.specs.Standing.{standing_entries, no_entry, entry_at, entries_at}
-use Rattle.mf_account.specs.Loan.{Loan, IsSound, schedule_of, orders_of, state_of_loan}
+use Rattle.mf_account.specs.Loan.{DisbursedLoan, IsSoundDisbursed, schedule_of, orders_of, state_of_loan}
 use Rattle.mf_account.specs.Rewind.{state_before}
 use Rattle.mf_account.specs.Safe.{most_kept}
 use Rattle.mf_account.proofs.GoodLemmas.{amounts, money_in-most}
@@ -31,13 +31,13 @@ brought-most (e ∷ entries) =
     let right = sum_by-append (λ (x : Entry). x.amount) (e ∷ []) entries in
     omega (arith, rest, one, left, right)
 
-pub brought-room : (loan : Loan) → IsSound loan → brought (standing_entries loan.entries) < 2 ^ 63
+pub brought-room : (loan : DisbursedLoan) → IsSoundDisbursed loan → brought (standing_entries loan.entries) < 2 ^ 63
 brought-room loan sound =
     let most = brought-most (standing_entries loan.entries) in
     let all = standing-amounts loan sound in
     omega (arith, most, all)
 
-pub brought-kept : (loan : Loan) → IsSound loan → brought (standing_entries loan.entries) ≤ most_kept
+pub brought-kept : (loan : DisbursedLoan) → IsSoundDisbursed loan → brought (standing_entries loan.entries) ≤ most_kept
 brought-kept loan sound =
     let most = brought-most (standing_entries loan.entries) in
     let all = standing-amounts loan sound in
@@ -61,11 +61,12 @@ brought-step entries order k e within there is =
     ap brought (take-map read k order) in
     omega (arith, own, split, sum, most, front)
 
-abbrev pub paid_in_all : List Sums → ℕ
-paid_in_all rows = sum_at (λ (r : Sums). r.paid) 0 rows + sum_at (λ (r : Sums). r.paid) 1 rows
-    + sum_at (λ (r : Sums). r.paid) 2 rows + sum_at (λ (r : Sums). r.paid) 3 rows
+abbrev pub paid_in_all : List Instalment → ℕ
+paid_in_all rows = sum_at (λ (r : Instalment). r.paid) 0 rows + sum_at (λ (r : Instalment). r.paid) 1 rows
+    + sum_at (λ (r : Instalment). r.paid) 2 rows + sum_at (λ (r : Instalment). r.paid) 3 rows
 
-pub held : (loan : Loan) → IsSound loan → paid_in_all (state_of_loan loan).rows + (state_of_loan loan).overpaid
+pub held : (loan : DisbursedLoan) → IsSoundDisbursed loan
+    → paid_in_all (state_of_loan loan).rows + (state_of_loan loan).overpaid
     + (state_of_loan loan).refunded ≡ brought (standing_entries loan.entries)
 held loan sound =
     let all = held-sound loan sound in
@@ -76,7 +77,7 @@ abbrev pub EndsInRefund : List Entry → ℕ → Type 0
 EndsInRefund entries n = (0 < n) × ((entry_at entries (n - 1)).kind ≡ Refund)
 
 -- after a refund nothing is overpaid
-pub none-overpaid : (loan : Loan) → IsSound loan → EndsInRefund (standing_entries loan.entries)
+pub none-overpaid : (loan : DisbursedLoan) → IsSoundDisbursed loan → EndsInRefund (standing_entries loan.entries)
     (length (standing_entries loan.entries)) → (state_of_loan loan).overpaid ≡ 0
 none-overpaid loan sound ends =
     let all : List Entry = standing_entries loan.entries in
@@ -86,18 +87,19 @@ none-overpaid loan sound ends =
     let past : State = state_before loan k in
     let only : drop k all ≡ e ∷ [] =
     drop_more all k no_entry within ∙ ap (λ x. e ∷ x) (drop_all (k + 1) all (omega (arith, ends.0))) in
-    let state : state_of_loan loan ≡ after (orders_of loan e) e past =
-    (rewindable-from loan k sound (none-before loan k sound within)).state ∙ ap (λ x. after_all (orders_of loan) x past)
+    let state : state_of_loan loan ≡ after_entry (orders_of loan e) e past =
+    (rewindable-from loan k sound (none-before loan k sound within)).state ∙ ap
+    (λ x. after_entries (orders_of loan) x past)
     only in
     let money = money-after (orders_of loan e) e past in
     let brings : money_in e.kind e.amount ≡ 0 = ap (λ x. money_in x e.amount) ends.1 in
     let gives : money_out e.kind past.overpaid ≡ past.overpaid = ap (λ x. money_out x past.overpaid) ends.1 in
-    let left : (state_of_loan loan).overpaid ≡ (after (orders_of loan e) e past).overpaid =
+    let left : (state_of_loan loan).overpaid ≡ (after_entry (orders_of loan e) e past).overpaid =
     ap (λ (x : State). x.overpaid) state in
     omega (arith, money, brings, gives, left)
 
 -- with no refund nothing is refunded
-pub none-refunded-all : (loan : Loan) → IsSound loan → (EndsInRefund (standing_entries loan.entries)
+pub none-refunded-all : (loan : DisbursedLoan) → IsSoundDisbursed loan → (EndsInRefund (standing_entries loan.entries)
     (length (standing_entries loan.entries)) → ⊥) → (state_of_loan loan).refunded ≡ 0
 none-refunded-all loan sound other =
     let all : List Entry = standing_entries loan.entries in
@@ -110,7 +112,7 @@ none-refunded-all loan sound other =
           other (omega (arith, less), ap (λ n. (entry_at all n).kind) (sym last) ∙ is)
     ])
 
-pub ends-in : (loan : Loan) (entries : List Entry) (order : List ℕ) → entries_at entries order
+pub ends-in : (loan : DisbursedLoan) (entries : List Entry) (order : List ℕ) → entries_at entries order
     ≡ standing_entries entries → entries ≡ loan.entries → (P : Type 0 → Type 0)
     → P (EndsInRefund (entries_at entries order) (length order)) → P (EndsInRefund (standing_entries loan.entries)
     (length (standing_entries loan.entries)))
@@ -121,10 +123,11 @@ ends-in loan entries order is same P holds =
     subst (λ (n : ℕ). P (EndsInRefund (standing_entries loan.entries) n)) size
     (subst (λ (x : List Entry). P (EndsInRefund x (length order))) all holds)
 
-abbrev pub book_at : List Sums → ℕ → ℕ → State
+abbrev pub book_at : List Instalment → ℕ → ℕ → State
 book_at rows overpaid refunded = record { rows = rows; overpaid = overpaid; refunded = refunded }
 
-pub resumed-refund : (loan : Loan) (rows : List Sums) (total paid : ℕ) → IsSound loan → rows ≡ (state_of_loan loan).rows
+pub resumed-refund : (loan : DisbursedLoan) (rows : List Instalment) (total paid : ℕ) → IsSoundDisbursed loan
+    → rows ≡ (state_of_loan loan).rows
     → total ≡ brought (standing_entries loan.entries) → paid ≡ paid_in_all (state_of_loan loan).rows
     → EndsInRefund (standing_entries loan.entries) (length (standing_entries loan.entries))
     → book_at rows 0 (total - paid) ≡ state_of_loan loan
@@ -135,7 +138,8 @@ resumed-refund loan rows total paid sound same total_is paid_is ends =
     ap (λ r. book_at r 0 (total - paid)) same ∙ ap (λ o. book_at (state_of_loan loan).rows o (total - paid)) (sym none)
     ∙ ap (λ f. book_at (state_of_loan loan).rows (state_of_loan loan).overpaid f) rest
 
-pub resumed-other : (loan : Loan) (rows : List Sums) (total paid : ℕ) → IsSound loan → rows ≡ (state_of_loan loan).rows
+pub resumed-other : (loan : DisbursedLoan) (rows : List Instalment) (total paid : ℕ) → IsSoundDisbursed loan
+    → rows ≡ (state_of_loan loan).rows
     → total ≡ brought (standing_entries loan.entries) → paid ≡ paid_in_all (state_of_loan loan).rows
     → (EndsInRefund (standing_entries loan.entries) (length (standing_entries loan.entries)) → ⊥)
     → book_at rows (total - paid) 0 ≡ state_of_loan loan

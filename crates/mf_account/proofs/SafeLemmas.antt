@@ -10,11 +10,11 @@ use Rattle.mf_alloc.specs.Order.{place_by, due_by}
 use Rattle.mf_alloc.specs.OrderLaws.{IsOrder}
 use Rattle.mf_alloc.specs.Rows.{IsCell}
 use Rattle.mf_account.specs.declared.entry.Entry.{Entry}
-use Rattle.mf_account.specs.declared.settled.Settled.{Settled}
+use Rattle.mf_account.specs.declared.settled.SettledPart.{SettledPart}
 use Rattle.mf_account.specs.Effect.{State}
-use Rattle.mf_account.specs.Account.{Orders, orders_by, after_all, settled_by}
+use Rattle.mf_account.specs.Account.{Orders, orders_by, after_entries, settled_by}
 use Rattle.mf_account.specs.Applicable.{AreApplicable, AreInRows}
-use Rattle.mf_account.specs.Loan.{Loan, IsSound, cells_of}
+use Rattle.mf_account.specs.Loan.{DisbursedLoan, IsSoundDisbursed, cells_of}
 use Rattle.mf_account.specs.Safe.{most_kept, IsShaped, IsBounded, IsSafe}
 use Rattle.mf_account.specs.Standing.{standing_entries, no_entry, entry_at}
 use Rattle.mf_account.specs.Told.{settled_amount, IsNumberedTo, AreNumberedTo}
@@ -30,16 +30,17 @@ all-behind P xs ys all i d below =
     subst P (get_or-append-add xs ys i d) (all (length xs + i) d (omega (arith, size, below)))
 
 -- the places of the cells at an entry, over any rows
-abbrev places_by : Loan → State → Entry → Cell → ℕ
+abbrev places_by : DisbursedLoan → State → Entry → Cell → ℕ
 places_by loan book e = place_by loan.terms.strategy (due_by e.day book.rows)
 
-lawful-over : (loan : Loan) (book : State) → length book.rows ≡ loan.periods → (e : Entry)
+lawful-over : (loan : DisbursedLoan) (book : State) → length book.rows ≡ loan.periods → (e : Entry)
     → IsOrder loan.periods (orders_by (cells_of loan) book.rows e) (places_by loan book e)
 lawful-over loan book size e =
     let most = due_by-le e.day book.rows in
     lawful loan.terms.strategy loan.periods (due_by e.day book.rows) (omega (arith, most, size))
 
-numbered-standing : (loan : Loan) → IsSound loan → All (IsEntryTo (length loan.entries)) (standing_entries loan.entries)
+numbered-standing : (loan : DisbursedLoan) → IsSoundDisbursed loan
+    → All (IsEntryTo (length loan.entries)) (standing_entries loan.entries)
 numbered-standing loan sound =
     All-standing (IsEntryTo (length loan.entries)) loan.entries
     (λ k default within.
@@ -49,11 +50,11 @@ numbered-standing loan sound =
     (omega (arith, is), omega (arith, is, within)))
 
 -- what is applied, where new entries stand as old ones up to a place and then as these
-module _ (old : Loan) (es back applied : List Entry) (k : ℕ) (book : State)
-    (sound : IsSound (record old { entries = es })) (stands : standing_entries es
+module _ (old : DisbursedLoan) (es back applied : List Entry) (k : ℕ) (book : State)
+    (sound : IsSoundDisbursed (record old { entries = es })) (stands : standing_entries es
     ≡ take k (standing_entries old.entries) ++ back) (is : applied ≡ back)
     (bounded : IsBounded old.periods (2 * most_kept) book) where
-  abbrev new : Loan
+  abbrev new : DisbursedLoan
   new = record old { entries = es }
 
   abbrev orders : Orders
@@ -85,20 +86,20 @@ module _ (old : Loan) (es back applied : List Entry) (k : ℕ) (book : State)
   fits-safe = applicable-all old.periods (2 * most_kept) orders (places_by old book) applied book
       (lawful-over old book bounded.size) each bounded (omega (arith, amount))
 
-  shaped : IsShaped old.periods (after_all orders applied book)
+  shaped : IsShaped old.periods (after_entries orders applied book)
   shaped =
       let good = good-all old.periods (2 * most_kept) orders (places_by old book) applied book
       (lawful-over old book bounded.size) each bounded in
       record { size = good.size; whole = good.whole; within = good.within }
 
-  pub safe-redone : (next : State) (front parts : List Settled) → next ≡ after_all orders applied book
+  pub safe-redone : (next : State) (front parts : List SettledPart) → next ≡ after_entries orders applied book
       → parts ≡ settled_by orders applied book → AreInRows old.periods front → AreNumberedTo (length es) front
       → settled_amount (front ++ parts) ≤ most_kept → ((n : ℕ) → IsShaped n next → IsBounded n most_kept next)
       → IsSafe old.periods (length es) next (front ++ parts)
   safe-redone next front parts next_is parts_is cells numbers most bound = record {
     bounded = bound old.periods (subst (IsShaped old.periods) (sym next_is) shaped);
     placed = record {
-      cells = All-append (λ (s : Settled). IsCell old.periods s.cell) front parts cells
+      cells = All-append (λ (s : SettledPart). IsCell old.periods s.cell) front parts cells
           (subst (AreInRows old.periods) (sym parts_is)
           (cells-settled_by old.periods orders (places_by old book) applied book (lawful-over old book bounded.size)
           (λ j below. (each j no_entry below).there)

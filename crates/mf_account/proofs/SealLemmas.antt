@@ -85,18 +85,6 @@ write_off-seals Penalty is = absurd (true≢false (sym is))
 write_off-seals Waive is = absurd (true≢false (sym is))
 write_off-seals Refund is = absurd (true≢false (sym is))
 
--- as the order of the standing entries has them
-pub sealed-none : (n day : ℕ) (entries all : List Entry) → AreEntries n day entries → all ≡ standing_entries entries
-    → length all ≡ 0 → false ≡ list_any (stands_by is_seal) entries
-sealed-none n day entries all are is empty = sym (none-standing is_seal n day entries are (sym (ap length is) ∙ empty))
-
-pub sealed-last : (n day : ℕ) (entries all : List Entry) (k : Kind) → AreEntries n day entries
-    → all ≡ standing_entries entries → 0 < length all → (entry_at all (length all - 1)).kind ≡ k
-    → is_seal k ≡ list_any (stands_by is_seal) entries
-sealed-last n day entries all k are is some kind =
-    ap is_seal (sym kind) ∙ ap (λ (x : List Entry). is_seal (entry_at x (length x - 1)).kind) is
-    ∙ sym (last-standing is_seal n day entries (λ _ seal. seal) are (subst (λ (x : List Entry). 0 < length x) is some))
-
 pub written_off-none : (n day : ℕ) (entries all : List Entry) → AreEntries n day entries
     → all ≡ standing_entries entries → length all ≡ 0 → false ≡ list_any (stands_by is_write_off) entries
 written_off-none n day entries all are is empty =

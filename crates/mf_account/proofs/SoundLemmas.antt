@@ -1,7 +1,7 @@
 -- A sound loan can be replayed, and stays sound when an entry is entered or reversed.
 use Rattle.std.proofs.Common.{◌≡◌, ◌≢◌, ℕ, zero, suc, ◌+◌, ◌-◌, ◌*◌, ◌^◌, ◌<◌, ◌≤◌, Bool, true, false, not, ◌&&◌, ◌||◌}
-use Rattle.std.proofs.Common.{cond, eqb, ltb, true≢false, ◌==◌, List, [], ◌∷◌, ◌++◌, length, map, get_or, Option, Some}
-use Rattle.std.proofs.Common.{None, inl, inr, arith, refl, ◌∙◌, ap, subst, sym, length-append}
+use Rattle.std.proofs.Common.{cond, eqb, ltb, true≢false, ◌==◌, List, [], ◌∷◌, ◌++◌, length, map, get_or, Option}
+use Rattle.std.proofs.Common.{inl, inr, arith, refl, ◌∙◌, ap, subst, sym, length-append}
 use Rattle.std.specs.Prelude.{sum_by, All, fold}
 use Rattle.std.proofs.Math.ListN.{get_or-append}
 use Rattle.std.proofs.lemmas.Bool.{cases_lt, cases_eq, cond_both, cond-true, cond-false, ltb-false, eqb-false, eq-eqb}
@@ -13,10 +13,10 @@ use Rattle.std.proofs.lemmas.List.Elements.{All-nil, All-cons, All-head, All-tai
 use Rattle.std.proofs.lemmas.List.Sums.{sum_by-append}
 use Rattle.mf_base.specs.declared.fault.Fault.{Fault}
 use Rattle.mf_catalog.specs.declared.terms.StrategyName.{StrategyName}
-use Rattle.mf_schedule.specs.declared.instalment.Instalment.{Instalment}
+use Rattle.mf_schedule.specs.declared.instalment.FreshInstalment.{FreshInstalment}
 use Rattle.mf_schedule.specs.Fresh.{total_owed, instalment_of}
 use Rattle.mf_schedule.proofs.BoundLemmas.{scheduled_owed-le}
-use Rattle.mf_alloc.specs.Sums.{Sums, IsWhole, AreWhole, nothing}
+use Rattle.mf_alloc.specs.Sums.{Instalment, IsWhole, AreWhole, nothing}
 use Rattle.mf_alloc.specs.Order.{cell_by, place_by, due_by}
 use Rattle.mf_alloc.specs.OrderLaws.{is_cell-cell_by, back-cell_by}
 use Rattle.mf_alloc.specs.OrderLaws.{IsOrder}
@@ -28,10 +28,11 @@ use Rattle.mf_account.specs.Account.{first_state, row_of}
 use Rattle.mf_account.specs.Standing.{is_before, order_with, with_entry, standing_entries, no_entry, entry_at}
 use Rattle.mf_account.specs.Standing.{with_mark}
 use Rattle.mf_account.specs.Applicable.{AreApplicable}
-use Rattle.mf_account.specs.Loan.{Loan, HasColumns, IsEntry, SealIsLast, AreEntries, IsSound, schedule_of, orders_of}
+use Rattle.mf_account.specs.Loan.{DisbursedLoan, HasColumns, IsEntry, SealIsLast, AreEntries, IsSoundDisbursed}
+use Rattle.mf_account.specs.Loan.{schedule_of, orders_of}
 use Rattle.mf_account.specs.Loan.{cell_places_of, state_of_loan}
 use Rattle.mf_account.specs.Refusals.{is_standing_seal, is_sealed, is_out_of_order, is_out_of_limits, HasForm}
-use Rattle.mf_account.specs.Refusals.{IsOffered, IsAdmitted}
+use Rattle.mf_account.specs.Refusals.{IsOffered, IsEntryAdmitted}
 use Rattle.mf_alloc.specs.Sums.{IsRowWithin, AreWithin}
 use Rattle.mf_account.specs.Applicable.{HasInstalment}
 use Rattle.mf_account.proofs.DueLemmas.{due_by-le}
@@ -52,14 +53,14 @@ nothing-at (suc (suc zero)) = refl
 nothing-at (suc (suc (suc zero))) = refl
 nothing-at (suc (suc (suc (suc p)))) = refl
 
-owed-first : (q : ℕ) (i : Instalment) → get_or (row_of i).owed q 0 ≤ i.principal + i.interest + i.fees
+owed-first : (q : ℕ) (i : FreshInstalment) → get_or (row_of i).owed q 0 ≤ i.principal + i.interest + i.fees
 owed-first zero i = omega arith
 owed-first (suc zero) i = omega arith
 owed-first (suc (suc zero)) i = omega arith
 owed-first (suc (suc (suc zero))) i = omega arith
 owed-first (suc (suc (suc (suc q)))) i = omega arith
 
-whole-first : (schedule : List Instalment) → AreWhole (map row_of schedule)
+whole-first : (schedule : List FreshInstalment) → AreWhole (map row_of schedule)
 whole-first [] = All-nil IsWhole
 whole-first (i ∷ schedule) = All-cons IsWhole (row_of i) (map row_of schedule) (record {
   owed = refl;
@@ -68,25 +69,26 @@ whole-first (i ∷ schedule) = All-cons IsWhole (row_of i) (map row_of schedule)
   written_off = refl;
 }) (whole-first schedule)
 
-within-first : (schedule : List Instalment) → AreWithin (map row_of schedule)
+within-first : (schedule : List FreshInstalment) → AreWithin (map row_of schedule)
 within-first [] = All-nil IsRowWithin
 within-first (i ∷ schedule) = All-cons IsRowWithin (row_of i) (map row_of schedule)
     (λ p less. let none = nothing-at p in omega (arith, none)) (within-first schedule)
 
-abbrev row_total : Instalment → ℕ
+abbrev row_total : FreshInstalment → ℕ
 row_total i = i.principal + i.interest + i.fees
 
-owed-all : (q : ℕ) (schedule : List Instalment) → sum_by (λ (row : Sums). get_or row.owed q 0) (map row_of schedule)
+owed-all : (q : ℕ) (schedule : List FreshInstalment)
+    → sum_by (λ (row : Instalment). get_or row.owed q 0) (map row_of schedule)
     ≤ total_owed schedule
 owed-all q [] = omega arith
 owed-all q (i ∷ schedule) =
     let rest = owed-all q schedule in
     let one = owed-first q i in
-    let left = sum_by-append (λ (row : Sums). get_or row.owed q 0) (row_of i ∷ []) (map row_of schedule) in
+    let left = sum_by-append (λ (row : Instalment). get_or row.owed q 0) (row_of i ∷ []) (map row_of schedule) in
     let right = sum_by-append row_total (i ∷ []) schedule in
     omega (arith, rest, one, left, right)
 
-good-first : (schedule : List Instalment) (used : ℕ) → total_owed schedule ≤ used
+good-first : (schedule : List FreshInstalment) (used : ℕ) → total_owed schedule ≤ used
     → IsBounded (length schedule) used (first_state schedule)
 good-first schedule used room = record {
   size = length-map schedule row_of;
@@ -96,22 +98,22 @@ good-first schedule used room = record {
   money = omega arith;
 }
 
-pub length-schedule : (loan : Loan) → length (schedule_of loan) ≡ loan.periods
+pub length-schedule : (loan : DisbursedLoan) → length (schedule_of loan) ≡ loan.periods
 length-schedule loan = length-map-range_with_len (instalment_of loan.terms loan.principal loan.periods loan.day) 1
     loan.periods
 
 -- how many instalments are due by an entry's day
-abbrev pub due_at : Loan → Entry → ℕ
+abbrev pub due_at : DisbursedLoan → Entry → ℕ
 due_at loan e = due_by e.day (first_state (schedule_of loan)).rows
 
-pub due_at-le : (loan : Loan) (e : Entry) → due_at loan e ≤ loan.periods
+pub due_at-le : (loan : DisbursedLoan) (e : Entry) → due_at loan e ≤ loan.periods
 due_at-le loan e =
     let most = due_by-le e.day (first_state (schedule_of loan)).rows in
     let size = length-map (schedule_of loan) row_of in
     let periods = length-schedule loan in
     omega (arith, most, size, periods)
 
-pub lawful-of : (loan : Loan) (e : Entry) → IsOrder loan.periods (orders_of loan e) (cell_places_of loan e)
+pub lawful-of : (loan : DisbursedLoan) (e : Entry) → IsOrder loan.periods (orders_of loan e) (cell_places_of loan e)
 lawful-of loan e = lawful loan.terms.strategy loan.periods (due_at loan e) (due_at-le loan e)
 
 -- an entry of a loan can be replayed
@@ -182,26 +184,30 @@ amounts-most n (e ∷ entries) each =
     omega (arith, one.most, rest, all)
 
 -- the standing entries of a sound loan
-pub each-standing : (loan : Loan) → IsSound loan → All (IsReplayable loan.periods) (standing_entries loan.entries)
+pub each-standing : (loan : DisbursedLoan) → IsSoundDisbursed loan
+    → All (IsReplayable loan.periods) (standing_entries loan.entries)
 each-standing loan sound =
     All-standing (IsReplayable loan.periods) loan.entries
     (All-weaker (IsEntry loan.periods loan.day) (IsReplayable loan.periods) (replayable loan.periods loan.day)
     loan.entries sound.entries.each)
 
-pub standing-amounts : (loan : Loan) → IsSound loan → amounts (standing_entries loan.entries) ≤ 9999 * 10 ^ 12
+pub standing-amounts : (loan : DisbursedLoan) → IsSoundDisbursed loan → amounts (standing_entries loan.entries)
+    ≤ 9999 * 10 ^ 12
 standing-amounts loan sound =
     let most = amounts-most loan.periods (standing_entries loan.entries) (each-standing loan sound) in
     let few = length-standing-le loan.entries in
     omega (arith, most, few, sound.entries.few)
 
-pub first-good : (loan : Loan) → IsSound loan → IsBounded loan.periods (2 ^ 54) (first_state (schedule_of loan))
+pub first-good : (loan : DisbursedLoan) → IsSoundDisbursed loan
+    → IsBounded loan.periods (2 ^ 54) (first_state (schedule_of loan))
 first-good loan sound =
     let owed = scheduled_owed-le loan.terms loan.principal loan.periods loan.day sound.limits in
     subst (λ (n : ℕ). IsBounded n (2 ^ 54) (first_state (schedule_of loan))) (length-schedule loan)
     (good-first (schedule_of loan) (2 ^ 54) (omega (arith, owed)))
 
 -- no sum overflows on the way
-pub applicable-sound : (loan : Loan) → IsSound loan → AreApplicable (orders_of loan) (standing_entries loan.entries)
+pub applicable-sound : (loan : DisbursedLoan) → IsSoundDisbursed loan
+    → AreApplicable (orders_of loan) (standing_entries loan.entries)
     (first_state (schedule_of loan))
 applicable-sound loan sound =
     let sum = standing-amounts loan sound in
@@ -209,18 +215,12 @@ applicable-sound loan sound =
     (first_state (schedule_of loan))
     (lawful-of loan) (each-standing loan sound) (first-good loan sound) (omega (arith, sum))
 
-pub good-sound : (loan : Loan) → IsSound loan
+pub good-sound : (loan : DisbursedLoan) → IsSoundDisbursed loan
     → IsBounded loan.periods (2 ^ 54 + amounts (standing_entries loan.entries)) (state_of_loan loan)
 good-sound loan sound =
     good-all loan.periods (2 ^ 54) (orders_of loan) (cell_places_of loan) (standing_entries loan.entries)
     (first_state (schedule_of loan))
     (lawful-of loan) (each-standing loan sound) (first-good loan sound)
-
--- what no refusal says
-none-of : (b : Bool) (fault : Fault) (rest : Option Fault) → cond b (Some fault) rest ≡ None → (b ≡ false)
-    × (rest ≡ None)
-none-of true fault rest none = let bad : ⊥ = cc in absurd bad
-none-of false fault rest none = (refl, none)
 
 -- the refusal that is chosen
 pub chosen-here : (b : Bool) (first rest : Option Fault) → b ≡ true → first ≡ cond b first rest
@@ -232,10 +232,6 @@ chosen-later b first rest found not_it is = is ∙ sym (cond-false b first rest 
 or_none : (a b : Bool) → (a || b) ≡ false → (a ≡ false) × (b ≡ false)
 or_none true b none = absurd (true≢false none)
 or_none false b none = (refl, none)
-
-not_none : (b : Bool) → not b ≡ false → b ≡ true
-not_none true none = refl
-not_none false none = absurd (true≢false none)
 
 limits-from : (amount : ℕ) → ((amount == 0) || ltb (10 ^ 12) amount) ≡ false → (1 ≤ amount) × (amount ≤ 10 ^ 12)
 limits-from amount none =
@@ -335,8 +331,9 @@ seal-entered n day business_day entries e are unsealed next latest form i j belo
     ]
 
 -- a sound loan with an entry that nothing refuses
-pub sound-entered : (loan : Loan) (e : Entry) (business_day : ℕ) → IsSound loan → IsOffered loan e business_day
-    → IsAdmitted loan e business_day → IsSound (record loan { entries = loan.entries ++ e ∷ [] })
+pub sound-entered : (loan : DisbursedLoan) (e : Entry) (business_day : ℕ) → IsSoundDisbursed loan
+    → IsOffered loan e business_day
+    → IsEntryAdmitted loan e business_day → IsSoundDisbursed (record loan { entries = loan.entries ++ e ∷ [] })
 sound-entered loan e business_day sound offered is =
     let own : IsEntry loan.periods loan.day e = record {
       from = from-by e.kind loan.day business_day e offered.form is.in_order offered.disbursed;
@@ -390,8 +387,8 @@ not-marked entries at i within stands is =
     true≢false (sym (ap (λ x. (entry_at (with_mark entries at true) x).reversed) is ∙ ap (λ (x : Entry). x.reversed)
     (marked-same entries at within)) ∙ stands)
 
-pub sound-reversed : (loan : Loan) (at : ℕ) → IsSound loan → at < length loan.entries
-    → IsSound (record loan { entries = with_mark loan.entries at true })
+pub sound-reversed : (loan : DisbursedLoan) (at : ℕ) → IsSoundDisbursed loan → at < length loan.entries
+    → IsSoundDisbursed (record loan { entries = with_mark loan.entries at true })
 sound-reversed loan at sound within =
     let old : List Entry = loan.entries in
     let new : List Entry = with_mark old at true in

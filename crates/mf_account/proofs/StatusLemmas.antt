@@ -6,7 +6,7 @@ use Rattle.std.specs.List.{list_any}
 use Rattle.std.proofs.lemmas.Bool.{cases_lt, cond_both}
 use Rattle.std.proofs.lemmas.Bool.Decides.{nat_tests}
 use Rattle.std.proofs.lemmas.List.Sums.{sum_by-cons}
-use Rattle.mf_alloc.specs.Sums.{Sums}
+use Rattle.mf_alloc.specs.Sums.{Instalment}
 use Rattle.mf_account.specs.declared.entry.Entry.{Entry}
 use Rattle.mf_account.specs.declared.entry.Kind.{Kind}
 use Rattle.mf_account.specs.declared.entry.Kind.TheVariants.{Repay, Fee, Penalty, Waive, WriteOff, Refund}
@@ -14,7 +14,7 @@ use Rattle.mf_account.specs.Kinds.{is_refund, is_seal, money_in}
 use Rattle.mf_account.specs.Effect.{State}
 use Rattle.mf_account.specs.Standing.{is_before, order_with, with_entry, standing_entries, entry_at}
 use Rattle.mf_account.specs.Balance.{sum_repaid}
-use Rattle.mf_account.specs.Loan.{Loan, IsSound, state_of_loan}
+use Rattle.mf_account.specs.Loan.{DisbursedLoan, IsSoundDisbursed, state_of_loan}
 use Rattle.mf_account.proofs.ConserveLemmas.{held-sound}
 use Rattle.mf_account.proofs.ResumeLemmas.{EndsInRefund, brought-room, none-overpaid, none-refunded-all}
 use Rattle.mf_account.proofs.SealLemmas.{stands_by, none-standing, last-standing}
@@ -81,7 +81,7 @@ refund-is Waive is = absurd (true≢false (sym is))
 abbrev pub is_refunded : List Entry → Bool
 is_refunded entries = list_any (stands_by is_refund) entries
 
-ends-refunded : (loan : Loan) → IsSound loan → is_refunded loan.entries ≡ true → EndsInRefund
+ends-refunded : (loan : DisbursedLoan) → IsSoundDisbursed loan → is_refunded loan.entries ≡ true → EndsInRefund
     (standing_entries loan.entries) (length (standing_entries loan.entries))
 ends-refunded loan sound given =
     let all : List Entry = standing_entries loan.entries in
@@ -94,7 +94,7 @@ ends-refunded loan sound given =
           ∙ none-standing is_refund loan.periods loan.day loan.entries sound.entries (omega (arith, empty))))
     ]
 
-kept-unrefunded : (loan : Loan) → IsSound loan → is_refunded loan.entries ≡ false → EndsInRefund
+kept-unrefunded : (loan : DisbursedLoan) → IsSoundDisbursed loan → is_refunded loan.entries ≡ false → EndsInRefund
     (standing_entries loan.entries) (length (standing_entries loan.entries)) → ⊥
 kept-unrefunded loan sound kept ends =
     let last = last-standing is_refund loan.periods loan.day loan.entries refund-seals sound.entries ends.0 in
@@ -103,7 +103,8 @@ kept-unrefunded loan sound kept ends =
 -- ---- what is overpaid
 
 -- a refund that stands leaves nothing overpaid
-pub overpaid-refunded : (loan : Loan) → IsSound loan → is_refunded loan.entries ≡ true → false ≡ nat_lt 0
+pub overpaid-refunded : (loan : DisbursedLoan) → IsSoundDisbursed loan → is_refunded loan.entries ≡ true
+    → false ≡ nat_lt 0
     (state_of_loan loan).overpaid
 overpaid-refunded loan sound given =
     ap (nat_lt 0) (sym (none-overpaid loan sound (ends-refunded loan sound given)))
@@ -114,10 +115,10 @@ beyond : (paid over refunded all brought : ℕ) → paid + over + refunded ≡ b
 beyond paid over refunded all brought held none told = grind (arith, nat_tests)
 
 -- all that is paid of rows
-abbrev pub paid_of : List Sums → ℕ
-paid_of rows = sum_by (λ (row : Sums). sum row.paid) rows
+abbrev pub paid_of : List Instalment → ℕ
+paid_of rows = sum_by (λ (row : Instalment). sum row.paid) rows
 
-pub overpaid-kept : (loan : Loan) (all paid : ℕ) → IsSound loan → is_refunded loan.entries ≡ false
+pub overpaid-kept : (loan : DisbursedLoan) (all paid : ℕ) → IsSoundDisbursed loan → is_refunded loan.entries ≡ false
     → all ≡ sum_repaid loan.entries → paid ≡ paid_of (state_of_loan loan).rows
     → nat_lt paid all ≡ nat_lt 0 (state_of_loan loan).overpaid
 overpaid-kept loan all paid sound kept all_is paid_is =
@@ -127,10 +128,10 @@ overpaid-kept loan all paid sound kept all_is paid_is =
     (sum_repaid loan.entries) (held-sound loan sound) none all_is
 
 -- what is repaid, and so what is paid, fits 64 bits
-pub repaid-room : (loan : Loan) → IsSound loan → sum_repaid loan.entries < 2 ^ 64
+pub repaid-room : (loan : DisbursedLoan) → IsSoundDisbursed loan → sum_repaid loan.entries < 2 ^ 64
 repaid-room loan sound = let room = brought-room loan sound in omega (arith, room)
 
-pub paid-room : (loan : Loan) → IsSound loan → paid_of (state_of_loan loan).rows < 2 ^ 64
+pub paid-room : (loan : DisbursedLoan) → IsSoundDisbursed loan → paid_of (state_of_loan loan).rows < 2 ^ 64
 paid-room loan sound =
     let room = brought-room loan sound in
     let held = held-sound loan sound in

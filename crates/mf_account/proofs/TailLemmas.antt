@@ -7,14 +7,15 @@ use Rattle.std.proofs.lemmas.List.Elements.{All-take}
 use Rattle.mf_alloc.specs.OrderLaws.{IsOrder}
 use Rattle.mf_account.specs.declared.entry.Entry.{Entry}
 use Rattle.mf_account.specs.declared.entry.Kind.TheVariants.{Refund}
-use Rattle.mf_account.specs.declared.settled.Settled.{Settled}
+use Rattle.mf_account.specs.declared.settled.SettledPart.{SettledPart}
 use Rattle.mf_account.specs.Kinds.{is_seal}
-use Rattle.mf_account.specs.Effect.{State, after, parts_of}
-use Rattle.mf_account.specs.Account.{Orders, after_all, settled_by, parts_numbered, first_state}
-use Rattle.mf_account.specs.Applicable.{HasInstalment, AreApplicable}
+use Rattle.mf_account.specs.Effect.{State, after_entry, parts_of}
+use Rattle.mf_account.specs.Account.{Orders, after_entries, settled_by, parts_numbered, first_state}
+use Rattle.mf_account.specs.Applicable.{HasInstalment}
 use Rattle.mf_account.specs.Standing.{is_before, standing_entries, no_entry, entry_at}
 use Rattle.mf_account.specs.StandingLaw.{IsAmong, Precedes, Ascends, IsStandingOf}
-use Rattle.mf_account.specs.Loan.{Loan, AreEntries, IsSound, schedule_of, orders_of, cell_places_of, state_of_loan}
+use Rattle.mf_account.specs.Loan.{DisbursedLoan, AreEntries, IsSoundDisbursed, schedule_of, orders_of, cell_places_of}
+use Rattle.mf_account.specs.Loan.{state_of_loan}
 use Rattle.mf_account.specs.Loan.{settled_of_loan}
 use Rattle.mf_account.specs.Rewind.{IsRewindable, state_before, tail_of, settled_from, settled_upto, TailsCanBeRewound}
 use Rattle.mf_account.specs.Rewind.{IsBack}
@@ -104,21 +105,21 @@ pub refund_last-standing : (n day : ℕ) (entries : List Entry) (j : ℕ) → Ar
     → j + 1 < length (standing_entries entries) → (entry_at (standing_entries entries) j).kind ≢ Refund
 refund_last-standing n day entries j are within is = seal_last-standing n day entries j are within (ap is_seal is)
 
-pub after_all-append : (orders : Orders) (xs ys : List Entry) (from : State) → after_all orders (xs ++ ys) from
-    ≡ after_all orders ys (after_all orders xs from)
+pub after_all-append : (orders : Orders) (xs ys : List Entry) (from : State) → after_entries orders (xs ++ ys) from
+    ≡ after_entries orders ys (after_entries orders xs from)
 after_all-append orders [] ys from = refl
-after_all-append orders (x ∷ xs) ys from = after_all-append orders xs ys (after (orders x) x from)
+after_all-append orders (x ∷ xs) ys from = after_all-append orders xs ys (after_entry (orders x) x from)
 
 pub settled_by-append : (orders : Orders) (xs ys : List Entry) (from : State) → settled_by orders (xs ++ ys) from
-    ≡ settled_by orders xs from ++ settled_by orders ys (after_all orders xs from)
+    ≡ settled_by orders xs from ++ settled_by orders ys (after_entries orders xs from)
 settled_by-append orders [] ys from = refl
 settled_by-append orders (x ∷ xs) ys from =
-    let own : List Settled = parts_numbered x.seq 1 (parts_of (orders x) x from) in
-    ap (λ z. own ++ z) (settled_by-append orders xs ys (after (orders x) x from))
-    ∙ sym (append_assoc own (settled_by orders xs (after (orders x) x from))
-    (settled_by orders ys (after_all orders xs (after (orders x) x from))))
+    let own : List SettledPart = parts_numbered x.seq 1 (parts_of (orders x) x from) in
+    ap (λ z. own ++ z) (settled_by-append orders xs ys (after_entry (orders x) x from))
+    ∙ sym (append_assoc own (settled_by orders xs (after_entry (orders x) x from))
+    (settled_by orders ys (after_entries orders xs (after_entry (orders x) x from))))
 
-pub good-before : (loan : Loan) (k : ℕ) → IsSound loan
+pub good-before : (loan : DisbursedLoan) (k : ℕ) → IsSoundDisbursed loan
     → IsBounded loan.periods (2 ^ 54 + amounts (take k (standing_entries loan.entries))) (state_before loan k)
 good-before loan k sound =
     good-all loan.periods (2 ^ 54) (orders_of loan) (cell_places_of loan) (take k (standing_entries loan.entries))
@@ -127,7 +128,7 @@ good-before loan k sound =
     (first-good loan sound)
 
 -- from a place before which nothing is refunded
-pub rewindable-from : (loan : Loan) (k : ℕ) → IsSound loan → (state_before loan k).refunded ≡ 0
+pub rewindable-from : (loan : DisbursedLoan) (k : ℕ) → IsSoundDisbursed loan → (state_before loan k).refunded ≡ 0
     → IsRewindable (orders_of loan) (cell_places_of loan) (state_before loan k) (tail_of loan k) (settled_from loan k)
     (state_of_loan loan)
 rewindable-from loan k sound none =
@@ -139,7 +140,7 @@ rewindable-from loan k sound none =
     let size = length-drop k all in
     let read : (j : ℕ) → entry_at (drop k all) j ≡ entry_at all (k + j) = λ j. get_or-drop k all j no_entry in
     record {
-      state = sym (ap (λ x. after_all (orders_of loan) x (first_state (schedule_of loan))) (take-append-drop k all))
+      state = sym (ap (λ x. after_entries (orders_of loan) x (first_state (schedule_of loan))) (take-append-drop k all))
           ∙ after_all-append (orders_of loan) (take k all) (drop k all) (first_state (schedule_of loan));
       settled_is = refl;
       none_refunded = none;
@@ -161,7 +162,7 @@ rewindable-from loan k sound none =
       room = omega (arith, good.money, parted, most);
     }
 
-pub none-before : (loan : Loan) (k : ℕ) → IsSound loan → k < length (standing_entries loan.entries)
+pub none-before : (loan : DisbursedLoan) (k : ℕ) → IsSoundDisbursed loan → k < length (standing_entries loan.entries)
     → (state_before loan k).refunded ≡ 0
 none-before loan k sound within =
     let all : List Entry = standing_entries loan.entries in
@@ -175,7 +176,7 @@ none-before loan k sound within =
     ))
     (sym (ap (λ (x : Entry). x.kind) (get_or-take k all j no_entry (omega (arith, size, less)))) ∙ is))
 
-pub settled-parts : (loan : Loan) (k : ℕ) → settled_of_loan loan ≡ settled_upto loan k ++ settled_from loan k
+pub settled-parts : (loan : DisbursedLoan) (k : ℕ) → settled_of_loan loan ≡ settled_upto loan k ++ settled_from loan k
 settled-parts loan k =
     let all : List Entry = standing_entries loan.entries in
     sym (ap (λ x. settled_by (orders_of loan) x (first_state (schedule_of loan))) (take-append-drop k all))
@@ -186,7 +187,8 @@ tails-rewound loan k sound within =
     (rewindable-from loan k sound (none-before loan k sound within), settled-parts loan k)
 
 -- all of them, as the account keeps them
-pub rewindable-whole : (loan : Loan) (tail : List Entry) (settled : List Settled) (now : State) → IsSound loan
+pub rewindable-whole : (loan : DisbursedLoan) (tail : List Entry) (settled : List SettledPart) (now : State)
+    → IsSoundDisbursed loan
     → tail ≡ standing_entries loan.entries → settled ≡ settled_of_loan loan → now ≡ state_of_loan loan
     → IsRewindable (orders_of loan) (cell_places_of loan) (first_state (schedule_of loan)) tail settled now
 rewindable-whole loan tail settled now sound tail_is settled_is now_is =
@@ -195,23 +197,18 @@ rewindable-whole loan tail settled now sound tail_is settled_is now_is =
     rewindable-from loan 0 sound refl in
     subst (λ (x : List Entry). IsRewindable (orders_of loan) (cell_places_of loan) (first_state (schedule_of loan)) x
     settled now) (sym tail_is)
-    (subst (λ (x : List Settled). IsRewindable (orders_of loan) (cell_places_of loan) (first_state (schedule_of loan))
+    (subst (λ (x : List SettledPart). IsRewindable (orders_of loan) (cell_places_of loan)
+    (first_state (schedule_of loan))
     (standing_entries loan.entries) x now) (sym settled_is)
     (subst (λ (x : State). IsRewindable (orders_of loan) (cell_places_of loan) (first_state (schedule_of loan))
     (standing_entries loan.entries) (settled_of_loan loan) x) (sym now_is) whole))
 
-pub back-whole : (loan : Loan) (tail : List Entry) (settled : List Settled) (place k : ℕ) (now : State)
+pub back-whole : (loan : DisbursedLoan) (tail : List Entry) (settled : List SettledPart) (place k : ℕ) (now : State)
     → IsBack (orders_of loan) (first_state (schedule_of loan)) tail settled place k now
     → tail ≡ standing_entries loan.entries → settled ≡ settled_of_loan loan → (now ≡ state_before loan place)
     × (take k (settled_of_loan loan) ≡ settled_upto loan place)
 back-whole loan tail settled place k now back tail_is settled_is = (
-  back.state ∙ ap (λ x. after_all (orders_of loan) (take place x) (first_state (schedule_of loan))) tail_is,
+  back.state ∙ ap (λ x. after_entries (orders_of loan) (take place x) (first_state (schedule_of loan))) tail_is,
   ap (take k) (sym settled_is) ∙ back.settled_so_far ∙ ap (λ x. settled_by (orders_of loan) (take place x)
       (first_state (schedule_of loan))) tail_is,
 )
-
--- what can be applied in all can be applied from a place on
-pub applicable-append : (orders : Orders) (xs ys : List Entry) (from : State) → AreApplicable orders (xs ++ ys) from
-    → AreApplicable orders ys (after_all orders xs from)
-applicable-append orders [] ys from fits = fits
-applicable-append orders (x ∷ xs) ys from fits = applicable-append orders xs ys (after (orders x) x from) fits.1

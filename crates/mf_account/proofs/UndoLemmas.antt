@@ -1,8 +1,8 @@
 -- Taking entries back gives the very state before them.
 use Rattle.std.proofs.Common.{◌≡◌, ◌≢◌, ℕ, ◌+◌, ◌-◌, ◌≤◌, List, [], ◌∷◌, arith, refl, ◌∙◌, ap, sym}
 use Rattle.mf_alloc.specs.declared.row.Cell.{Cell}
-use Rattle.mf_alloc.specs.Sums.{Sums}
-use Rattle.mf_alloc.specs.declared.row.Portion.TheVariants.{Penalty as PenaltyPart, Fee as FeePart}
+use Rattle.mf_alloc.specs.Sums.{Instalment}
+use Rattle.mf_alloc.specs.declared.row.Portion.TheVariants as portion
 use Rattle.mf_alloc.specs.Rows.{place_in_row}
 use Rattle.mf_alloc.proofs.PaymentLemmas.{changed-back, minus_at-plus_at, unpay-pay}
 use Rattle.mf_account.specs.declared.entry.Entry.{Entry}
@@ -11,15 +11,14 @@ use Rattle.mf_account.specs.declared.entry.Kind.TheVariants.{Repay, Fee, Penalty
 use Rattle.mf_account.specs.declared.settled.How.{How}
 use Rattle.mf_account.specs.declared.settled.How.TheVariants.{Paid, Waived, WrittenOff}
 use Rattle.mf_account.specs.Kinds.{money_in, money_out}
-use Rattle.mf_account.specs.Effect.{State, Part, after, parts_of, settle_row, owe_row, settle, with_settled}
+use Rattle.mf_account.specs.Effect.{State, Part, after_entry, parts_of, settle_row, owe_row, settle, with_settled}
 use Rattle.mf_account.specs.Effect.{with_charge}
 use Rattle.mf_account.specs.AtOnce.{rows_charged}
 use Rattle.mf_account.proofs.OnceLemmas.{rows-after, money-after, refunded-after}
-use Rattle.mf_account.specs.Account.{Orders, after_all}
 use Rattle.mf_account.specs.Undo.{unsettle_row, unowe_row, unsettle, without_settled, without_charge, paid_in}
-use Rattle.mf_account.specs.Undo.{before_entry, all_parts, before_all, RefundIsLast}
+use Rattle.mf_account.specs.Undo.{before_entry}
 
-unsettle_row-settle_row : (how : How) (p amount : ℕ) (row : Sums)
+unsettle_row-settle_row : (how : How) (p amount : ℕ) (row : Instalment)
     → unsettle_row how p amount (settle_row how p amount row) ≡ row
 unsettle_row-settle_row Paid p amount row = unpay-pay p amount row
 unsettle_row-settle_row Waived p amount row =
@@ -27,30 +26,32 @@ unsettle_row-settle_row Waived p amount row =
 unsettle_row-settle_row WrittenOff p amount row =
     ap (λ (sums : List ℕ). record row { written_off = sums }) (minus_at-plus_at row.written_off p amount)
 
-unowe_row-owe_row : (p amount : ℕ) (row : Sums) → unowe_row p amount (owe_row p amount row) ≡ row
+unowe_row-owe_row : (p amount : ℕ) (row : Instalment) → unowe_row p amount (owe_row p amount row) ≡ row
 unowe_row-owe_row p amount row = ap (λ (sums : List ℕ). record row { owed = sums }) (minus_at-plus_at row.owed p amount)
 
-unsettle-settle : (rows : List Sums) (part : Part) → unsettle (settle rows part) part ≡ rows
+unsettle-settle : (rows : List Instalment) (part : Part) → unsettle (settle rows part) part ≡ rows
 unsettle-settle rows part =
     let p : ℕ = place_in_row part.cell.portion in
     changed-back rows part.cell.instalment (settle_row part.how p part.amount) (unsettle_row part.how p part.amount)
     (unsettle_row-settle_row part.how p part.amount)
 
 -- all parts settled and taken back
-without_settled-with_settled : (rows : List Sums) (parts : List Part) → without_settled (with_settled rows parts) parts
+without_settled-with_settled : (rows : List Instalment) (parts : List Part)
+    → without_settled (with_settled rows parts) parts
     ≡ rows
 without_settled-with_settled rows [] = refl
 without_settled-with_settled rows (part ∷ parts) =
     ap (λ x. unsettle x part) (without_settled-with_settled (settle rows part) parts) ∙ unsettle-settle rows part
 
-without_charge-with_charge : (kind : Kind) (entry : Entry) (rows : List Sums)
+without_charge-with_charge : (kind : Kind) (entry : Entry) (rows : List Instalment)
     → without_charge kind entry (with_charge kind entry rows) ≡ rows
-without_charge-with_charge Fee entry rows = changed-back rows entry.instalment (owe_row (place_in_row FeePart)
-    entry.amount) (unowe_row (place_in_row FeePart) entry.amount)
-    (unowe_row-owe_row (place_in_row FeePart) entry.amount)
-without_charge-with_charge Penalty entry rows = changed-back rows entry.instalment (owe_row (place_in_row PenaltyPart)
-    entry.amount) (unowe_row (place_in_row PenaltyPart) entry.amount) (unowe_row-owe_row (place_in_row PenaltyPart)
-    entry.amount)
+without_charge-with_charge Fee entry rows = changed-back rows entry.instalment (owe_row (place_in_row portion.Fee)
+    entry.amount) (unowe_row (place_in_row portion.Fee) entry.amount)
+    (unowe_row-owe_row (place_in_row portion.Fee) entry.amount)
+without_charge-with_charge Penalty entry rows =
+    changed-back rows entry.instalment (owe_row (place_in_row portion.Penalty) entry.amount)
+    (unowe_row (place_in_row portion.Penalty) entry.amount)
+    (unowe_row-owe_row (place_in_row portion.Penalty) entry.amount)
 without_charge-with_charge Repay entry rows = refl
 without_charge-with_charge Waive entry rows = refl
 without_charge-with_charge WriteOff entry rows = refl
@@ -66,9 +67,9 @@ money_out-le Refund overpaid = omega arith
 
 -- one entry taken back
 pub before_entry-after : (order : ℕ → Cell) (entry : Entry) (before : State) → before.refunded ≡ 0
-    → before_entry entry (parts_of order entry before) (after order entry before) ≡ before
+    → before_entry entry (parts_of order entry before) (after_entry order entry before) ≡ before
 before_entry-after order entry before none =
-    let then : State = after order entry before in
+    let then : State = after_entry order entry before in
     let parts : List Part = parts_of order entry before in
     let rows : without_charge entry.kind entry (without_settled then.rows parts) ≡ before.rows =
     ap (λ x. without_charge entry.kind entry (without_settled x parts)) (rows-after order entry before)
@@ -79,7 +80,7 @@ before_entry-after order entry before none =
     let given = refunded-after entry.kind order entry before in
     let overpaid : then.overpaid + paid_in parts + then.refunded - money_in entry.kind entry.amount ≡ before.overpaid =
     omega (arith, paid, less, given, none) in
-    let at : List Sums → ℕ → ℕ → State = λ r o f. record { rows = r; overpaid = o; refunded = f } in
+    let at : List Instalment → ℕ → ℕ → State = λ r o f. record { rows = r; overpaid = o; refunded = f } in
     ap (λ r. at r (then.overpaid + paid_in parts + then.refunded - money_in entry.kind entry.amount) 0) rows
     ∙ ap (λ o. at before.rows o 0) overpaid
     ∙ ap (λ f. at before.rows before.overpaid f) (sym none)
@@ -92,17 +93,3 @@ no_refund Penalty overpaid other = refl
 no_refund Waive overpaid other = refl
 no_refund WriteOff overpaid other = refl
 no_refund Refund overpaid other = absurd (other refl)
-
--- entries taken back
-pub before_all-after_all : (orders : Orders) (entries : List Entry) (before : State) → RefundIsLast entries
-    → before.refunded ≡ 0 → before_all entries (all_parts orders entries before) (after_all orders entries before)
-    ≡ before
-before_all-after_all orders [] before last none = refl
-before_all-after_all orders (entry ∷ []) before last none = before_entry-after (orders entry) entry before none
-before_all-after_all orders (entry ∷ next ∷ entries) before last none =
-    let one : State = after (orders entry) entry before in
-    let still : one.refunded ≡ 0 = let out = no_refund entry.kind before.overpaid last.0 in let given =
-    refunded-after entry.kind (orders entry) entry before in omega (arith, none, out, given) in
-    ap (before_entry entry (parts_of (orders entry) entry before)) (before_all-after_all orders (next ∷ entries) one
-    last.1 still)
-    ∙ before_entry-after (orders entry) entry before none

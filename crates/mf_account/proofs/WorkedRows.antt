@@ -6,16 +6,17 @@ use Rattle.mf_base.specs.declared.day.Freq.TheVariants.{Months}
 use Rattle.mf_catalog.specs.declared.terms.Terms.{Terms}
 use Rattle.mf_catalog.specs.declared.terms.Method.TheVariants.{EqualPrincipal}
 use Rattle.mf_catalog.specs.declared.terms.StrategyName.TheVariants.{MifosStandard, PrincipalFirst, InterestFirst}
-use Rattle.mf_schedule.specs.declared.instalment.Instalment.{Instalment}
+use Rattle.mf_schedule.specs.declared.instalment.FreshInstalment.{FreshInstalment}
 use Rattle.mf_schedule.specs.Fresh.{fresh_schedule}
 use Rattle.mf_alloc.specs.declared.row.Portion.{Portion}
-use Rattle.mf_alloc.specs.declared.row.Portion.TheVariants.{Penalty as PenaltyPart, Fee as FeePart, Interest, Principal}
-use Rattle.mf_alloc.specs.Sums.{Sums, open_at}
-use Rattle.mf_alloc.specs.Order.{by_instalment, standard, portion_by, due_first}
+use Rattle.mf_alloc.specs.declared.row.Portion.TheVariants as portion
+use Rattle.mf_alloc.specs.declared.row.Portion.TheVariants.{Interest, Principal}
+use Rattle.mf_alloc.specs.Sums.{Instalment, open_at}
+use Rattle.mf_alloc.specs.Order.{in_order_of_instalments, standard, portion_by, due_first}
 use Rattle.mf_account.specs.declared.entry.Entry.{Entry}
 use Rattle.mf_account.specs.declared.entry.Kind.{Kind}
 use Rattle.mf_account.specs.declared.entry.Kind.TheVariants.{Repay, Fee, Penalty, Waive, WriteOff, Refund}
-use Rattle.mf_account.specs.declared.settled.Settled.{Settled}
+use Rattle.mf_account.specs.declared.settled.SettledPart.{SettledPart}
 use Rattle.mf_account.specs.declared.settled.How.{How}
 use Rattle.mf_account.specs.declared.settled.How.TheVariants.{Paid, Waived}
 use Rattle.mf_account.specs.Effect.{State}
@@ -36,11 +37,11 @@ terms = record {
   overdue = None;
 }
 
-abbrev schedule : List Instalment
+abbrev schedule : List FreshInstalment
 schedule = fresh_schedule terms 100000 3 8796
 
 abbrev usual : Orders
-usual entry = by_instalment standard
+usual entry = in_order_of_instalments standard
 
 abbrev entry_of : ℕ → Kind → ℕ → ℕ → ℕ → Portion → Bool → Entry
 entry_of seq kind day amount instalment portion reversed = record {
@@ -73,7 +74,7 @@ march_is : day_of (record { year = 2024; month = 3; day = 31 }) ≡ march
 unfolding day_of
 march_is = refl
 
-abbrev part : ℕ → ℕ → ℕ → Portion → How → ℕ → Settled
+abbrev part : ℕ → ℕ → ℕ → Portion → How → ℕ → SettledPart
 part seq place instalment portion how amount = record {
   seq = seq;
   place = place;
@@ -83,7 +84,7 @@ part seq place instalment portion how amount = record {
 }
 
 -- penalties, fees, interest and principal
-abbrev sums : (Sums → List ℕ) → State → List ℕ
+abbrev sums : (Instalment → List ℕ) → State → List ℕ
 sums of s = sum_at of 0 s.rows ∷ sum_at of 1 s.rows ∷ sum_at of 2 s.rows ∷ sum_at of 3 s.rows ∷ []
 
 abbrev left : State → List ℕ
@@ -149,7 +150,7 @@ refund_closes = refl
 
 -- a fee, then all paid before it
 abbrev fee_then_all : List Entry
-fee_then_all = entry_of 1 Fee march 500 2 FeePart false ∷ repay 2 february 102500 ∷ []
+fee_then_all = entry_of 1 Fee march 500 2 portion.Fee false ∷ repay 2 february 102500 ∷ []
 
 fee_then_all_status : status_of fee_then_all (state_of usual schedule fee_then_all) ≡ 600
 fee_then_all_status = refl
@@ -163,7 +164,7 @@ fee_then_all_paid = refl
 fee_then_all_settled : settled_of usual schedule fee_then_all ≡
     part 2 1 1 Interest Paid 1000 ∷ part 2 2 1 Principal Paid 33333 ∷ part 2 3 2 Interest Paid 667
     ∷ part 2 4 2 Principal Paid 33333
-    ∷ part 2 5 3 Interest Paid 333 ∷ part 2 6 3 Principal Paid 33334 ∷ part 1 1 2 FeePart Paid 500 ∷ []
+    ∷ part 2 5 3 Interest Paid 333 ∷ part 2 6 3 Principal Paid 33334 ∷ part 1 1 2 portion.Fee Paid 500 ∷ []
 fee_then_all_settled = refl
 
 -- a waiver, then what it cleared paid before it
@@ -197,35 +198,38 @@ written_off_after_status : status_of written_off_after (state_of usual schedule 
 written_off_after_status = refl
 
 -- the two repayments by another strategy
-other_order : left (state_of (λ _. by_instalment (portion_by PrincipalFirst)) schedule two_repayments) ≡ 0 ∷ 0 ∷ 333
+other_order : left (state_of (λ _. in_order_of_instalments (portion_by PrincipalFirst)) schedule two_repayments)
+    ≡ 0 ∷ 0 ∷ 333
     ∷ 31667 ∷ []
 other_order = refl
 
 -- a penalty, then a repayment that covers it in part, by each strategy
 abbrev penalty_then_paid : List Entry
-penalty_then_paid = entry_of 1 Penalty march 3433 1 PenaltyPart false ∷ repay 2 march 5000 ∷ []
+penalty_then_paid = entry_of 1 Penalty march 3433 1 portion.Penalty false ∷ repay 2 march 5000 ∷ []
 
 penalty_standard : settled_of usual schedule penalty_then_paid ≡
-    part 2 1 1 PenaltyPart Paid 3433 ∷ part 2 2 1 Interest Paid 1000 ∷ part 2 3 1 Principal Paid 567 ∷ []
+    part 2 1 1 portion.Penalty Paid 3433 ∷ part 2 2 1 Interest Paid 1000 ∷ part 2 3 1 Principal Paid 567 ∷ []
 penalty_standard = refl
 
-penalty_principal_first : settled_of (λ _. by_instalment (portion_by PrincipalFirst)) schedule penalty_then_paid
+penalty_principal_first : settled_of (λ _. in_order_of_instalments (portion_by PrincipalFirst)) schedule
+    penalty_then_paid
     ≡ part 2 1 1 Principal Paid 5000 ∷ []
 penalty_principal_first = refl
 
-penalty_interest_first : settled_of (λ _. by_instalment (portion_by InterestFirst)) schedule penalty_then_paid ≡
+penalty_interest_first : settled_of (λ _. in_order_of_instalments (portion_by InterestFirst)) schedule penalty_then_paid
+    ≡
     part 2 1 1 Interest Paid 1000 ∷ part 2 2 1 Principal Paid 4000 ∷ []
 penalty_interest_first = refl
 
 -- the penalty reversed
-penalty_reversed : settled_of usual schedule (entry_of 1 Penalty march 3433 1 PenaltyPart true ∷ repay 2 march 5000
+penalty_reversed : settled_of usual schedule (entry_of 1 Penalty march 3433 1 portion.Penalty true ∷ repay 2 march 5000
     ∷ []) ≡
     part 2 1 1 Interest Paid 1000 ∷ part 2 2 1 Principal Paid 4000 ∷ []
 penalty_reversed = refl
 
 -- the fee reversed leaves its money overpaid
 abbrev fee_reversed : List Entry
-fee_reversed = entry_of 1 Fee march 500 2 FeePart true ∷ repay 2 february 102500 ∷ []
+fee_reversed = entry_of 1 Fee march 500 2 portion.Fee true ∷ repay 2 february 102500 ∷ []
 
 fee_reversed_overpaid : (state_of usual schedule fee_reversed).overpaid ≡ 500
 fee_reversed_overpaid = refl

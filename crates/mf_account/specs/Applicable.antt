@@ -1,18 +1,18 @@
 -- What the code asks of an entry and a state, so that no sum overflows and each cell is there.
 use Rattle.std.specs.Prelude.{ℕ, ◌+◌, ◌<◌, ◌≤◌, ◌^◌, List, [], ◌∷◌, length, slice_index, All}
-use Rattle.mf_alloc.specs.declared.row.Portion.TheVariants.{Penalty as PenaltyPart}
-use Rattle.mf_alloc.specs.Sums.{Sums, AreWhole}
+use Rattle.mf_alloc.specs.declared.row.Portion.TheVariants as portion
+use Rattle.mf_alloc.specs.Sums.{Instalment, AreWhole}
 use Rattle.mf_alloc.specs.Rows.{IsCell, row_at, outstanding}
 use Rattle.mf_account.specs.declared.entry.Entry.{Entry}
 use Rattle.mf_account.specs.declared.entry.Kind.{Kind}
 use Rattle.mf_account.specs.declared.entry.Kind.TheVariants.{Repay, Fee, Penalty, Waive, WriteOff, Refund}
-use Rattle.mf_account.specs.declared.settled.Settled.{Settled}
+use Rattle.mf_account.specs.declared.settled.SettledPart.{SettledPart}
 use Rattle.mf_account.specs.declared.settled.How.TheVariants.{Paid}
-use Rattle.mf_account.specs.Effect.{State, Part, settle, after}
+use Rattle.mf_account.specs.Effect.{State, Part, settle, after_entry}
 use Rattle.mf_account.specs.Account.{Orders}
 
 -- a fee or penalty has a row with room, and a waiver a row
-abbrev pub HasRow : Kind → Entry → List Sums → Type 0
+abbrev pub HasRow : Kind → Entry → List Instalment → Type 0
 HasRow Fee entry rows =
     (1 ≤ entry.instalment) × (entry.instalment ≤ length rows) × (slice_index (row_at rows entry.instalment).owed 1
     + entry.amount < 2 ^ 64)
@@ -44,10 +44,10 @@ pub record IsApplicable (entry : Entry) (before : State) : Type 0 where
 abbrev pub AreApplicable : Orders → List Entry → State → Type 0
 AreApplicable orders [] before = Unit {0}
 AreApplicable orders (entry ∷ entries) before =
-    IsApplicable entry before × AreApplicable orders entries (after (orders entry) entry before)
+    IsApplicable entry before × AreApplicable orders entries (after_entry (orders entry) entry before)
 
 -- each part is in a cell, and at most what is outstanding there when its turn comes
-abbrev pub IsSettleable : List Sums → List Part → Type 0
+abbrev pub IsSettleable : List Instalment → List Part → Type 0
 IsSettleable rows [] = Unit {0}
 IsSettleable rows (part ∷ parts) =
     IsCell (length rows) part.cell × (part.amount ≤ outstanding rows part.cell) × IsSettleable (settle rows part) parts
@@ -62,15 +62,15 @@ HasCharge WriteOff entry n = Unit {0}
 HasCharge Refund entry n = Unit {0}
 
 -- each part is in a cell of n instalments
-abbrev pub AreInRows : ℕ → List Settled → Type 0
-AreInRows n settled = All (λ (s : Settled). IsCell n s.cell) settled
+abbrev pub AreInRows : ℕ → List SettledPart → Type 0
+AreInRows n settled = All (λ (s : SettledPart). IsCell n s.cell) settled
 
 -- a part for what is not there
-abbrev pub no_settled : Settled
+abbrev pub no_settled : SettledPart
 no_settled = record {
   seq = 0;
   place = 0;
-  cell = record { instalment = 0; portion = PenaltyPart };
+  cell = record { instalment = 0; portion = portion.Penalty };
   how = Paid;
   amount = 0;
 }

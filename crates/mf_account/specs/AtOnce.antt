@@ -2,7 +2,7 @@
 use Rattle.std.specs.Prelude.{ℕ, ◌+◌, ◌-◌, List, ◌++◌, map}
 use Rattle.mf_alloc.specs.declared.row.Cell.{Cell}
 use Rattle.mf_alloc.specs.declared.row.Share.{Share}
-use Rattle.mf_alloc.specs.Sums.{Sums}
+use Rattle.mf_alloc.specs.Sums.{Instalment}
 use Rattle.mf_alloc.specs.Payment.{shares_of, rest_of}
 use Rattle.mf_account.specs.declared.entry.Entry.{Entry}
 use Rattle.mf_account.specs.declared.settled.How.TheVariants.{Paid}
@@ -14,15 +14,15 @@ abbrev pub paid_part : Share → Part
 paid_part share = record { cell = share.cell; how = Paid; amount = share.amount }
 
 -- the rows once the entry has charged, and once it has cleared
-abbrev pub rows_charged : Entry → State → List Sums
+abbrev pub rows_charged : Entry → State → List Instalment
 rows_charged entry before = with_charge entry.kind entry before.rows
 
 -- rows with what an entry waives or writes off in them
-abbrev pub with_cleared : (ℕ → Cell) → Entry → List Sums → List Sums
+abbrev pub with_cleared : (ℕ → Cell) → Entry → List Instalment → List Instalment
 with_cleared order entry charged = with_settled charged (parts_cleared order entry charged)
 
 -- the rows after an entry's charge and its clearing, before its money is laid on them
-abbrev pub rows_cleared : (ℕ → Cell) → Entry → State → List Sums
+abbrev pub rows_cleared : (ℕ → Cell) → Entry → State → List Instalment
 rows_cleared order entry before = with_cleared order entry (rows_charged entry before)
 
 -- the entry's money, and what is overpaid and not given back

@@ -2,8 +2,8 @@
 use Rattle.std.specs.Prelude.{ℕ, ◌+◌, ◌*◌, nat_lt, Bool, List, [], ◌∷◌, ◌++◌, length, map, filter}
 use Rattle.std.specs.List.{range_with_len}
 use Rattle.mf_alloc.specs.declared.row.Cell.{Cell}
-use Rattle.mf_alloc.specs.declared.row.Portion.TheVariants.{Penalty as PenaltyPart, Fee as FeePart}
-use Rattle.mf_alloc.specs.Sums.{Sums}
+use Rattle.mf_alloc.specs.declared.row.Portion.TheVariants as portion
+use Rattle.mf_alloc.specs.Sums.{Instalment}
 use Rattle.mf_alloc.specs.Rows.{outstanding, rows_changed_at, plus_at, place_in_row, pay_row, with_paid}
 use Rattle.mf_alloc.specs.Payment.{share_at, shares_of, rest_of}
 use Rattle.mf_account.specs.declared.entry.Entry.{Entry}
@@ -14,7 +14,7 @@ use Rattle.mf_account.specs.declared.settled.How.TheVariants.{Paid, Waived, Writ
 
 -- a loan's instalments with their sums, and the money beside them
 pub record State : Type 0 where
-  pub rows : List Sums
+  pub rows : List Instalment
   pub overpaid : ℕ
   pub refunded : ℕ
 
@@ -25,36 +25,37 @@ pub record Part : Type 0 where
   pub amount : ℕ
 
 -- a sum of a row raised
-abbrev pub settle_row : How → ℕ → ℕ → Sums → Sums
+abbrev pub settle_row : How → ℕ → ℕ → Instalment → Instalment
 settle_row Paid p amount row = pay_row p amount row
 settle_row Waived p amount row = record row { waived = plus_at row.waived p amount }
 settle_row WrittenOff p amount row = record row { written_off = plus_at row.written_off p amount }
 
 -- a row that owes more of a portion
-abbrev pub owe_row : ℕ → ℕ → Sums → Sums
+abbrev pub owe_row : ℕ → ℕ → Instalment → Instalment
 owe_row p amount row = record row { owed = plus_at row.owed p amount }
 
 -- rows with a part settled
-abbrev pub settle : List Sums → Part → List Sums
+abbrev pub settle : List Instalment → Part → List Instalment
 settle rows part =
     rows_changed_at rows part.cell.instalment (settle_row part.how (place_in_row part.cell.portion) part.amount)
 
 -- all parts, first to last
-abbrev pub with_settled : List Sums → List Part → List Sums
+abbrev pub with_settled : List Instalment → List Part → List Instalment
 with_settled rows [] = rows
 with_settled rows (part ∷ parts) = with_settled (settle rows part) parts
 
 -- a fee or penalty is added to what its cell owes
-abbrev pub with_charge : Kind → Entry → List Sums → List Sums
-with_charge Fee entry rows = rows_changed_at rows entry.instalment (owe_row (place_in_row FeePart) entry.amount)
-with_charge Penalty entry rows = rows_changed_at rows entry.instalment (owe_row (place_in_row PenaltyPart) entry.amount)
+abbrev pub with_charge : Kind → Entry → List Instalment → List Instalment
+with_charge Fee entry rows = rows_changed_at rows entry.instalment (owe_row (place_in_row portion.Fee) entry.amount)
+with_charge Penalty entry rows =
+    rows_changed_at rows entry.instalment (owe_row (place_in_row portion.Penalty) entry.amount)
 with_charge Repay entry rows = rows
 with_charge Waive entry rows = rows
 with_charge WriteOff entry rows = rows
 with_charge Refund entry rows = rows
 
 -- all that is outstanding in a cell, as a part
-abbrev pub whole_part : How → List Sums → Cell → Part
+abbrev pub whole_part : How → List Instalment → Cell → Part
 whole_part how rows cell = record { cell = cell; how = how; amount = outstanding rows cell }
 
 -- a part is of more than nothing
@@ -66,7 +67,7 @@ abbrev pub some_parts : List Part → List Part
 some_parts parts = filter is_some_part parts
 
 -- a waiver clears its cell, and a write-off every cell
-abbrev pub parts_by : Kind → (ℕ → Cell) → Entry → List Sums → List Part
+abbrev pub parts_by : Kind → (ℕ → Cell) → Entry → List Instalment → List Part
 parts_by Waive order entry rows =
     some_parts (whole_part Waived rows (record { instalment = entry.instalment; portion = entry.portion }) ∷ [])
 parts_by WriteOff order entry rows =
@@ -77,7 +78,7 @@ parts_by Penalty order entry rows = []
 parts_by Refund order entry rows = []
 
 -- the parts that an entry waives or writes off
-abbrev pub parts_cleared : (ℕ → Cell) → Entry → List Sums → List Part
+abbrev pub parts_cleared : (ℕ → Cell) → Entry → List Instalment → List Part
 parts_cleared order entry rows = parts_by entry.kind order entry rows
 
 -- what the entry itself does: a repayment pays and the rest is overpaid, a fee or penalty is owed, a waiver and a
@@ -110,8 +111,8 @@ with_overpaid_paid order before = record {
 }
 
 -- the state after the entry
-abbrev pub after : (ℕ → Cell) → Entry → State → State
-after order entry before = with_overpaid_paid order (state_acted order entry before)
+abbrev pub after_entry : (ℕ → Cell) → Entry → State → State
+after_entry order entry before = with_overpaid_paid order (state_acted order entry before)
 
 -- what the entry itself pays into the cell at place k, and what is paid there in all
 abbrev pub own_share : Kind → (ℕ → Cell) → Entry → State → ℕ → ℕ

@@ -2,15 +2,16 @@
 use Rattle.std.specs.Prelude.{◌≡◌, ◌≢◌, ℕ, ◌+◌, ◌<◌, ◌≤◌, ◌^◌, true, false, List, length, All, None}
 use Rattle.mf_base.specs.DayText.{last_entered_day}
 use Rattle.mf_catalog.specs.declared.terms.Terms.{Terms}
-use Rattle.mf_schedule.specs.declared.instalment.Instalment.{Instalment}
+use Rattle.mf_schedule.specs.declared.instalment.FreshInstalment.{FreshInstalment}
 use Rattle.mf_schedule.specs.Fresh.{fresh_schedule, fee_at_disbursement, IsLoanWithinLimits}
-use Rattle.mf_alloc.specs.declared.row.Portion.TheVariants.{Penalty as PenaltyPart, Fee as FeePart, Principal}
+use Rattle.mf_alloc.specs.declared.row.Portion.TheVariants as portion
+use Rattle.mf_alloc.specs.declared.row.Portion.TheVariants.{Principal}
 use Rattle.mf_alloc.specs.declared.row.Cell.{Cell}
 use Rattle.mf_alloc.specs.Order.{cell_by, place_by, due_by}
 use Rattle.mf_account.specs.declared.entry.Entry.{Entry}
 use Rattle.mf_account.specs.declared.entry.Kind.{Kind}
 use Rattle.mf_account.specs.declared.entry.Kind.TheVariants.{Repay, Fee, Penalty, Waive, WriteOff, Refund}
-use Rattle.mf_account.specs.declared.settled.Settled.{Settled}
+use Rattle.mf_account.specs.declared.settled.SettledPart.{SettledPart}
 use Rattle.mf_account.specs.Kinds.{is_seal}
 use Rattle.mf_account.specs.Effect.{State}
 use Rattle.mf_account.specs.Account.{Orders, orders_by, first_state, state_of, settled_of, status_of}
@@ -18,7 +19,7 @@ use Rattle.mf_account.specs.Standing.{is_before, standing_entries, entry_at, ent
 use Rattle.mf_account.specs.Safe.{IsSafe}
 
 -- a disbursed loan: its terms, its principal in cents, its day of disbursement and its entries
-pub record Loan : Type 0 where
+pub record DisbursedLoan : Type 0 where
   pub terms : Terms
   pub principal : ℕ
   pub periods : ℕ
@@ -29,9 +30,9 @@ pub record Loan : Type 0 where
 abbrev pub HasColumns : Kind → ℕ → Entry → Type 0
 HasColumns Repay n e = (1 ≤ e.amount) × (e.amount ≤ 10 ^ 12) × (e.instalment ≡ 0) × (e.portion ≡ Principal)
 HasColumns Fee n e = (1 ≤ e.amount) × (e.amount ≤ 10 ^ 12) × (1 ≤ e.instalment) × (e.instalment ≤ n)
-    × (e.portion ≡ FeePart) × (e.receipt ≡ None)
+    × (e.portion ≡ portion.Fee) × (e.receipt ≡ None)
 HasColumns Penalty n e = (1 ≤ e.amount) × (e.amount ≤ 10 ^ 12) × (1 ≤ e.instalment) × (e.instalment ≤ n)
-    × (e.portion ≡ PenaltyPart) × (e.receipt ≡ None)
+    × (e.portion ≡ portion.Penalty) × (e.receipt ≡ None)
 HasColumns Waive n e = (e.amount ≡ 0) × (1 ≤ e.instalment) × (e.instalment ≤ n) × (e.portion ≢ Principal)
     × (e.receipt ≡ None)
 HasColumns WriteOff n e = (e.amount ≡ 0) × (e.instalment ≡ 0) × (e.portion ≡ Principal) × (e.receipt ≡ None)
@@ -57,49 +58,49 @@ pub record AreEntries (n day : ℕ) (entries : List Entry) : Type 0 where
   pub seal_last : SealIsLast entries
 
 -- a loan within the limits, with entries that it may have
-pub record IsSound (loan : Loan) : Type 0 where
+pub record IsSoundDisbursed (loan : DisbursedLoan) : Type 0 where
   pub limits : IsLoanWithinLimits loan.terms loan.principal loan.periods
   pub day : loan.day ≤ last_entered_day
   pub entries : AreEntries loan.periods loan.day loan.entries
 
 -- what a loan's account is: its fresh schedule, the order of its strategy at each entry's day, and the fold of its
 -- standing entries
-abbrev pub schedule_of : Loan → List Instalment
+abbrev pub schedule_of : DisbursedLoan → List FreshInstalment
 schedule_of loan = fresh_schedule loan.terms loan.principal loan.periods loan.day
 
 -- the order of a loan's cells where so many instalments are due
-abbrev pub cells_of : Loan → ℕ → ℕ → ℕ → Cell
+abbrev pub cells_of : DisbursedLoan → ℕ → ℕ → ℕ → Cell
 cells_of loan n due = cell_by loan.terms.strategy due
 
 -- the order in which an entry pays a loan's cells, by what is due on its day
-abbrev pub orders_of : Loan → Orders
+abbrev pub orders_of : DisbursedLoan → Orders
 orders_of loan = orders_by (cells_of loan) (first_state (schedule_of loan)).rows
 
 -- the places of the cells at an entry
-abbrev pub cell_places_of : Loan → Entry → Cell → ℕ
+abbrev pub cell_places_of : DisbursedLoan → Entry → Cell → ℕ
 cell_places_of loan entry = place_by loan.terms.strategy (due_by entry.day (first_state (schedule_of loan)).rows)
 
 -- the state of a loan: its standing entries replayed on its fresh schedule
-abbrev pub state_of_loan : Loan → State
+abbrev pub state_of_loan : DisbursedLoan → State
 state_of_loan loan = state_of (orders_of loan) (schedule_of loan) loan.entries
 
 -- what a loan's standing entries settle
-abbrev pub settled_of_loan : Loan → List Settled
+abbrev pub settled_of_loan : DisbursedLoan → List SettledPart
 settled_of_loan loan = settled_of (orders_of loan) (schedule_of loan) loan.entries
 
 -- the fee at a loan's disbursement
-abbrev pub fee_of_loan : Loan → ℕ
+abbrev pub fee_of_loan : DisbursedLoan → ℕ
 fee_of_loan loan = fee_at_disbursement loan.terms loan.principal (schedule_of loan)
 
 -- the status of a loan
-abbrev pub status_of_loan : Loan → ℕ
+abbrev pub status_of_loan : DisbursedLoan → ℕ
 status_of_loan loan = status_of loan.entries (state_of_loan loan)
 
 -- what is kept of a loan beside its entries: where its standing entries are among them, in their order, its fresh
 -- schedule and fee; and a state and parts, of which no more is known than that they are safe
-pub record IsKept (loan : Loan) (order : List ℕ) (schedule : List Instalment) (fee : ℕ) (state : State)
-    (settled : List Settled) : Type 0 where
-  pub sound : IsSound loan
+pub record IsKept (loan : DisbursedLoan) (order : List ℕ) (schedule : List FreshInstalment) (fee : ℕ) (state : State)
+    (settled : List SettledPart) : Type 0 where
+  pub sound : IsSoundDisbursed loan
   pub within : All (λ at. at < length loan.entries) order
   pub order_is : entries_at loan.entries order ≡ standing_entries loan.entries
   pub schedule_is : schedule ≡ schedule_of loan

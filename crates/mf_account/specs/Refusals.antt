@@ -4,8 +4,9 @@ use Rattle.std.specs.Prelude.{if◌then◌else◌, List, length, Option, Some, N
 use Rattle.std.specs.List.{list_any}
 use Rattle.mf_base.specs.declared.fault.Fault.{Fault}
 use Rattle.mf_base.specs.declared.fault.Fault.TheVariants.{F8, F9, F10, F11, F12, F13, F14, F18, F20}
-use Rattle.mf_alloc.specs.declared.row.Portion.TheVariants.{Penalty as PenaltyPart, Fee as FeePart, Principal}
-use Rattle.mf_alloc.specs.Sums.{Sums, is_open}
+use Rattle.mf_alloc.specs.declared.row.Portion.TheVariants as portion
+use Rattle.mf_alloc.specs.declared.row.Portion.TheVariants.{Principal}
+use Rattle.mf_alloc.specs.Sums.{Instalment, is_open}
 use Rattle.mf_alloc.specs.Rows.{outstanding, row_at}
 use Rattle.mf_account.specs.declared.entry.Entry.{Entry}
 use Rattle.mf_account.specs.declared.entry.Kind.{Kind}
@@ -13,7 +14,7 @@ use Rattle.mf_account.specs.declared.entry.Kind.TheVariants.{Repay, Fee, Penalty
 use Rattle.mf_account.specs.Kinds.{is_seal, is_penalty}
 use Rattle.mf_account.specs.Applicable.{HasInstalment}
 use Rattle.mf_account.specs.Standing.{entry_at}
-use Rattle.mf_account.specs.Loan.{Loan, state_of_loan, status_of_loan}
+use Rattle.mf_account.specs.Loan.{DisbursedLoan, state_of_loan, status_of_loan}
 
 -- a write-off or a refund stands
 abbrev pub is_standing_seal : Entry → Bool
@@ -42,8 +43,8 @@ is_out_of_order WriteOff first last day = false
 is_out_of_order Refund first last day = false
 
 -- instalments are numbered from 1 to n
-abbrev pub is_there : ℕ → ℕ → Bool
-is_there n instalment = nat_le 1 instalment && nat_le instalment n
+abbrev pub is_instalment_number : ℕ → ℕ → Bool
+is_instalment_number n instalment = nat_le 1 instalment && nat_le instalment n
 
 -- a penalty that stands on an instalment
 abbrev pub is_penalty_on : ℕ → Entry → Bool
@@ -55,19 +56,19 @@ has_penalty entries instalment = list_any (is_penalty_on instalment) entries
 
 -- an instalment does not allow a penalty: there is no overdue charge, it is not yet overdue, nothing of it is
 -- outstanding, or a penalty stands on it
-abbrev pub forbids_penalty : Bool → Sums → List Entry → ℕ → ℕ → Bool
+abbrev pub forbids_penalty : Bool → Instalment → List Entry → ℕ → ℕ → Bool
 forbids_penalty charged row entries instalment business_day =
     not charged || (nat_le business_day row.due || (not (is_open row) || has_penalty entries instalment))
 
 -- the instalment does not allow it: it is not there, or does not allow a penalty; for a waiver also nothing is
 -- outstanding in the cell
-abbrev pub is_forbidden : Kind → Bool → List Sums → List Entry → Entry → ℕ → Bool
-is_forbidden Fee charged rows entries e business_day = not (is_there (length rows) e.instalment)
+abbrev pub is_forbidden : Kind → Bool → List Instalment → List Entry → Entry → ℕ → Bool
+is_forbidden Fee charged rows entries e business_day = not (is_instalment_number (length rows) e.instalment)
 is_forbidden Penalty charged rows entries e business_day =
-    not (is_there (length rows) e.instalment)
+    not (is_instalment_number (length rows) e.instalment)
     || forbids_penalty charged (row_at rows e.instalment) entries e.instalment business_day
 is_forbidden Waive charged rows entries e business_day =
-    not (is_there (length rows) e.instalment)
+    not (is_instalment_number (length rows) e.instalment)
     || (outstanding rows (record { instalment = e.instalment; portion = e.portion }) == 0)
 is_forbidden Repay charged rows entries e business_day = false
 is_forbidden WriteOff charged rows entries e business_day = false
@@ -83,7 +84,7 @@ is_out_of_limits WriteOff amount = false
 is_out_of_limits Refund amount = false
 
 -- why an entry is refused, the first reason that holds
-abbrev pub refusal_of : Loan → Entry → ℕ → Option Fault
+abbrev pub refusal_of : DisbursedLoan → Entry → ℕ → Option Fault
 refusal_of loan e business_day =
     if is_sealed loan.entries then Some F11
     else (if not (admits e.kind (status_of_loan loan)) then Some F9
@@ -97,7 +98,7 @@ refusal_of loan e business_day =
 -- a reversal of entry seq: it is not there, it is reversed, or another entry seals the loan
 abbrev pub reversal_refused : List Entry → ℕ → Option Fault
 reversal_refused entries seq =
-    if not (is_there (length entries) seq) then Some F12
+    if not (is_instalment_number (length entries) seq) then Some F12
     else (if (entry_at entries (seq - 1)).reversed then Some F13
     else (if is_sealed entries && not (is_seal (entry_at entries (seq - 1)).kind) then Some F11
     else None))
@@ -106,15 +107,17 @@ reversal_refused entries seq =
 -- unless it repays
 abbrev pub HasForm : Kind → ℕ → Entry → Type 0
 HasForm Repay business_day e = (1 ≤ e.amount) × (e.amount ≤ 10 ^ 12) × (e.instalment ≡ 0) × (e.portion ≡ Principal)
-HasForm Fee business_day e = (e.day ≡ business_day) × (e.portion ≡ FeePart) × (e.receipt ≡ None)
-HasForm Penalty business_day e = (e.day ≡ business_day) × (e.portion ≡ PenaltyPart) × (e.receipt ≡ None)
+HasForm Fee business_day e = (e.day ≡ business_day) × (e.portion ≡ portion.Fee) × (e.receipt ≡ None)
+HasForm Penalty business_day e = (e.day ≡ business_day) × (e.portion ≡ portion.Penalty) × (e.receipt ≡ None)
 HasForm Waive business_day e = (e.day ≡ business_day) × (e.amount ≡ 0) × (e.portion ≢ Principal) × (e.receipt ≡ None)
 HasForm WriteOff business_day e = (e.day ≡ business_day) × (e.amount ≡ 0) × (e.instalment ≡ 0) × (e.portion ≡ Principal)
     × (e.receipt ≡ None)
 HasForm Refund business_day e = (e.day ≡ business_day) × (e.amount ≡ 0) × (e.instalment ≡ 0) × (e.portion ≡ Principal)
     × (e.receipt ≡ None)
 
-pub record IsOffered (loan : Loan) (e : Entry) (business_day : ℕ) : Type 0 where
+-- what is asked of an entry that is handed in: it is the next and stands, no entry is dated after the business day,
+-- and it has the form of its kind
+pub record IsOffered (loan : DisbursedLoan) (e : Entry) (business_day : ℕ) : Type 0 where
   pub next : e.seq ≡ length loan.entries + 1
   pub stands : e.reversed ≡ false
   pub disbursed : loan.day ≤ business_day
@@ -122,7 +125,7 @@ pub record IsOffered (loan : Loan) (e : Entry) (business_day : ℕ) : Type 0 whe
   pub form : HasForm e.kind business_day e
 
 -- what no refusal says of an entry, whatever is kept of the account
-pub record IsAdmitted (loan : Loan) (e : Entry) (business_day : ℕ) : Type 0 where
+pub record IsEntryAdmitted (loan : DisbursedLoan) (e : Entry) (business_day : ℕ) : Type 0 where
   pub unsealed : is_sealed loan.entries ≡ false
   pub in_order : is_out_of_order e.kind loan.day business_day e.day ≡ false
   pub there : HasInstalment e.kind e loan.periods

@@ -2,7 +2,7 @@
 -- entry.
 use Rattle.std.specs.Prelude.{◌≡◌, ℕ, ◌+◌, ◌≤◌, ◌^◌, List, length}
 use Rattle.mf_alloc.specs.Sums.{AreWhole, AreWithin}
-use Rattle.mf_account.specs.declared.settled.Settled.{Settled}
+use Rattle.mf_account.specs.declared.settled.SettledPart.{SettledPart}
 use Rattle.mf_account.specs.Effect.{State}
 use Rattle.mf_account.specs.Account.{sum_at}
 use Rattle.mf_account.specs.Applicable.{AreInRows}
@@ -27,12 +27,12 @@ pub record IsBounded (n most : ℕ) (state : State) : Type 0 where
   pub money : state.overpaid + state.refunded ≤ most
 
 -- parts of cells of n instalments and of so many entries
-pub record ArePlaced (n entries : ℕ) (settled : List Settled) : Type 0 where
+pub record ArePlaced (n entries : ℕ) (settled : List SettledPart) : Type 0 where
   pub cells : AreInRows n settled
   pub numbers : AreNumberedTo entries settled
   pub amount : settled_amount settled ≤ most_kept
 
 -- what is kept of an account of n instalments and so many entries
-pub record IsSafe (n entries : ℕ) (state : State) (settled : List Settled) : Type 0 where
+pub record IsSafe (n entries : ℕ) (state : State) (settled : List SettledPart) : Type 0 where
   pub bounded : IsBounded n most_kept state
   pub placed : ArePlaced n entries settled

@@ -73,5 +73,5 @@ places_from k (e ∷ es) = if e.reversed then places_from (k + 1) es else record
     ∷ places_from (k + 1) es
 
 -- no place stands twice
-abbrev pub AreApart : List ℕ → Type 0
-AreApart order = (i j : ℕ) → i < j → j < length order → slice_index order i ≢ slice_index order j
+abbrev pub AreDistinct : List ℕ → Type 0
+AreDistinct order = (i j : ℕ) → i < j → j < length order → slice_index order i ≢ slice_index order j

@@ -3,11 +3,11 @@
 
 ghost use Rattle.std.specs.Prelude.{◌≡◌, ◌≢◌, ℕ, ◌*◌, ◌≤◌, ◌++◌, IfOk, IfSome, IsTrue, IsOkUnless, None, length, take};
 ghost use Rattle.mf_account.specs.Standing.{standing_entries};
-ghost use Rattle.mf_account.specs.Change.{Account, IsChange, IsReplayed};
-ghost use Rattle.mf_account.specs.Loan.{Loan as LoanRecord, IsKept, IsSound, settled_of_loan};
+ghost use Rattle.mf_account.specs.Change.{KeptAccount, IsChange, IsReplayed};
+ghost use Rattle.mf_account.specs.Loan.{DisbursedLoan, IsKept, IsSoundDisbursed, settled_of_loan};
 ghost use Rattle.mf_account.specs.Rewind.{IsRedone, state_before, settled_upto};
 ghost use Rattle.mf_account.specs.Safe.{most_kept, IsShaped, IsBounded};
-ghost use Rattle.mf_account.specs.Refusals.{is_sealed as is_sealed_by};
+ghost use Rattle.mf_account.specs.Refusals.{is_sealed};
 ghost use Rattle.mf_account.specs.Told.{settled_amount};
 
 mod entered;
@@ -16,13 +16,13 @@ mod reversed;
 mod shown;
 
 use crate::change::{Change, change_between};
-use crate::loan::Loan;
+use crate::loan::DisbursedLoan;
 use crate::refusal::is_sealed;
 use crate::rewind::rewind_to;
 use crate::safe::{is_amount_within, is_bounded};
-use crate::settled::{Book, Settled};
+use crate::settled::{Book, SettledPart};
 use mf_base::Fault;
-use mf_schedule::Instalment;
+use mf_schedule::FreshInstalment;
 use std::alloc::Global;
 use std::marker::Model;
 
@@ -30,13 +30,13 @@ use std::marker::Model;
 /// kept. Where these are what a replay gives (`IsReplayed`) they are the effects of the standing entries, in order of
 /// day and number, on the fresh schedule with nothing paid; and so they stay. No call rests on that to be safe.
 pub struct LoanAccount {
-    loan: Loan,
+    loan: DisbursedLoan,
     /// Where the standing entries are among all, in their order, so that no call goes over those before a change.
     order: Vec<usize>,
-    schedule: Vec<Instalment>,
+    schedule: Vec<FreshInstalment>,
     disbursement_fee: u64,
     book: Book,
-    settled: Vec<Settled>,
+    settled: Vec<SettledPart>,
     change: Change,
 }
 
@@ -56,7 +56,7 @@ impl Drop for LoanAccount {
 }
 
 impl Model for LoanAccount {
-    ghost Value = { Account };
+    ghost Value = { KeptAccount };
 
     ghost view = { λ a. record {
       loan = a.loan;
@@ -71,7 +71,7 @@ impl Model for LoanAccount {
 impl LoanAccount {
     /// Whether a write-off or a refund stands.
     fn is_sealed(&self) -> bool
-        ensures { result ≡ is_sealed_by self.now.loan.entries }
+        ensures { result ≡ is_sealed self.now.loan.entries }
     {
         is_sealed(self.loan.entries(), &self.order)
     }
@@ -86,7 +86,7 @@ impl LoanAccount {
             × (take both.1 (settled_of_loan self.now.loan) ≡ settled_upto self.now.loan place)) }
         ensures only { IsOkUnless result Fault.F20 }
     {
-        let mut book = self.book.copied(alloc)?;
+        let mut book = self.book.copy(alloc)?;
         match self.rewind_copy(&mut book, place) {
             Some(kept) => Ok((book, kept)),
             None => Err(Fault::F20),
@@ -111,13 +111,13 @@ impl LoanAccount {
 
     /// Whether a book, and parts behind the first ones, of which so many stay, come to no more than is kept. What a
     /// change leads to always does where the account is a replay's.
-    fn is_within_bounds(&self, book: &Book, kept: usize, parts: &[Settled]) -> bool
+    fn is_within_bounds(&self, book: &Book, kept: usize, parts: &[SettledPart]) -> bool
         requires within { kept ≤ length self.now.settled }
         ensures book { (n : ℕ) → IsShaped n book.now → IsTrue result → IsBounded n most_kept book.now }
         ensures parts { IsTrue result → settled_amount (take kept self.now.settled ++ parts.now) ≤ most_kept }
         ensures exact { (n : ℕ) → IsBounded n most_kept book.now
             → settled_amount (take kept self.now.settled ++ parts.now) ≤ most_kept → IsTrue result }
-        ensures replayed { IsReplayed self.now → (new : LoanRecord) → IsSound new
+        ensures replayed { IsReplayed self.now → (new : DisbursedLoan) → IsSoundDisbursed new
             → IsRedone self.now.loan new book.now kept parts.now → IsTrue result }
     {
         is_bounded(book) && is_amount_within(&self.settled[..kept], parts)
@@ -129,11 +129,12 @@ impl LoanAccount {
         alloc: Global,
         book: &Book,
         kept: usize,
-        parts: &[Settled],
+        parts: &[SettledPart],
     ) -> Result<Change, Fault>
         requires size { length book.now.rows ≡ self.now.loan.periods }
         requires within { kept ≤ length self.now.settled }
-        ensures change { IsReplayed self.now → (new : LoanRecord) → IsSound new → new.periods ≡ self.now.loan.periods
+        ensures change { IsReplayed self.now → (new : DisbursedLoan) → IsSoundDisbursed new
+            → new.periods ≡ self.now.loan.periods
             → length self.now.loan.entries ≤ length new.entries → IsRedone self.now.loan new book.now kept parts.now
             → IfOk result (IsChange self.now.loan new) }
         ensures only { IsOkUnless result Fault.F20 }

@@ -2,15 +2,15 @@
 
 ghost use Rattle.std.specs.Prelude.{◌≡◌, ℕ, ◌≤◌, IfOk, OnOk, IsOkUnless, length, vec_len};
 ghost use Rattle.mf_alloc.specs.Order.{order_at};
-ghost use Rattle.mf_account.specs.Effect.{after, parts_of, with_charge, parts_cleared};
+ghost use Rattle.mf_account.specs.Effect.{after_entry, parts_of, with_charge, parts_cleared};
 ghost use Rattle.mf_account.specs.AtOnce.{with_cleared};
 ghost use Rattle.mf_account.specs.Account.{parts_numbered};
 ghost use Rattle.mf_account.specs.Applicable.{HasRow, IsApplicable};
 
 use crate::effect::{add_paid, charge_and_clear, money_in, money_out};
 use crate::entry::Entry;
-use crate::settled::{Book, Settled};
-use mf_alloc::{Row, Strategy, pay};
+use crate::settled::{Book, SettledPart};
+use mf_alloc::{Instalment, Strategy, pay};
 use mf_base::Fault;
 use std::alloc::Global;
 
@@ -18,9 +18,9 @@ use std::alloc::Global;
 fn charge_and_clear_in<T: Strategy>(
     alloc: Global,
     strategy: &T,
-    rows: &mut Vec<Row>,
+    rows: &mut Vec<Instalment>,
     entry: &Entry,
-) -> Result<Vec<Settled>, Fault>
+) -> Result<Vec<SettledPart>, Fault>
     requires few { length rows.old.items ≤ 360 }
     requires row { HasRow entry.now.kind entry.now rows.old.items }
     ensures rows { OnOk result (rows.new.items ≡ with_cleared (order_at (T.cell_at strategy.now) rows.old.items
@@ -41,10 +41,10 @@ pub(crate) fn apply_entry<T: Strategy>(
     strategy: &T,
     book: &mut Book,
     entry: &Entry,
-) -> Result<Vec<Settled>, Fault>
+) -> Result<Vec<SettledPart>, Fault>
     requires few { length book.old.rows ≤ 360 }
     requires fits { IsApplicable entry.now (book.old) }
-    ensures state { OnOk result (book.new ≡ after (order_at (T.cell_at strategy.now) book.old.rows entry.now.day)
+    ensures state { OnOk result (book.new ≡ after_entry (order_at (T.cell_at strategy.now) book.old.rows entry.now.day)
         entry.now (book.old)) }
     ensures only { IsOkUnless result Fault.F20 }
     ensures parts { IfOk result (λ parts. parts.items ≡ parts_numbered entry.now.seq 1

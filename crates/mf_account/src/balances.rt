@@ -3,9 +3,9 @@
 ghost use Rattle.std.specs.Prelude.{◌≡◌, ℕ, ◌<◌, ◌^◌, ◌∷◌, []};
 ghost use Rattle.mf_alloc.specs.Rows.{place_in_row};
 ghost use Rattle.mf_account.specs.Account.{sum_at};
-ghost use Rattle.mf_account.specs.Balance.{column_of, columns_of, open_in, balances_by, HasRoom};
+ghost use Rattle.mf_account.specs.Balance.{column_of, portion_sums, open_in, balances_by, HasRoom};
 
-use mf_alloc::{Portion, Row};
+use mf_alloc::{Instalment, Portion};
 
 /// A loan's sums over all its instalments, in whole cents. The lists are in the order of `Portion`.
 #[derive(Clone, Copy, PartialEq, Eq)]
@@ -31,7 +31,7 @@ pub(crate) enum Column {
 }
 
 /// A row's sum by portion.
-fn sums_of(row: &Row, column: Column) -> [u64; 4]
+fn sums_of(row: &Instalment, column: Column) -> [u64; 4]
     ensures { result ≡ column_of column row.now }
 {
     match column {
@@ -43,7 +43,7 @@ fn sums_of(row: &Row, column: Column) -> [u64; 4]
 }
 
 /// A sum of all rows, of a portion by its place.
-fn sum_of_portion(rows: &[Row], column: Column, p: usize) -> u64
+fn sum_of_portion(rows: &[Instalment], column: Column, p: usize) -> u64
     requires small { p < 4 }
     requires room { sum_at (column_of column) p rows.now < 2 ^ 64 }
     ensures { result ≡ sum_at (column_of column) p rows.now }
@@ -52,9 +52,9 @@ fn sum_of_portion(rows: &[Row], column: Column, p: usize) -> u64
 }
 
 /// A sum of all rows, by portion.
-pub(crate) fn sum_by_portion(rows: &[Row], column: Column) -> [u64; 4]
+pub(crate) fn sum_by_portion(rows: &[Instalment], column: Column) -> [u64; 4]
     requires { HasRoom rows.now }
-    ensures { result ≡ columns_of (column_of column) rows.now }
+    ensures { result ≡ portion_sums (column_of column) rows.now }
 {
     [
         sum_of_portion(rows, column, 0),
@@ -65,7 +65,7 @@ pub(crate) fn sum_by_portion(rows: &[Row], column: Column) -> [u64; 4]
 }
 
 /// What is outstanding of a portion.
-fn outstanding_at(rows: &[Row], portion: Portion) -> u64
+fn outstanding_at(rows: &[Instalment], portion: Portion) -> u64
     requires { open_in (place_in_row portion) rows.now < 2 ^ 64 }
     ensures { result ≡ open_in (place_in_row portion) rows.now }
 {
@@ -73,7 +73,7 @@ fn outstanding_at(rows: &[Row], portion: Portion) -> u64
 }
 
 /// What is outstanding, by portion.
-fn all_outstanding(rows: &[Row]) -> [u64; 4]
+fn all_outstanding(rows: &[Instalment]) -> [u64; 4]
     requires { HasRoom rows.now }
     ensures { result ≡ open_in 0 rows.now ∷ open_in 1 rows.now ∷ open_in 2 rows.now ∷ open_in 3 rows.now ∷ [] }
 {
@@ -87,7 +87,7 @@ fn all_outstanding(rows: &[Row]) -> [u64; 4]
 
 /// The sums of all instalments, beside what is overpaid, refunded and charged at disbursement.
 pub(crate) fn book_sums(
-    rows: &[Row],
+    rows: &[Instalment],
     overpaid: u64,
     refunded: u64,
     disbursement_fee: u64,

@@ -3,12 +3,12 @@
 ghost use Rattle.std.specs.Prelude.{◌≡◌, ◌≢◌, ℕ, ◌<◌, ◌≤◌, ◌↔◌, ◌⊎◌, true, IfOk, IsOkUnless, length, drop};
 ghost use Rattle.std.specs.Prelude.{slice_index_or};
 ghost use Rattle.std.specs.List.Sorted.{IsNonDecreasingBy};
-ghost use Rattle.mf_account.specs.declared.settled.Settled.{Settled as SettledRecord};
+ghost use Rattle.mf_account.specs.declared.settled.SettledPart.{SettledPart};
 ghost use Rattle.mf_account.specs.Change.{AreThose, AreAll, HasOtherRow, HasOtherParts, settled_in, no_change};
 ghost use Rattle.mf_account.specs.Applicable.{no_settled};
 
-use crate::settled::{Book, Settled};
-use mf_alloc::Row;
+use crate::settled::{Book, SettledPart};
+use mf_alloc::Instalment;
 use mf_base::Fault;
 use std::alloc::Global;
 use std::marker::Model;
@@ -36,7 +36,7 @@ impl Model for Change {
 }
 
 /// No change.
-pub(crate) fn unchanged(alloc: Global) -> Change
+pub(crate) fn no_change(alloc: Global) -> Change
     ensures { result ≡ no_change }
 {
     Change {
@@ -46,14 +46,14 @@ pub(crate) fn unchanged(alloc: Global) -> Change
 }
 
 /// Whether two rows are the same.
-fn is_same_row(before: &Row, after: &Row) -> bool
+fn is_same_row(before: &Instalment, after: &Instalment) -> bool
     ensures { (result ≡ true) ↔ (before.now ≡ after.now) }
 {
     before == after
 }
 
 /// Whether an instalment's rows differ.
-fn has_other_row(before: &[Row], after: &[Row], instalment: u32) -> bool
+fn has_other_row(before: &[Instalment], after: &[Instalment], instalment: u32) -> bool
     requires first { 1 ≤ instalment }
     requires before { instalment ≤ length before.now }
     requires after { instalment ≤ length after.now }
@@ -64,7 +64,11 @@ fn has_other_row(before: &[Row], after: &[Row], instalment: u32) -> bool
 }
 
 /// The instalments whose rows differ.
-pub(crate) fn changed_rows(alloc: Global, before: &[Row], after: &[Row]) -> Result<Vec<u32>, Fault>
+pub(crate) fn changed_rows(
+    alloc: Global,
+    before: &[Instalment],
+    after: &[Instalment],
+) -> Result<Vec<u32>, Fault>
     requires few { length before.now ≤ 360 }
     requires size { length after.now ≡ length before.now }
     ensures rows { IfOk result (λ rows. AreThose (length before.now) (HasOtherRow before.now after.now) rows.items) }
@@ -81,7 +85,7 @@ pub(crate) fn changed_rows(alloc: Global, before: &[Row], after: &[Row]) -> Resu
 }
 
 /// The place of an entry's next part, from a place on.
-fn next_own(parts: &[Settled], from: usize, seq: u32) -> usize
+fn next_own(parts: &[SettledPart], from: usize, seq: u32) -> usize
     requires { from ≤ length parts.now }
     ensures from { from ≤ result }
     ensures within { result ≤ length parts.now }
@@ -96,14 +100,14 @@ fn next_own(parts: &[Settled], from: usize, seq: u32) -> usize
 }
 
 /// Whether two parts are the same.
-fn is_same_part(before: &Settled, after: &Settled) -> bool
+fn is_same_part(before: &SettledPart, after: &SettledPart) -> bool
     ensures { (result ≡ true) ↔ (before.now ≡ after.now) }
 {
     before == after
 }
 
 /// Whether the parts at two places are the same.
-fn is_same_at(before: &[Settled], i: usize, after: &[Settled], k: usize) -> bool
+fn is_same_at(before: &[SettledPart], i: usize, after: &[SettledPart], k: usize) -> bool
     requires before { i < length before.now }
     requires after { k < length after.now }
     ensures { (result ≡ true) ↔ (slice_index_or before.now i no_settled ≡ slice_index_or after.now k no_settled) }
@@ -112,7 +116,7 @@ fn is_same_at(before: &[Settled], i: usize, after: &[Settled], k: usize) -> bool
 }
 
 /// Whether an entry has the same parts in two lists.
-fn has_same_parts(before: &[Settled], after: &[Settled], seq: u32) -> bool
+fn has_same_parts(before: &[SettledPart], after: &[SettledPart], seq: u32) -> bool
     ensures { (result ≡ true) ↔ (settled_in seq before.now ≡ settled_in seq after.now) }
 {
     let mut i = next_own(before, 0, seq);
@@ -128,9 +132,9 @@ fn has_same_parts(before: &[Settled], after: &[Settled], seq: u32) -> bool
 }
 
 /// Parts by the numbers of their entries, those of one entry in the order that they had.
-fn by_entry(alloc: Global, parts: &[Settled]) -> Result<Vec<Settled>, Fault>
+fn by_entry(alloc: Global, parts: &[SettledPart]) -> Result<Vec<SettledPart>, Fault>
     ensures same { IfOk result (λ sorted. (seq : ℕ) → settled_in seq sorted.items ≡ settled_in seq parts.now) }
-    ensures ascend { IfOk result (λ sorted. IsNonDecreasingBy (λ (s : SettledRecord). s.seq) sorted.items) }
+    ensures ascend { IfOk result (λ sorted. IsNonDecreasingBy (λ (s : SettledPart). s.seq) sorted.items) }
     ensures only { IsOkUnless result Fault.F20 }
 {
     let mut sorted = Vec::from_slice(alloc, parts)?;
@@ -139,9 +143,9 @@ fn by_entry(alloc: Global, parts: &[Settled]) -> Result<Vec<Settled>, Fault>
 }
 
 /// The least number that a part has, from a place on in one or the other of two lists by entry.
-fn least_seq(before: &[Settled], i: usize, after: &[Settled], k: usize) -> u32
-    requires before { IsNonDecreasingBy (λ (s : SettledRecord). s.seq) before.now }
-    requires after { IsNonDecreasingBy (λ (s : SettledRecord). s.seq) after.now }
+fn least_seq(before: &[SettledPart], i: usize, after: &[SettledPart], k: usize) -> u32
+    requires before { IsNonDecreasingBy (λ (s : SettledPart). s.seq) before.now }
+    requires after { IsNonDecreasingBy (λ (s : SettledPart). s.seq) after.now }
     requires some { length before.now ≤ i → k < length after.now }
     ensures before { (j : ℕ) → i ≤ j → j < length before.now → result ≤ (slice_index_or before.now j no_settled).seq }
     ensures after { (j : ℕ) → k ≤ j → j < length after.now → result ≤ (slice_index_or after.now j no_settled).seq }
@@ -158,7 +162,7 @@ fn least_seq(before: &[Settled], i: usize, after: &[Settled], k: usize) -> u32
 }
 
 /// Where the parts of an entry end, from a place on.
-fn own_end(parts: &[Settled], from: usize, seq: u32) -> usize
+fn own_end(parts: &[SettledPart], from: usize, seq: u32) -> usize
     requires { from ≤ length parts.now }
     ensures from { from ≤ result }
     ensures within { result ≤ length parts.now }
@@ -173,9 +177,13 @@ fn own_end(parts: &[Settled], from: usize, seq: u32) -> usize
 }
 
 /// The entries whose parts differ between two lists by entry.
-fn differing_seqs(alloc: Global, before: &[Settled], after: &[Settled]) -> Result<Vec<u32>, Fault>
-    requires before { IsNonDecreasingBy (λ (s : SettledRecord). s.seq) before.now }
-    requires after { IsNonDecreasingBy (λ (s : SettledRecord). s.seq) after.now }
+fn differing_seqs(
+    alloc: Global,
+    before: &[SettledPart],
+    after: &[SettledPart],
+) -> Result<Vec<u32>, Fault>
+    requires before { IsNonDecreasingBy (λ (s : SettledPart). s.seq) before.now }
+    requires after { IsNonDecreasingBy (λ (s : SettledPart). s.seq) after.now }
     ensures seqs { IfOk result (λ seqs. AreAll (HasOtherParts before.now after.now) seqs.items) }
     ensures only { IsOkUnless result Fault.F20 }
 {
@@ -198,8 +206,8 @@ fn differing_seqs(alloc: Global, before: &[Settled], after: &[Settled]) -> Resul
 /// The entries whose parts differ. Only the parts given are gone over, so it costs what they come to and no more.
 pub(crate) fn changed_seqs(
     alloc: Global,
-    before: &[Settled],
-    after: &[Settled],
+    before: &[SettledPart],
+    after: &[SettledPart],
 ) -> Result<Vec<u32>, Fault>
     ensures seqs { IfOk result (λ seqs. AreAll (HasOtherParts before.now after.now) seqs.items) }
     ensures only { IsOkUnless result Fault.F20 }
@@ -213,9 +221,9 @@ pub(crate) fn changed_seqs(
 pub(crate) fn change_between(
     alloc: Global,
     before: &Book,
-    settled_before: &[Settled],
+    settled_before: &[SettledPart],
     after: &Book,
-    settled_after: &[Settled],
+    settled_after: &[SettledPart],
 ) -> Result<Change, Fault>
     requires few { length before.now.rows ≤ 360 }
     requires size { length after.now.rows ≡ length before.now.rows }

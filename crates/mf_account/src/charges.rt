@@ -8,17 +8,17 @@ ghost use Rattle.mf_account.specs.Charges.{fee_on, instalment_from, is_due_from,
 
 use mf_base::Day;
 use mf_catalog::{ChargeDef, ChargeKind, charge_amount};
-use mf_schedule::Instalment;
+use mf_schedule::FreshInstalment;
 
 /// The place of the first instalment that is due on a day or after it.
-fn place_due(schedule: &[Instalment], day: Day) -> Option<usize>
+fn place_due(schedule: &[FreshInstalment], day: Day) -> Option<usize>
     ensures { result ≡ position (is_due_from day) schedule.now }
 {
     schedule.iter().position(|instalment| day <= instalment.due)
 }
 
 /// The number of the first instalment that is due on a day or after it, else of the last.
-pub(crate) fn instalment_due(schedule: &[Instalment], day: Day) -> u32
+pub(crate) fn instalment_due(schedule: &[FreshInstalment], day: Day) -> u32
     requires few { length schedule.now ≤ 360 }
     ensures { result ≡ instalment_from (length schedule.now) day schedule.now }
 {
@@ -30,7 +30,7 @@ pub(crate) fn instalment_due(schedule: &[Instalment], day: Day) -> u32
 
 /// What a charge comes to as a fee: on the principal and on the interest of the whole schedule. 0 where the charge is
 /// of another kind than those that fall due on a day of their own.
-pub(crate) fn fee(charge: &ChargeDef, principal: u64, schedule: &[Instalment]) -> u64
+pub(crate) fn fee(charge: &ChargeDef, principal: u64, schedule: &[FreshInstalment]) -> u64
     requires value { IsChargeWithinLimits charge.now }
     requires principal { principal ≤ greatest_amount }
     requires interest { total_interest schedule.now < 2 ^ 62 }
@@ -45,7 +45,11 @@ pub(crate) fn fee(charge: &ChargeDef, principal: u64, schedule: &[Instalment]) -
 
 /// What an overdue charge comes to on an instalment as it was scheduled. 0 where there is no such charge or no such
 /// instalment.
-pub(crate) fn penalty(charge: &Option<ChargeDef>, schedule: &[Instalment], instalment: u32) -> u64
+pub(crate) fn penalty(
+    charge: &Option<ChargeDef>,
+    schedule: &[FreshInstalment],
+    instalment: u32,
+) -> u64
     requires numbered { 1 ≤ instalment }
     requires value { IfSome charge.now IsChargeWithinLimits }
     requires owed { total_owed schedule.now < 2 ^ 62 }

@@ -4,22 +4,22 @@ ghost use Rattle.std.specs.Prelude.{◌≡◌, ℕ, ◌+◌, ◌-◌, ◌*◌, �
 ghost use Rattle.std.specs.Prelude.{vec_len, map, filter, [], ◌∷◌};
 ghost use Rattle.std.specs.List.{range_with_len};
 ghost use Rattle.mf_alloc.specs.Order.{order_at};
-ghost use Rattle.mf_alloc.specs.Rows.{IsCell, outstanding as open_in};
-ghost use Rattle.mf_account.specs.Kinds.{money_in as money_of, money_out as money_back};
-ghost use Rattle.mf_account.specs.Effect.{with_charge, settle as settled_rows, with_settled, parts_by, parts_cleared};
+ghost use Rattle.mf_alloc.specs.Rows.{IsCell, outstanding};
+ghost use Rattle.mf_account.specs.Kinds.{money_in, money_out};
+ghost use Rattle.mf_account.specs.Effect.{with_charge, settle, with_settled, parts_by, parts_cleared};
 ghost use Rattle.mf_account.specs.Effect.{whole_part, is_some_part};
 ghost use Rattle.mf_account.specs.AtOnce.{with_cleared, paid_part};
 ghost use Rattle.mf_account.specs.Account.{parts_numbered, part_of};
 ghost use Rattle.mf_account.specs.Applicable.{HasRow, HasCell, IsSettleable};
 
 use crate::entry::{Entry, Kind};
-use crate::settled::{How, Settled};
-use mf_alloc::{Cell, Portion, Row, Share, Strategy, due_by, outstanding};
+use crate::settled::{How, SettledPart};
+use mf_alloc::{Cell, Instalment, Portion, Share, Strategy, due_by, outstanding};
 use mf_base::Fault;
 use std::alloc::Global;
 
 /// Adds a fee or penalty to what its cell owes.
-pub(crate) fn charge(rows: &mut [Row], entry: &Entry)
+pub(crate) fn charge(rows: &mut [Instalment], entry: &Entry)
     requires { HasRow entry.now.kind entry.now rows.old }
     ensures { rows.new ≡ with_charge entry.now.kind entry.now rows.old }
 {
@@ -37,10 +37,10 @@ pub(crate) fn charge(rows: &mut [Row], entry: &Entry)
 }
 
 /// Settles one part.
-fn settle(rows: &mut [Row], part: Settled)
+fn settle(rows: &mut [Instalment], part: SettledPart)
     requires there { IsCell (length rows.old) part.cell }
-    requires fits { part.amount ≤ open_in rows.old part.cell }
-    ensures { rows.new ≡ settled_rows rows.old (part_of part) }
+    requires fits { part.amount ≤ outstanding rows.old part.cell }
+    ensures { rows.new ≡ settle rows.old (part_of part) }
 {
     let row = &mut rows[(part.cell.instalment - 1) as usize];
     let p = part.cell.portion.index();
@@ -52,7 +52,7 @@ fn settle(rows: &mut [Row], part: Settled)
 }
 
 /// Settles all parts, first to last.
-pub(crate) fn settle_all(rows: &mut [Row], parts: &[Settled])
+pub(crate) fn settle_all(rows: &mut [Instalment], parts: &[SettledPart])
     requires { IsSettleable rows.old (map part_of parts.now) }
     ensures { rows.new ≡ with_settled rows.old (map part_of parts.now) }
 {
@@ -63,7 +63,7 @@ pub(crate) fn settle_all(rows: &mut [Row], parts: &[Settled])
 
 /// What an entry brings.
 pub(crate) fn money_in(kind: Kind, amount: u64) -> u64
-    ensures { result ≡ money_of kind amount }
+    ensures { result ≡ money_in kind amount }
 {
     match kind {
         Kind::Repay => amount,
@@ -73,7 +73,7 @@ pub(crate) fn money_in(kind: Kind, amount: u64) -> u64
 
 /// What a refund gives back.
 pub(crate) fn money_out(kind: Kind, overpaid: u64) -> u64
-    ensures value { result ≡ money_back kind overpaid }
+    ensures value { result ≡ money_out kind overpaid }
     ensures most { result ≤ overpaid }
 {
     match kind {
@@ -84,10 +84,10 @@ pub(crate) fn money_out(kind: Kind, overpaid: u64) -> u64
 
 /// Adds a part with all that is outstanding in a cell, if there is any.
 fn push_whole(
-    parts: &mut Vec<Settled>,
+    parts: &mut Vec<SettledPart>,
     seq: u32,
     how: How,
-    rows: &[Row],
+    rows: &[Instalment],
     cell: Cell,
 ) -> Result<(), Fault>
     requires there { IsCell (length rows.now) cell }
@@ -100,7 +100,7 @@ fn push_whole(
     let amount = outstanding(rows, cell);
     if amount > 0 {
         let place = parts.len() as u32 + 1;
-        parts.push(Settled {
+        parts.push(SettledPart {
             seq,
             place,
             cell,
@@ -115,9 +115,9 @@ fn push_whole(
 fn write_off<T: Strategy>(
     alloc: Global,
     strategy: &T,
-    rows: &[Row],
+    rows: &[Instalment],
     entry: &Entry,
-) -> Result<Vec<Settled>, Fault>
+) -> Result<Vec<SettledPart>, Fault>
     requires { length rows.now ≤ 360 }
     ensures few { IfOk result (λ parts. vec_len parts ≤ 4 * length rows.now) }
     ensures only { IsOkUnless result Fault.F20 }
@@ -139,9 +139,9 @@ fn write_off<T: Strategy>(
 pub(crate) fn clear<T: Strategy>(
     alloc: Global,
     strategy: &T,
-    rows: &[Row],
+    rows: &[Instalment],
     entry: &Entry,
-) -> Result<Vec<Settled>, Fault>
+) -> Result<Vec<SettledPart>, Fault>
     requires few { length rows.now ≤ 360 }
     requires row { HasCell entry.now.kind entry.now (length rows.now) }
     ensures parts { IfOk result (λ parts. parts.items ≡ parts_numbered entry.now.seq 1
@@ -166,7 +166,11 @@ pub(crate) fn clear<T: Strategy>(
 }
 
 /// Adds the parts of a payment.
-pub(crate) fn add_paid(parts: &mut Vec<Settled>, seq: u32, shares: &[Share]) -> Result<(), Fault>
+pub(crate) fn add_paid(
+    parts: &mut Vec<SettledPart>,
+    seq: u32,
+    shares: &[Share],
+) -> Result<(), Fault>
     requires few { vec_len parts.old + length shares.now < 2 ^ 31 }
     ensures parts { OnOk result (parts.new.items ≡ parts.old.items ++ parts_numbered seq (1 + length parts.old.items)
         (map paid_part shares.now)) }
@@ -174,7 +178,7 @@ pub(crate) fn add_paid(parts: &mut Vec<Settled>, seq: u32, shares: &[Share]) -> 
 {
     for share in shares {
         let place = parts.len() as u32 + 1;
-        parts.push(Settled {
+        parts.push(SettledPart {
             seq,
             place,
             cell: share.cell,
@@ -189,9 +193,9 @@ pub(crate) fn add_paid(parts: &mut Vec<Settled>, seq: u32, shares: &[Share]) -> 
 pub(crate) fn charge_and_clear<T: Strategy>(
     alloc: Global,
     strategy: &T,
-    rows: &mut [Row],
+    rows: &mut [Instalment],
     entry: &Entry,
-) -> Result<Vec<Settled>, Fault>
+) -> Result<Vec<SettledPart>, Fault>
     requires few { length rows.old ≤ 360 }
     requires row { HasRow entry.now.kind entry.now rows.old }
     ensures rows { OnOk result (rows.new ≡ with_cleared (order_at (T.cell_at strategy.now) rows.old entry.now.day)

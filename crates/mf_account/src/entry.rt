@@ -25,11 +25,11 @@ pub enum Kind {
 }
 
 impl Kind {
-    ghost use Rattle.mf_account.specs.Kinds.{is_seal as is_seal_kind};
+    ghost use Rattle.mf_account.specs.Kinds.{is_seal};
 
     /// Whether an entry of this kind seals the loan while it stands: a write-off or a refund.
     pub fn is_seal(self) -> bool
-        ensures { result ≡ is_seal_kind self }
+        ensures { result ≡ is_seal self }
     {
         matches!(self, Kind::WriteOff | Kind::Refund)
     }

@@ -3,7 +3,7 @@
 ghost use Rattle.std.specs.Prelude.{◌≡◌, ◌==◌};
 ghost use Rattle.std.specs.List.{list_any};
 ghost use Rattle.mf_alloc.specs.Sums.{is_open};
-ghost use Rattle.mf_account.specs.Loan.{Loan, IsSound, state_of_loan, status_of_loan};
+ghost use Rattle.mf_account.specs.Loan.{DisbursedLoan, IsSoundDisbursed, state_of_loan, status_of_loan};
 ghost use Rattle.mf_account.specs.StandingLaw.{StandingIsOne};
 ghost use Rattle.mf_account.specs.ClearingLaw.{WritesOffByCells, WaivesOneCell};
 ghost use Rattle.mf_account.specs.Rewind.{TailsCanBeRewound};
@@ -36,7 +36,8 @@ pub fn clearing_goes_by_cells()
 /// A loan has status 300 exactly where something is outstanding in one of its instalments: a write-off that stands is
 /// its last standing entry, and leaves nothing outstanding.
 pub fn active_loans_owe()
-    ensures { (loan : Loan) → IsSound loan → (status_of_loan loan == 300) ≡ list_any is_open (state_of_loan loan).rows }
+    ensures { (loan : DisbursedLoan) → IsSoundDisbursed loan → (status_of_loan loan == 300)
+        ≡ list_any is_open (state_of_loan loan).rows }
 {}
 
 /// While something of a sound loan is outstanding, nothing is overpaid and nothing refunded: a refund that stands is

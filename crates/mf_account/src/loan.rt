@@ -1,19 +1,19 @@
 //! A disbursed loan: what it was disbursed on, and its entries.
 
 ghost use Rattle.std.specs.Prelude.{◌≡◌, ◌<◌, ◌++◌, ◌∷◌, [], IfOk, IsOkUnless, IsTrue, OnErr, OnOk, length, true};
-ghost use Rattle.mf_account.specs.Loan.{IsSound, fee_of_loan, schedule_of};
+ghost use Rattle.mf_account.specs.Loan.{IsSoundDisbursed, fee_of_loan, schedule_of};
 ghost use Rattle.mf_account.specs.Standing.{with_mark};
 
 use crate::entry::Entry;
 use crate::lawful::{are_entries, can_be_entered, is_loan_within_limits};
 use mf_base::{Day, Fault};
 use mf_catalog::{StrategyName, Terms};
-use mf_schedule::{Instalment, disbursement_fee, fresh};
+use mf_schedule::{FreshInstalment, disbursement_fee, fresh};
 use std::alloc::Global;
 use std::marker::Model;
 
 /// A disbursed loan. All else that is told of it is worked out from these.
-pub struct Loan {
+pub struct DisbursedLoan {
     pub terms: Terms,
     /// What was lent, in whole cents.
     pub principal: u64,
@@ -26,9 +26,9 @@ pub struct Loan {
 }
 
 // By hand, since a derived drop is proved again in each function that may drop one.
-impl Drop for Loan {
+impl Drop for DisbursedLoan {
     fn drop(self) {
-        let Loan {
+        let DisbursedLoan {
             terms: _,
             principal: _,
             periods: _,
@@ -38,10 +38,10 @@ impl Drop for Loan {
     }
 }
 
-impl Model for Loan {
-    ghost use Rattle.mf_account.specs.Loan.{Loan as LoanRecord};
+impl Model for DisbursedLoan {
+    ghost use Rattle.mf_account.specs.Loan.{DisbursedLoan};
 
-    ghost Value = { LoanRecord };
+    ghost Value = { DisbursedLoan };
 
     ghost view = { λ l. record {
       terms = l.terms;
@@ -52,11 +52,11 @@ impl Model for Loan {
     } };
 }
 
-impl Loan {
+impl DisbursedLoan {
     /// Whether its terms and sums lie within the limits, its day can be entered, and its entries are those of one loan.
     pub(crate) fn is_lawful(&self) -> bool
-        ensures within { IsTrue result → IsSound self.now }
-        ensures exact { IsSound self.now → IsTrue result }
+        ensures within { IsTrue result → IsSoundDisbursed self.now }
+        ensures exact { IsSoundDisbursed self.now → IsTrue result }
     {
         is_loan_within_limits(&self.terms, self.principal, self.periods)
             && can_be_entered(self.day)
@@ -64,8 +64,11 @@ impl Loan {
     }
 
     /// The fresh schedule, and the fee at disbursement in cents.
-    pub(crate) fn schedule_and_fee(&self, alloc: Global) -> Result<(Vec<Instalment>, u64), Fault>
-        requires { IsSound self.now }
+    pub(crate) fn schedule_and_fee(
+        &self,
+        alloc: Global,
+    ) -> Result<(Vec<FreshInstalment>, u64), Fault>
+        requires { IsSoundDisbursed self.now }
         ensures schedule { IfOk result (λ both. both.0.items ≡ schedule_of self.now) }
         ensures fee { IfOk result (λ both. both.1 ≡ fee_of_loan self.now) }
         ensures only { IsOkUnless result Fault.F20 }
@@ -112,7 +115,7 @@ impl Loan {
     pub(crate) fn into_entries(self) -> Vec<Entry>
         ensures { result.items ≡ self.entries }
     {
-        let Loan {
+        let DisbursedLoan {
             entries,
             terms: _,
             principal: _,

@@ -6,12 +6,12 @@ ghost use Rattle.mf_base.specs.DayText.{last_entered_day};
 ghost use Rattle.mf_schedule.specs.Fresh.{IsLoanWithinLimits, fee_at_disbursement, fresh_schedule};
 ghost use Rattle.mf_alloc.specs.Sums.{AreWhole, AreWithin, is_open};
 ghost use Rattle.mf_account.specs.Balance.{balances_of};
-ghost use Rattle.mf_account.specs.Loan.{Loan, IsSound, state_of_loan};
+ghost use Rattle.mf_account.specs.Loan.{DisbursedLoan, IsSoundDisbursed, state_of_loan};
 
 use crate::balances::{Balances, book_sums};
 use crate::lawful::{can_be_entered, is_loan_within_limits};
 use crate::safe::are_owed_within;
-use mf_alloc::Row;
+use mf_alloc::Instalment;
 use mf_base::{Day, Fault};
 use mf_catalog::Terms;
 use mf_schedule::{disbursement_fee, fresh};
@@ -47,12 +47,13 @@ pub fn open_balances(
     principal: u64,
     periods: u32,
     day: Day,
-    rows: &[Row],
+    rows: &[Instalment],
 ) -> Result<Option<Balances>, Fault>
     requires whole { AreWhole rows.now }
     requires apart { AreWithin rows.now }
     requires open { list_any is_open rows.now ≡ true }
-    ensures balances { (loan : Loan) → IsSound loan → loan.terms ≡ terms.now → loan.principal ≡ principal
+    ensures balances { (loan : DisbursedLoan) → IsSoundDisbursed loan → loan.terms ≡ terms.now → loan.principal
+        ≡ principal
         → loan.periods ≡ periods → loan.day ≡ day → rows.now ≡ (state_of_loan loan).rows
         → IfOk result (λ found. found ≡ Some (balances_of loan)) }
     ensures only { IsOkUnless result Fault.F20 }

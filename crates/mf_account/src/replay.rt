@@ -3,31 +3,31 @@
 ghost use Rattle.std.specs.Prelude.{◌≡◌, ◌≢◌, ℕ, ◌+◌, ◌-◌, ◌<◌, ◌≤◌, ◌∷◌, [], ◌++◌, None, IfOk, IfSome, OnOk};
 ghost use Rattle.std.specs.Prelude.{IsOkUnless, length, map, All, insert, slice_index};
 ghost use Rattle.std.specs.List.{Contains};
-ghost use Rattle.mf_account.specs.Account.{row_of as first_row, first_state, state_of, settled_of, after_all};
+ghost use Rattle.mf_account.specs.Account.{row_of, first_state, state_of, settled_of, after_entries};
 ghost use Rattle.mf_account.specs.Account.{settled_by, orders_by};
-ghost use Rattle.mf_account.specs.Standing.{is_before as comes_before, order_with, standing_entries, entry_at};
-ghost use Rattle.mf_account.specs.Standing.{entries_at, IsInOrder, places_from, AreApart};
+ghost use Rattle.mf_account.specs.Standing.{is_before, order_with, standing_entries, entry_at};
+ghost use Rattle.mf_account.specs.Standing.{entries_at, IsInOrder, places_from, AreDistinct};
 ghost use Rattle.mf_account.specs.Applicable.{AreApplicable};
-ghost use Rattle.mf_account.specs.declared.replay.Place.{Place as PlaceRecord};
-ghost use Rattle.mf_account.specs.declared.replay.Standing.{Standing as StandingRecord};
-ghost use Rattle.mf_account.specs.declared.settled.Settled.{Settled as SettledRecord};
+ghost use Rattle.mf_account.specs.declared.replay.Place.{Place};
+ghost use Rattle.mf_account.specs.declared.replay.Standing.{Standing};
+ghost use Rattle.mf_account.specs.declared.settled.SettledPart.{SettledPart};
 ghost use Rattle.mf_account.specs.Change.{settled_in};
-ghost use Rattle.mf_account.specs.Loan.{Loan, IsSound, settled_of_loan};
+ghost use Rattle.mf_account.specs.Loan.{DisbursedLoan, IsSoundDisbursed, settled_of_loan};
 ghost use Rattle.mf_account.specs.Safe.{ArePlaced};
 ghost use Rattle.mf_account.specs.Told.{AreNumberedTo};
 
 use crate::apply::apply_entry;
 use crate::entry::Entry;
 use crate::safe::{are_numbered_to, are_placed};
-use crate::settled::{Book, Settled};
-use mf_alloc::{Row, Strategy};
+use crate::settled::{Book, SettledPart};
+use mf_alloc::{Instalment, Strategy};
 use mf_base::{Day, Fault};
-use mf_schedule::Instalment;
+use mf_schedule::FreshInstalment;
 use std::alloc::Global;
 
 /// Whether an entry comes before another.
 pub(crate) fn is_before(a: &Entry, b: &Entry) -> bool
-    ensures { result ≡ comes_before a.now b.now }
+    ensures { result ≡ is_before a.now b.now }
 {
     a.day < b.day || (a.day == b.day && a.seq < b.seq)
 }
@@ -93,7 +93,7 @@ fn standing_places(alloc: Global, entries: &[Entry]) -> Result<Vec<Place>, Fault
 
 /// Where places are among all entries.
 fn all_at(alloc: Global, places: &[Place]) -> Result<Vec<usize>, Fault>
-    ensures all { IfOk result (λ order. order.items ≡ map (λ (place : PlaceRecord). place.at) places.now) }
+    ensures all { IfOk result (λ order. order.items ≡ map (λ (place : Place). place.at) places.now) }
     ensures only { IsOkUnless result Fault.F20 }
 {
     let order = places.iter().map(|place| place.at).collect(alloc)?;
@@ -118,14 +118,14 @@ pub(crate) fn standing_order(alloc: Global, entries: &[Entry]) -> Result<Vec<usi
 #[derive(Clone, Copy)]
 struct Standing {
     place: usize,
-    part: Settled,
+    part: SettledPart,
 }
 
 /// Where each of so many entries stands in an order; 0 for those that it leaves out.
 fn places_in(alloc: Global, order: &[usize], entries: usize) -> Result<Vec<usize>, Fault>
     requires within { All (λ at. at < entries) order.now }
     ensures size { IfOk result (λ places. length places.items ≡ entries) }
-    ensures places { AreApart order.now → IfOk result (λ places. (k : ℕ) → k < length order.now
+    ensures places { AreDistinct order.now → IfOk result (λ places. (k : ℕ) → k < length order.now
         → slice_index places.items (slice_index order.now k) ≡ k) }
     ensures only { IsOkUnless result Fault.F20 }
 {
@@ -141,11 +141,11 @@ fn places_in(alloc: Global, order: &[usize], entries: usize) -> Result<Vec<usize
 fn parts_placed(
     alloc: Global,
     places: &[usize],
-    settled: &[Settled],
+    settled: &[SettledPart],
 ) -> Result<Vec<Standing>, Fault>
     requires numbers { AreNumberedTo (length places.now) settled.now }
     ensures placed { IfOk result (λ placed. placed.items
-        ≡ map (λ (s : SettledRecord). record { place = slice_index places.now (s.seq - 1); part = s }) settled.now) }
+        ≡ map (λ (s : SettledPart). record { place = slice_index places.now (s.seq - 1); part = s }) settled.now) }
     ensures only { IsOkUnless result Fault.F20 }
 {
     let mut placed = Vec::new(alloc);
@@ -159,8 +159,8 @@ fn parts_placed(
 }
 
 /// The parts alone.
-fn parts_of(alloc: Global, placed: &[Standing]) -> Result<Vec<Settled>, Fault>
-    ensures parts { IfOk result (λ parts. parts.items ≡ map (λ (s : StandingRecord). s.part) placed.now) }
+fn parts_of(alloc: Global, placed: &[Standing]) -> Result<Vec<SettledPart>, Fault>
+    ensures parts { IfOk result (λ parts. parts.items ≡ map (λ (s : Standing). s.part) placed.now) }
     ensures only { IsOkUnless result Fault.F20 }
 {
     let parts = placed.iter().map(|standing| standing.part).collect(alloc)?;
@@ -172,11 +172,12 @@ fn sorted_parts(
     alloc: Global,
     order: &[usize],
     entries: usize,
-    settled: &[Settled],
-) -> Result<Vec<Settled>, Fault>
+    settled: &[SettledPart],
+) -> Result<Vec<SettledPart>, Fault>
     requires within { All (λ at. at < entries) order.now }
     requires numbers { AreNumberedTo entries settled.now }
-    ensures loan { (loan : Loan) → IsSound loan → length loan.entries ≡ entries → entries_at loan.entries order.now
+    ensures loan { (loan : DisbursedLoan) → IsSoundDisbursed loan → length loan.entries ≡ entries
+        → entries_at loan.entries order.now
         ≡ standing_entries loan.entries
         → ((seq : ℕ) → settled_in seq settled.now ≡ settled_in seq (settled_of_loan loan))
         → IfOk result (λ sorted. sorted.items ≡ settled_of_loan loan) }
@@ -195,15 +196,17 @@ pub(crate) fn in_order(
     order: &[usize],
     entries: usize,
     instalments: usize,
-    settled: &[Settled],
-) -> Result<Option<Vec<Settled>>, Fault>
+    settled: &[SettledPart],
+) -> Result<Option<Vec<SettledPart>>, Fault>
     requires within { All (λ at. at < entries) order.now }
     ensures placed { IfOk result (λ found. IfSome found (λ parts. ArePlaced instalments entries parts.items)) }
-    ensures loan { (loan : Loan) → IsSound loan → length loan.entries ≡ entries → entries_at loan.entries order.now
+    ensures loan { (loan : DisbursedLoan) → IsSoundDisbursed loan → length loan.entries ≡ entries
+        → entries_at loan.entries order.now
         ≡ standing_entries loan.entries
         → ((seq : ℕ) → settled_in seq settled.now ≡ settled_in seq (settled_of_loan loan))
         → IfOk result (λ found. IfSome found (λ parts. parts.items ≡ settled_of_loan loan)) }
-    ensures some { (loan : Loan) → IsSound loan → length loan.entries ≡ entries → loan.periods ≡ instalments
+    ensures some { (loan : DisbursedLoan) → IsSoundDisbursed loan → length loan.entries ≡ entries
+        → loan.periods ≡ instalments
         → entries_at loan.entries order.now ≡ standing_entries loan.entries → ((seq : ℕ) → settled_in seq settled.now
         ≡ settled_in seq (settled_of_loan loan))
         → IfOk result (λ found. found ≢ None) }
@@ -220,10 +223,10 @@ pub(crate) fn in_order(
 }
 
 /// An instalment of the fresh schedule, with nothing paid.
-fn row_of(instalment: &Instalment) -> Row
-    ensures { result ≡ first_row instalment.now }
+fn row_of(instalment: &FreshInstalment) -> Instalment
+    ensures { result ≡ row_of instalment.now }
 {
-    Row::fresh(
+    Instalment::fresh(
         instalment.due,
         [
             0,
@@ -235,8 +238,8 @@ fn row_of(instalment: &Instalment) -> Row
 }
 
 /// The fresh rows.
-fn first_rows(alloc: Global, schedule: &[Instalment]) -> Result<Vec<Row>, Fault>
-    ensures rows { IfOk result (λ rows. rows.items ≡ map first_row schedule.now) }
+fn first_rows(alloc: Global, schedule: &[FreshInstalment]) -> Result<Vec<Instalment>, Fault>
+    ensures rows { IfOk result (λ rows. rows.items ≡ map row_of schedule.now) }
     ensures only { IsOkUnless result Fault.F20 }
 {
     let rows = schedule
@@ -247,7 +250,7 @@ fn first_rows(alloc: Global, schedule: &[Instalment]) -> Result<Vec<Row>, Fault>
 }
 
 /// A book with nothing paid.
-fn first_book(alloc: Global, schedule: &[Instalment]) -> Result<Book, Fault>
+fn first_book(alloc: Global, schedule: &[FreshInstalment]) -> Result<Book, Fault>
     ensures state { IfOk result (λ book. book ≡ first_state schedule.now) }
     ensures only { IsOkUnless result Fault.F20 }
 {
@@ -266,12 +269,12 @@ pub(crate) fn apply_all<T: Strategy>(
     book: &mut Book,
     entries: &[Entry],
     order: &[usize],
-) -> Result<Vec<Settled>, Fault>
+) -> Result<Vec<SettledPart>, Fault>
     requires few { length book.old.rows ≤ 360 }
     requires within { All (λ i. i < length entries.now) order.now }
     requires fits { AreApplicable (orders_by (T.cell_at strategy.now) book.old.rows) (entries_at entries.now order.now)
         book.old }
-    ensures state { OnOk result (book.new ≡ after_all (orders_by (T.cell_at strategy.now) book.old.rows)
+    ensures state { OnOk result (book.new ≡ after_entries (orders_by (T.cell_at strategy.now) book.old.rows)
         (entries_at entries.now order.now) book.old) }
     ensures parts { IfOk result (λ parts. parts.items ≡ settled_by (orders_by (T.cell_at strategy.now) book.old.rows)
         (entries_at entries.now order.now) book.old) }
@@ -293,12 +296,12 @@ pub(crate) fn apply_with<T: Strategy>(
     entry: &Entry,
     entries: &[Entry],
     later: &[usize],
-) -> Result<Vec<Settled>, Fault>
+) -> Result<Vec<SettledPart>, Fault>
     requires few { length book.old.rows ≤ 360 }
     requires within { All (λ i. i < length entries.now) later.now }
     requires fits { AreApplicable (orders_by (T.cell_at strategy.now) book.old.rows)
         (entry.now ∷ entries_at entries.now later.now) book.old }
-    ensures state { OnOk result (book.new ≡ after_all (orders_by (T.cell_at strategy.now) book.old.rows)
+    ensures state { OnOk result (book.new ≡ after_entries (orders_by (T.cell_at strategy.now) book.old.rows)
         (entry.now ∷ entries_at entries.now later.now) book.old) }
     ensures parts { IfOk result (λ parts. parts.items ≡ settled_by (orders_by (T.cell_at strategy.now) book.old.rows)
         (entry.now ∷ entries_at entries.now later.now) book.old) }
@@ -312,13 +315,13 @@ pub(crate) fn apply_with<T: Strategy>(
 
 /// The state and the settled parts of a fresh schedule and entries: the effects of the standing entries, whose places
 /// are given in their order.
-pub(crate) fn replayed<T: Strategy>(
+pub(crate) fn replay_entries<T: Strategy>(
     alloc: Global,
     strategy: &T,
-    schedule: &[Instalment],
+    schedule: &[FreshInstalment],
     entries: &[Entry],
     order: &[usize],
-) -> Result<(Book, Vec<Settled>), Fault>
+) -> Result<(Book, Vec<SettledPart>), Fault>
     requires few { length schedule.now ≤ 360 }
     requires within { All (λ i. i < length entries.now) order.now }
     requires order { entries_at entries.now order.now ≡ standing_entries entries.now }

@@ -1,14 +1,14 @@
 //! An account's state from the instalments that are kept of it, without a replay.
 
 ghost use Rattle.std.specs.Prelude.{◌≡◌, ◌≢◌, ℕ, ◌+◌, ◌-◌, ◌<◌, ◌^◌, ◌↔◌, None, true, IfSome, length, sum_by, All};
-ghost use Rattle.mf_alloc.specs.Sums.{Sums, AreWhole, AreWithin};
-ghost use Rattle.mf_account.specs.declared.entry.Entry.{Entry as EntryRecord};
+ghost use Rattle.mf_alloc.specs.Sums.{Instalment, AreWhole, AreWithin};
+ghost use Rattle.mf_account.specs.declared.entry.Entry.{Entry};
 ghost use Rattle.mf_account.specs.declared.entry.Kind.TheVariants.{Refund};
-ghost use Rattle.mf_account.specs.Kinds.{money_in as money_of};
+ghost use Rattle.mf_account.specs.Kinds.{money_in};
 ghost use Rattle.mf_account.specs.Account.{sum_at};
 ghost use Rattle.mf_account.specs.Balance.{HasRoom};
 ghost use Rattle.mf_account.specs.Standing.{entries_at, entry_at, standing_entries};
-ghost use Rattle.mf_account.specs.Loan.{Loan, IsSound, state_of_loan};
+ghost use Rattle.mf_account.specs.Loan.{DisbursedLoan, IsSoundDisbursed, state_of_loan};
 ghost use Rattle.mf_account.specs.Safe.{most_kept, IsBounded};
 
 use crate::balances::{Column, sum_by_portion};
@@ -16,13 +16,13 @@ use crate::effect::money_in;
 use crate::entry::{Entry, Kind};
 use crate::safe::is_bounded;
 use crate::settled::Book;
-use mf_alloc::Row;
+use mf_alloc::Instalment;
 
 /// What entries bring.
 fn money_brought(entries: &[Entry], order: &[usize]) -> u64
     requires within { All (λ i. i < length entries.now) order.now }
-    requires room { sum_by (λ (e : EntryRecord). money_of e.kind e.amount) (entries_at entries.now order.now) < 2 ^ 64 }
-    ensures { result ≡ sum_by (λ (e : EntryRecord). money_of e.kind e.amount) (entries_at entries.now order.now) }
+    requires room { sum_by (λ (e : Entry). money_in e.kind e.amount) (entries_at entries.now order.now) < 2 ^ 64 }
+    ensures { result ≡ sum_by (λ (e : Entry). money_in e.kind e.amount) (entries_at entries.now order.now) }
 {
     let mut money = 0;
     for k in 0..order.len() {
@@ -33,12 +33,14 @@ fn money_brought(entries: &[Entry], order: &[usize]) -> u64
 }
 
 /// What is paid in all.
-fn money_paid(rows: &[Row]) -> u64
+fn money_paid(rows: &[Instalment]) -> u64
     requires each { HasRoom rows.now }
-    requires room { sum_at (λ (row : Sums). row.paid) 0 rows.now + sum_at (λ (row : Sums). row.paid) 1 rows.now
-        + sum_at (λ (row : Sums). row.paid) 2 rows.now + sum_at (λ (row : Sums). row.paid) 3 rows.now < 2 ^ 64 }
-    ensures { result ≡ sum_at (λ (row : Sums). row.paid) 0 rows.now + sum_at (λ (row : Sums). row.paid) 1 rows.now
-        + sum_at (λ (row : Sums). row.paid) 2 rows.now + sum_at (λ (row : Sums). row.paid) 3 rows.now }
+    requires room { sum_at (λ (r : Instalment). r.paid) 0 rows.now
+        + sum_at (λ (r : Instalment). r.paid) 1 rows.now + sum_at (λ (r : Instalment). r.paid) 2 rows.now
+        + sum_at (λ (r : Instalment). r.paid) 3 rows.now < 2 ^ 64 }
+    ensures { result ≡ sum_at (λ (r : Instalment). r.paid) 0 rows.now
+        + sum_at (λ (r : Instalment). r.paid) 1 rows.now + sum_at (λ (r : Instalment). r.paid) 2 rows.now
+        + sum_at (λ (r : Instalment). r.paid) 3 rows.now }
 {
     let paid = sum_by_portion(rows, Column::Paid);
     paid[0] + paid[1] + paid[2] + paid[3]
@@ -59,16 +61,22 @@ fn ends_in_refund(entries: &[Entry], order: &[usize]) -> bool
 
 /// The book of a loan whose rows and order are known: what its repayments bring beyond what is paid is overpaid, or
 /// refunded where a refund stands, which is then the last. None where the rows come to more than is kept.
-pub(crate) fn resumed_book(entries: &[Entry], order: &[usize], rows: Vec<Row>) -> Option<Book>
+pub(crate) fn resumed_book(
+    entries: &[Entry],
+    order: &[usize],
+    rows: Vec<Instalment>,
+) -> Option<Book>
     requires within { All (λ i. i < length entries.now) order.now }
     requires order { entries_at entries.now order.now ≡ standing_entries entries.now }
-    requires sound { (loan : Loan) × IsSound loan × (entries.now ≡ loan.entries) }
+    requires sound { (loan : DisbursedLoan) × IsSoundDisbursed loan × (entries.now ≡ loan.entries) }
     requires whole { AreWhole rows.items }
     requires apart { AreWithin rows.items }
     ensures bounded { IfSome result (IsBounded (length rows.items) most_kept) }
-    ensures book { (loan : Loan) → IsSound loan → entries.now ≡ loan.entries → rows.items ≡ (state_of_loan loan).rows
+    ensures book { (loan : DisbursedLoan) → IsSoundDisbursed loan → entries.now ≡ loan.entries
+        → rows.items ≡ (state_of_loan loan).rows
         → IfSome result (λ book. book ≡ state_of_loan loan) }
-    ensures some { (loan : Loan) → IsSound loan → rows.items ≡ (state_of_loan loan).rows → result ≢ None }
+    ensures some { (loan : DisbursedLoan) → IsSoundDisbursed loan → rows.items ≡ (state_of_loan loan).rows
+        → result ≢ None }
 {
     let mut book = Book {
         rows,

@@ -2,12 +2,12 @@
 
 ghost use Rattle.std.specs.Prelude.{◌≡◌, ◌≢◌, ℕ, ◌+◌, ◌-◌, ◌<◌, ◌≤◌, ◌^◌, ◌↔◌, None, IsTrue, IfSome, length, map};
 ghost use Rattle.std.specs.Prelude.{slice_index_or, All};
-ghost use Rattle.mf_alloc.specs.declared.row.Cell.{Cell as CellRecord};
+ghost use Rattle.mf_alloc.specs.declared.row.Cell.{Cell};
 ghost use Rattle.mf_alloc.specs.Sums.{IsRowWithin, AreWithin};
 ghost use Rattle.mf_alloc.specs.Rows.{IsCell, place_in_row};
-ghost use Rattle.mf_account.specs.declared.entry.Entry.{Entry as EntryRecord};
-ghost use Rattle.mf_account.specs.Undo.{unowe_row, without_charge, unsettle as unsettled_rows, without_settled};
-ghost use Rattle.mf_account.specs.Undo.{before_entry, paid_by as paid_how, paid_in};
+ghost use Rattle.mf_account.specs.declared.entry.Entry.{Entry};
+ghost use Rattle.mf_account.specs.Undo.{unowe_row, without_charge, unsettle, without_settled};
+ghost use Rattle.mf_account.specs.Undo.{before_entry, paid_by, paid_in};
 ghost use Rattle.mf_account.specs.Account.{part_of, Orders};
 ghost use Rattle.mf_account.specs.Effect.{State};
 ghost use Rattle.mf_account.specs.Rewind.{IsRewindable, IsBack};
@@ -18,12 +18,12 @@ ghost use Rattle.mf_account.specs.Told.{settled_amount};
 
 use crate::effect::money_in;
 use crate::entry::{Entry, Kind};
-use crate::settled::{Book, How, Settled};
-use mf_alloc::{Portion, Row};
+use crate::settled::{Book, How, SettledPart};
+use mf_alloc::{Instalment, Portion};
 
 /// Takes a charge back from what a portion of a row owes. False where more is settled of it than would be owed: the row
 /// is then as it was.
-fn lower_owed(row: &mut Row, portion: Portion, amount: u64) -> bool
+fn lower_owed(row: &mut Instalment, portion: Portion, amount: u64) -> bool
     ensures whether { IsTrue result ↔ IsRowWithin (unowe_row (place_in_row portion) amount row.old) }
     ensures lowered { IsTrue result → row.new ≡ unowe_row (place_in_row portion) amount row.old }
 {
@@ -37,7 +37,7 @@ fn lower_owed(row: &mut Row, portion: Portion, amount: u64) -> bool
 }
 
 /// Takes a fee or penalty back. False where more is settled of it than would be owed.
-fn uncharge(rows: &mut [Row], entry: &Entry) -> bool
+fn uncharge(rows: &mut [Instalment], entry: &Entry) -> bool
     requires there { HasCharge entry.now.kind entry.now (length rows.old) }
     ensures whether { AreWithin (without_charge entry.now.kind entry.now rows.old) → IsTrue result }
     ensures back { IsTrue result → rows.new ≡ without_charge entry.now.kind entry.now rows.old }
@@ -57,9 +57,9 @@ fn uncharge(rows: &mut [Row], entry: &Entry) -> bool
 }
 
 /// Takes one part back.
-fn unsettle(rows: &mut [Row], part: Settled)
+fn unsettle(rows: &mut [Instalment], part: SettledPart)
     requires { IsCell (length rows.old) part.cell }
-    ensures { rows.new ≡ unsettled_rows rows.old (part_of part) }
+    ensures { rows.new ≡ unsettle rows.old (part_of part) }
 {
     let row = &mut rows[(part.cell.instalment - 1) as usize];
     let p = part.cell.portion.index();
@@ -71,7 +71,7 @@ fn unsettle(rows: &mut [Row], part: Settled)
 }
 
 /// Takes parts back, the last first.
-fn unsettle_all(rows: &mut [Row], parts: &[Settled])
+fn unsettle_all(rows: &mut [Instalment], parts: &[SettledPart])
     requires { AreInRows (length rows.old) parts.now }
     ensures { rows.new ≡ without_settled rows.old (map part_of parts.now) }
 {
@@ -83,8 +83,8 @@ fn unsettle_all(rows: &mut [Row], parts: &[Settled])
 }
 
 /// What a part paid.
-fn paid_by(part: Settled) -> u64
-    ensures { result ≡ paid_how part.how part.amount }
+fn paid_by(part: SettledPart) -> u64
+    ensures { result ≡ paid_by part.how part.amount }
 {
     match part.how {
         How::Paid => part.amount,
@@ -93,7 +93,7 @@ fn paid_by(part: Settled) -> u64
 }
 
 /// What parts paid.
-fn paid_all(parts: &[Settled]) -> u64
+fn paid_all(parts: &[SettledPart]) -> u64
     requires { paid_in (map part_of parts.now) < 2 ^ 64 }
     ensures { result ≡ paid_in (map part_of parts.now) }
 {
@@ -101,7 +101,7 @@ fn paid_all(parts: &[Settled]) -> u64
 }
 
 /// Takes an entry's parts and its charge back. False where more is settled than would be owed.
-fn take_back_rows(rows: &mut [Row], entry: &Entry, own: &[Settled]) -> bool
+fn take_back_rows(rows: &mut [Instalment], entry: &Entry, own: &[SettledPart]) -> bool
     requires charge { HasCharge entry.now.kind entry.now (length rows.old) }
     requires cells { AreInRows (length rows.old) own.now }
     ensures whether { AreWithin (without_charge entry.now.kind entry.now
@@ -116,7 +116,7 @@ fn take_back_rows(rows: &mut [Row], entry: &Entry, own: &[Settled]) -> bool
 }
 
 /// Takes an entry back by what it settled. False where more is settled than would be owed: the book is then given up.
-fn take_back(book: &mut Book, entry: &Entry, own: &[Settled]) -> bool
+fn take_back(book: &mut Book, entry: &Entry, own: &[SettledPart]) -> bool
     requires charge { HasCharge entry.now.kind entry.now (length book.old.rows) }
     requires cells { AreInRows (length book.old.rows) own.now }
     requires money { book.old.overpaid + paid_in (map part_of own.now) + book.old.refunded < 2 ^ 64 }
@@ -137,7 +137,7 @@ fn take_back(book: &mut Book, entry: &Entry, own: &[Settled]) -> bool
 }
 
 /// Where the last run of parts with a number begins.
-fn own_start(settled: &[Settled], end: usize, seq: u32) -> usize
+fn own_start(settled: &[SettledPart], end: usize, seq: u32) -> usize
     requires { end ≤ length settled.now }
     ensures within { result ≤ end }
     ensures own { (j : ℕ) → result ≤ j → j < end → (slice_index_or settled.now j no_settled).seq ≡ seq }
@@ -151,10 +151,10 @@ fn own_start(settled: &[Settled], end: usize, seq: u32) -> usize
 }
 
 /// Takes entries back from a book, the last first, by what they settled. See `Book::rewind`.
-pub(crate) fn rewind_book(book: &mut Book, tail: &[Entry], settled: &[Settled])
-    requires { (orders : Orders) × (places : EntryRecord → CellRecord → ℕ) × (from : State)
+pub(crate) fn rewind_book(book: &mut Book, tail: &[Entry], settled: &[SettledPart])
+    requires { (orders : Orders) × (places : Entry → Cell → ℕ) × (from : State)
         × IsRewindable orders places from tail.now settled.now book.old }
-    ensures { (orders : Orders) (places : EntryRecord → CellRecord → ℕ) (from : State)
+    ensures { (orders : Orders) (places : Entry → Cell → ℕ) (from : State)
         → IsRewindable orders places from tail.now settled.now book.old → book.new ≡ from }
 {
     let mut k = settled.len();
@@ -184,22 +184,22 @@ pub(crate) fn rewind_to(
     entries: &[Entry],
     order: &[usize],
     place: usize,
-    settled: &[Settled],
+    settled: &[SettledPart],
 ) -> Option<usize>
     requires within { All (λ at. at < length entries.now) order.now }
     requires there { place ≤ length order.now }
-    requires charges { All (λ (e : EntryRecord). HasCharge e.kind e (length book.old.rows))
+    requires charges { All (λ (e : Entry). HasCharge e.kind e (length book.old.rows))
         (entries_at entries.now order.now) }
     requires cells { AreInRows (length book.old.rows) settled.now }
     requires money { book.old.overpaid + book.old.refunded + settled_amount settled.now < 2 ^ 64 }
     ensures within { IfSome result (λ kept. kept ≤ length settled.now) }
     ensures bounded { (n most : ℕ) → IsBounded n most book.old
         → IfSome result (λ kept. IsBounded n (most + settled_amount settled.now) book.new) }
-    ensures back { (orders : Orders) (places : EntryRecord → CellRecord → ℕ) (from : State)
+    ensures back { (orders : Orders) (places : Entry → Cell → ℕ) (from : State)
         → IsRewindable orders places from (entries_at entries.now order.now) settled.now book.old
         → IfSome result (λ kept. IsBack orders from (entries_at entries.now order.now) settled.now place kept
         book.new) }
-    ensures some { (orders : Orders) (places : EntryRecord → CellRecord → ℕ) (from : State)
+    ensures some { (orders : Orders) (places : Entry → Cell → ℕ) (from : State)
         → IsRewindable orders places from (entries_at entries.now order.now) settled.now book.old → result ≢ None }
 {
     let mut k = settled.len();
@@ -219,10 +219,10 @@ pub(crate) fn rewind_to(
 impl Book {
     /// Takes entries back, the last first, by what they settled, and with nothing known of the state before them: it
     /// leaves that state, which may be any that a book can hold with nothing refunded. It takes no memory.
-    pub fn rewind(&mut self, tail: &[Entry], settled: &[Settled])
-        requires { (orders : Orders) × (places : EntryRecord → CellRecord → ℕ) × (from : State)
+    pub fn rewind(&mut self, tail: &[Entry], settled: &[SettledPart])
+        requires { (orders : Orders) × (places : Entry → Cell → ℕ) × (from : State)
             × IsRewindable orders places from tail.now settled.now self.old }
-        ensures { (orders : Orders) (places : EntryRecord → CellRecord → ℕ) (from : State)
+        ensures { (orders : Orders) (places : Entry → Cell → ℕ) (from : State)
             → IsRewindable orders places from tail.now settled.now self.old → self.new ≡ from }
     {
         rewind_book(self, tail, settled);

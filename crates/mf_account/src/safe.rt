@@ -7,15 +7,15 @@ ghost use Rattle.mf_account.specs.Applicable.{AreInRows};
 ghost use Rattle.mf_account.specs.Safe.{most_kept, IsShaped, IsBounded, ArePlaced};
 ghost use Rattle.mf_account.specs.Told.{settled_amount, IsNumberedTo, AreNumberedTo};
 
-use crate::settled::{Book, Settled};
-use mf_alloc::Row;
+use crate::settled::{Book, SettledPart};
+use mf_alloc::Instalment;
 
 /// The most cents that are kept of what all instalments owe of a portion, of what is overpaid and refunded, and of all
 /// parts. A sound loan comes to far less.
 const MOST_KEPT: u64 = 1_000_000_000_000_000_000;
 
 /// Whether what the instalments owe of a portion, by its place, comes to no more than is kept.
-fn is_owed_within(rows: &[Row], p: usize) -> bool
+fn is_owed_within(rows: &[Instalment], p: usize) -> bool
     requires { p < 4 }
     ensures within { IsTrue result → sum_at (λ row. row.owed) p rows.now ≤ most_kept }
     ensures exact { sum_at (λ row. row.owed) p rows.now ≤ most_kept → IsTrue result }
@@ -32,7 +32,7 @@ fn is_owed_within(rows: &[Row], p: usize) -> bool
 }
 
 /// The same of each portion.
-pub(crate) fn are_owed_within(rows: &[Row]) -> bool
+pub(crate) fn are_owed_within(rows: &[Instalment]) -> bool
     ensures within { IsTrue result → (p : ℕ) → p < 4 → sum_at (λ row. row.owed) p rows.now ≤ most_kept }
     ensures exact { ((p : ℕ) → p < 4 → sum_at (λ row. row.owed) p rows.now ≤ most_kept) → IsTrue result }
 {
@@ -57,7 +57,7 @@ pub(crate) fn is_bounded(book: &Book) -> bool
 }
 
 /// What is left of so many cents beside parts. None where the parts come to more.
-fn room_beside(room: u64, parts: &[Settled]) -> Option<u64>
+fn room_beside(room: u64, parts: &[SettledPart]) -> Option<u64>
     ensures left { IfSome result (λ left. left + settled_amount parts.now ≡ room) }
     ensures some { settled_amount parts.now ≤ room → result ≢ None }
 {
@@ -72,7 +72,7 @@ fn room_beside(room: u64, parts: &[Settled]) -> Option<u64>
 }
 
 /// Whether parts, those of two lists together, come to no more than is kept.
-pub(crate) fn is_amount_within(kept: &[Settled], more: &[Settled]) -> bool
+pub(crate) fn is_amount_within(kept: &[SettledPart], more: &[SettledPart]) -> bool
     ensures { IsTrue result ↔ (settled_amount (kept.now ++ more.now) ≤ most_kept) }
 {
     match room_beside(MOST_KEPT, kept) {
@@ -82,21 +82,21 @@ pub(crate) fn is_amount_within(kept: &[Settled], more: &[Settled]) -> bool
 }
 
 /// Whether a part is of one of so many entries.
-fn is_numbered_to(part: &Settled, entries: usize) -> bool
+fn is_numbered_to(part: &SettledPart, entries: usize) -> bool
     ensures { IsTrue result ↔ IsNumberedTo entries part.now }
 {
     1 <= part.seq && part.seq as usize <= entries
 }
 
 /// Whether each part is of one of so many entries.
-pub(crate) fn are_numbered_to(parts: &[Settled], entries: usize) -> bool
+pub(crate) fn are_numbered_to(parts: &[SettledPart], entries: usize) -> bool
     ensures { IsTrue result ↔ AreNumberedTo entries parts.now }
 {
     parts.iter().all(|part| is_numbered_to(part, entries))
 }
 
 /// Whether a part is of a cell of so many instalments, and of one of so many entries.
-fn is_placed(part: &Settled, instalments: usize, entries: usize) -> bool
+fn is_placed(part: &SettledPart, instalments: usize, entries: usize) -> bool
     ensures { IsTrue result ↔ (IsCell instalments part.now.cell × IsNumberedTo entries part.now) }
 {
     1 <= part.cell.instalment
@@ -106,7 +106,7 @@ fn is_placed(part: &Settled, instalments: usize, entries: usize) -> bool
 
 /// Whether each part is of a cell of so many instalments, and of one of so many entries, and all come to no more than
 /// is kept.
-pub(crate) fn are_placed(parts: &[Settled], instalments: usize, entries: usize) -> bool
+pub(crate) fn are_placed(parts: &[SettledPart], instalments: usize, entries: usize) -> bool
     ensures { IsTrue result ↔ ArePlaced instalments entries parts.now }
 {
     parts

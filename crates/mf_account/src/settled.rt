@@ -2,7 +2,7 @@
 
 ghost use Rattle.std.specs.Prelude.{◌≡◌, ◌+◌, ◌<◌, ◌≤◌, ◌++◌, length, take, insert, vec_len, vec_capacity};
 
-use mf_alloc::{Cell, Row, Share};
+use mf_alloc::{Cell, Instalment, Share};
 use mf_base::Fault;
 use std::alloc::Global;
 use std::marker::Model;
@@ -17,7 +17,7 @@ pub enum How {
 
 /// What an entry settled in a cell, in whole cents. Places are from 1 within the entry.
 #[derive(Clone, Copy, PartialEq, Eq)]
-pub struct Settled {
+pub struct SettledPart {
     pub seq: u32,
     pub place: u32,
     pub cell: Cell,
@@ -25,7 +25,7 @@ pub struct Settled {
     pub amount: u64,
 }
 
-impl Settled {
+impl SettledPart {
     ghost use Rattle.std.specs.Prelude.{◌≡◌};
     ghost use Rattle.mf_account.specs.Account.{share_of};
 
@@ -42,7 +42,7 @@ impl Settled {
 
 /// The state of an account: its instalments, and what is overpaid and refunded, in whole cents.
 pub struct Book {
-    pub rows: Vec<Row>,
+    pub rows: Vec<Instalment>,
     pub overpaid: u64,
     pub refunded: u64,
 }
@@ -71,7 +71,7 @@ impl Book {
     ghost use Rattle.std.specs.Prelude.{◌≡◌, IfOk, IsOkUnless};
 
     /// Another one of the same.
-    pub(crate) fn copied(&self, alloc: Global) -> Result<Book, Fault>
+    pub(crate) fn copy(&self, alloc: Global) -> Result<Book, Fault>
         ensures same { IfOk result (λ book. book ≡ self.now) }
         ensures only { IsOkUnless result Fault.F20 }
     {
@@ -85,7 +85,7 @@ impl Book {
 }
 
 /// Puts parts behind the first ones, of which so many stay. There is room for them.
-pub(crate) fn put_behind(settled: &mut Vec<Settled>, kept: usize, parts: &[Settled])
+pub(crate) fn put_behind(settled: &mut Vec<SettledPart>, kept: usize, parts: &[SettledPart])
     requires { vec_len settled.old + length parts.now ≤ vec_capacity settled.old }
     ensures { settled.new.items ≡ take kept settled.old.items ++ parts.now }
 {

@@ -8,7 +8,7 @@ ghost use Rattle.mf_account.specs.declared.entry.Kind.TheVariants.{Repay};
 ghost use Rattle.mf_account.specs.Standing.{entry_at};
 
 use crate::step::Step;
-use mf_account::{Entry, Kind, Loan, LoanAccount};
+use mf_account::{DisbursedLoan, Entry, Kind, LoanAccount};
 use mf_alloc::Portion;
 use mf_base::{Day, Fault, Freq};
 use mf_catalog::{Method, StrategyName, Terms};
@@ -50,12 +50,12 @@ fn terms() -> Terms
 }
 
 /// The loan, disbursed on a day, with these entries.
-fn lent(day: Day, entries: Vec<Entry>) -> Loan
+fn lent(day: Day, entries: Vec<Entry>) -> DisbursedLoan
     ensures limits { IsLoanWithinLimits result.terms result.principal result.periods }
     ensures day { result.day ≡ day }
     ensures entries { result.entries ≡ entries.items }
 {
-    Loan {
+    DisbursedLoan {
         terms: terms(),
         principal: PRINCIPAL,
         periods: PERIODS,
@@ -141,7 +141,7 @@ impl OpenLoan {
     }
 
     /// Takes a step, and says what came of it.
-    pub fn told<C: Clock>(
+    pub fn tell<C: Clock>(
         &mut self,
         alloc: Global,
         clock: &C,
@@ -157,17 +157,17 @@ impl OpenLoan {
                 self.enter_cents(alloc, clock, count, day)?;
             }
             Step::Reverse => self.reverse_last(alloc, clock)?,
-            Step::Replay(count) => return self.replayed(alloc, count),
+            Step::Replay(count) => return self.replay(alloc, count),
             Step::Time => {
                 let text = format!(in alloc; "{}", self.taken)?;
                 return Ok(text);
             }
         }
-        self.described(alloc)
+        self.describe(alloc)
     }
 
     /// How many entries the loan has, and the instalments and entries that the last one changed.
-    fn described(&self, alloc: Global) -> Result<String, Fault> {
+    fn describe(&self, alloc: Global) -> Result<String, Fault> {
         let count = self.account.entries().len();
         let change = self.account.change();
         let (rows, seqs) = (change.rows.as_slice(), change.seqs.as_slice());
@@ -229,7 +229,7 @@ impl OpenLoan {
     }
 
     /// Works out the account of so many repayments of one cent by a replay, and says how many entries it has.
-    fn replayed(&self, alloc: Global, count: u32) -> Result<String, Fault> {
+    fn replay(&self, alloc: Global, count: u32) -> Result<String, Fault> {
         let mut entries = Vec::new(alloc);
         for entered in 0..count {
             match cent(entered + 1, self.earlier) {

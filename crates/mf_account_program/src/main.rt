@@ -20,7 +20,7 @@ fn main(rt: HostRuntime) -> io::Result<ExitCode> {
         return Ok(ExitCode::from(1));
     };
     for line in rt.lines(alloc) {
-        match told(alloc, &rt, &mut loan, line?.as_str()) {
+        match tell(alloc, &rt, &mut loan, line?.as_str()) {
             Ok(text) => rt.println(text)?,
             Err(fault) => println!(rt; "{fault:?}")?,
         }
@@ -29,14 +29,14 @@ fn main(rt: HostRuntime) -> io::Result<ExitCode> {
 }
 
 /// What comes of a line.
-fn told<C: Clock>(
+fn tell<C: Clock>(
     alloc: Global,
     clock: &C,
     loan: &mut OpenLoan,
     line: &str,
 ) -> Result<String, Fault> {
     match Step::parse(line) {
-        Some(step) => loan.told(alloc, clock, step),
+        Some(step) => loan.tell(alloc, clock, step),
         None => Err(Fault::F1),
     }
 }

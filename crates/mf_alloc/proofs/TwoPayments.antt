@@ -6,7 +6,7 @@ use Rattle.std.proofs.lemmas.Bool.{cases_lt, cases_eq, cond_both, ltb-false}
 use Rattle.std.proofs.lemmas.List.{get_or-set_same, get_or-set_other, set-set, set-get_or, set_past, set_comm}
 use Rattle.mf_alloc.specs.declared.row.Cell.{Cell}
 use Rattle.mf_alloc.specs.declared.row.Share.{Share}
-use Rattle.mf_alloc.specs.Sums.{Sums}
+use Rattle.mf_alloc.specs.Sums.{Instalment}
 use Rattle.mf_alloc.specs.Rows.{no_row, pay_row, pay_into, with_paid, place_in_row}
 use Rattle.mf_alloc.specs.Payment.{is_some_share}
 
@@ -40,23 +40,23 @@ edit-commute {X} d xs i j f g same =
       | inr apart ↦ edit-apart d xs i j f g apart
     ]
 
-pay_row-commute : (p q a b : ℕ) (row : Sums) → pay_row q b (pay_row p a row) ≡ pay_row p a (pay_row q b row)
+pay_row-commute : (p q a b : ℕ) (row : Instalment) → pay_row q b (pay_row p a row) ≡ pay_row p a (pay_row q b row)
 pay_row-commute p q a b row =
     ap (λ (sums : List ℕ). record row { paid = sums }) (edit-commute 0 row.paid p q (λ x. x + a) (λ x. x + b)
     (λ x. omega arith))
 
-pay_row-twice : (p a b : ℕ) (row : Sums) → pay_row p b (pay_row p a row) ≡ pay_row p (a + b) row
+pay_row-twice : (p a b : ℕ) (row : Instalment) → pay_row p b (pay_row p a row) ≡ pay_row p (a + b) row
 pay_row-twice p a b row =
     let sum : get_or row.paid p 0 + a + b ≡ get_or row.paid p 0 + (a + b) = omega arith in
     ap (λ (sums : List ℕ). record row { paid = sums }) (edit-twice 0 row.paid p (λ x. x + a) (λ x. x + b)
     ∙ ap (set row.paid p) sum)
 
-pay_row-none : (p : ℕ) (row : Sums) → pay_row p 0 row ≡ row
+pay_row-none : (p : ℕ) (row : Instalment) → pay_row p 0 row ≡ row
 pay_row-none p row =
     let same : get_or row.paid p 0 + 0 ≡ get_or row.paid p 0 = omega arith in
     ap (λ (sums : List ℕ). record row { paid = sums }) (ap (set row.paid p) same ∙ set-get_or row.paid p 0)
 
-pay_into-commute : (rows : List Sums) (a b : Share) → pay_into (pay_into rows a) b ≡ pay_into (pay_into rows b) a
+pay_into-commute : (rows : List Instalment) (a b : Share) → pay_into (pay_into rows a) b ≡ pay_into (pay_into rows b) a
 pay_into-commute rows a b =
     edit-commute no_row rows (a.cell.instalment - 1) (b.cell.instalment - 1)
     (pay_row (place_in_row a.cell.portion) a.amount) (pay_row (place_in_row b.cell.portion) b.amount)
@@ -66,14 +66,14 @@ pay_into-commute rows a b =
 abbrev pub share_in : Cell → ℕ → Share
 share_in cell amount = record { cell = cell; amount = amount }
 
-pay_into-twice : (rows : List Sums) (cell : Cell) (a b : ℕ) → pay_into (pay_into rows (share_in cell a))
+pay_into-twice : (rows : List Instalment) (cell : Cell) (a b : ℕ) → pay_into (pay_into rows (share_in cell a))
     (share_in cell b) ≡ pay_into rows (share_in cell (a + b))
 pay_into-twice rows cell a b =
     let i : ℕ = cell.instalment - 1 in
     let p : ℕ = place_in_row cell.portion in
     edit-twice no_row rows i (pay_row p a) (pay_row p b) ∙ ap (set rows i) (pay_row-twice p a b (get_or rows i no_row))
 
-pub pay_into-none : (rows : List Sums) (share : Share) → share.amount ≡ 0 → pay_into rows share ≡ rows
+pub pay_into-none : (rows : List Instalment) (share : Share) → share.amount ≡ 0 → pay_into rows share ≡ rows
 pay_into-none rows share none =
     let i : ℕ = share.cell.instalment - 1 in
     let p : ℕ = place_in_row share.cell.portion in
@@ -81,7 +81,7 @@ pay_into-none rows share none =
     ∙ ap (set rows i) (pay_row-none p (get_or rows i no_row)) ∙ set-get_or rows i no_row
 
 -- zero shares pay nothing
-pub with_paid-some : (rows : List Sums) (shares : List Share) → with_paid rows (filter is_some_share shares)
+pub with_paid-some : (rows : List Instalment) (shares : List Share) → with_paid rows (filter is_some_share shares)
     ≡ with_paid rows shares
 with_paid-some rows [] = refl
 with_paid-some rows (share ∷ shares) =
@@ -93,7 +93,7 @@ with_paid-some rows (share ∷ shares) =
     with_paid-some rows shares ∙ ap (λ x. with_paid x shares) (sym (pay_into-none rows share zero_amount)))
 
 -- a share paid first or last
-with_paid-move : (rows : List Sums) (share : Share) (shares : List Share) → pay_into (with_paid rows shares) share
+with_paid-move : (rows : List Instalment) (share : Share) (shares : List Share) → pay_into (with_paid rows shares) share
     ≡ with_paid (pay_into rows share) shares
 with_paid-move rows share [] = refl
 with_paid-move rows share (first ∷ shares) =
@@ -103,12 +103,12 @@ with_paid-move rows share (first ∷ shares) =
 abbrev pub shares_by : (ℕ → Cell) → (ℕ → ℕ) → List ℕ → List Share
 shares_by order amounts places = map (λ k. share_in (order k) (amounts k)) places
 
-pub with_paid-twice : (order : ℕ → Cell) (first later : ℕ → ℕ) (places : List ℕ) (rows : List Sums)
+pub with_paid-twice : (order : ℕ → Cell) (first later : ℕ → ℕ) (places : List ℕ) (rows : List Instalment)
     → with_paid (with_paid rows (shares_by order first places)) (shares_by order later places)
     ≡ with_paid rows (shares_by order (λ k. first k + later k) places)
 with_paid-twice order first later [] rows = refl
 with_paid-twice order first later (k ∷ places) rows =
-    let paid : List Sums = pay_into rows (share_in (order k) (first k)) in
+    let paid : List Instalment = pay_into rows (share_in (order k) (first k)) in
     ap (λ x. with_paid x (shares_by order later places)) (with_paid-move paid (share_in (order k) (later k))
     (shares_by order first places))
     ∙ with_paid-twice order first later places (pay_into paid (share_in (order k) (later k)))

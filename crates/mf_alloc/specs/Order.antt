@@ -6,7 +6,7 @@ use Rattle.mf_alloc.specs.declared.row.Portion.{Portion}
 use Rattle.mf_alloc.specs.declared.row.Portion.TheVariants.{Penalty, Fee, Interest, Principal}
 use Rattle.mf_alloc.specs.declared.row.Cell.{Cell}
 use Rattle.mf_alloc.specs.Rows.{place_in_row}
-use Rattle.mf_alloc.specs.Sums.{Sums}
+use Rattle.mf_alloc.specs.Sums.{Instalment}
 use Rattle.mf_catalog.specs.declared.terms.StrategyName.{StrategyName}
 use Rattle.mf_catalog.specs.declared.terms.StrategyName.TheVariants.{MifosStandard, PrincipalFirst, InterestFirst}
 use Rattle.mf_catalog.specs.declared.terms.StrategyName.TheVariants.{DueFirst}
@@ -37,8 +37,8 @@ place_among portions p =
     else 3))
 
 -- instalment after instalment: the cell at place k
-abbrev pub by_instalment : (ℕ → Portion) → ℕ → Cell
-by_instalment portions k = record { instalment = k / 4 + 1; portion = portions (k % 4) }
+abbrev pub in_order_of_instalments : (ℕ → Portion) → ℕ → Cell
+in_order_of_instalments portions k = record { instalment = k / 4 + 1; portion = portions (k % 4) }
 
 -- the place of a cell, by the place of its portion
 abbrev pub place_by_instalment : (Portion → ℕ) → Cell → ℕ
@@ -49,7 +49,7 @@ place_by_instalment place cell = 4 * (cell.instalment - 1) + place cell.portion
 abbrev pub due_first : ℕ → ℕ → Cell
 due_first due k =
     if nat_lt k (4 * due) then record { instalment = k % due + 1; portion = standard (k / due) }
-    else by_instalment standard k
+    else in_order_of_instalments standard k
 
 -- the place of a cell where what is due comes first
 abbrev pub due_first_place : ℕ → Cell → ℕ
@@ -59,9 +59,9 @@ due_first_place due cell =
 
 -- the order that a strategy's name stands for, where so many instalments are due
 abbrev pub cell_by : StrategyName → ℕ → ℕ → Cell
-cell_by MifosStandard due = by_instalment (portion_by MifosStandard)
-cell_by PrincipalFirst due = by_instalment (portion_by PrincipalFirst)
-cell_by InterestFirst due = by_instalment (portion_by InterestFirst)
+cell_by MifosStandard due = in_order_of_instalments (portion_by MifosStandard)
+cell_by PrincipalFirst due = in_order_of_instalments (portion_by PrincipalFirst)
+cell_by InterestFirst due = in_order_of_instalments (portion_by InterestFirst)
 cell_by DueFirst due = due_first due
 
 -- the place of a cell in a strategy's order
@@ -72,13 +72,13 @@ place_by InterestFirst due = place_by_instalment (place_among (portion_by Intere
 place_by DueFirst due = due_first_place due
 
 -- the due days of rows
-abbrev pub dues_of : List Sums → List ℕ
-dues_of rows = map (λ (row : Sums). row.due) rows
+abbrev pub dues_of : List Instalment → List ℕ
+dues_of rows = map (λ (row : Instalment). row.due) rows
 
 -- how many instalments are due by a day: those whose due day is on or before it
-abbrev pub due_by : ℕ → List Sums → ℕ
+abbrev pub due_by : ℕ → List Instalment → ℕ
 due_by day rows = count_by (λ due. nat_le due day) (dues_of rows)
 
 -- the order of the cells of rows at a day
-abbrev pub order_at : (ℕ → ℕ → ℕ → Cell) → List Sums → ℕ → ℕ → Cell
+abbrev pub order_at : (ℕ → ℕ → ℕ → Cell) → List Instalment → ℕ → ℕ → Cell
 order_at cells rows day = cells (length rows) (due_by day rows)

@@ -11,7 +11,8 @@ use Rattle.mf_alloc.specs.Rows.{IsCell}
 use Rattle.mf_catalog.specs.declared.terms.StrategyName.{StrategyName}
 use Rattle.mf_catalog.specs.declared.terms.StrategyName.TheVariants.{MifosStandard, PrincipalFirst, InterestFirst}
 use Rattle.mf_catalog.specs.declared.terms.StrategyName.TheVariants.{DueFirst}
-use Rattle.mf_alloc.specs.Order.{cell_by, place_by, due_first, due_first_place, by_instalment, place_by_instalment}
+use Rattle.mf_alloc.specs.Order.{cell_by, place_by, due_first, due_first_place, in_order_of_instalments}
+use Rattle.mf_alloc.specs.Order.{place_by_instalment}
 use Rattle.mf_alloc.specs.Order.{standard, portion_by, place_among}
 
 -- the portions and their places
@@ -20,11 +21,12 @@ pub record ArePlaces (portions : ℕ → Portion) (place : Portion → ℕ) : Ty
   pub back : (p : Portion) → portions (place p) ≡ p
   pub small : (p : Portion) → place p < 4
 
-pub is_cell-by_instalment : (portions : ℕ → Portion) (n k : ℕ) → k < 4 * n → IsCell n (by_instalment portions k)
+pub is_cell-by_instalment : (portions : ℕ → Portion) (n k : ℕ) → k < 4 * n
+    → IsCell n (in_order_of_instalments portions k)
 is_cell-by_instalment portions n k within = record { first = omega arith; last = omega arith }
 
 pub back-by_instalment : (portions : ℕ → Portion) (place : Portion → ℕ) (k : ℕ) → ArePlaces portions place
-    → place_by_instalment place (by_instalment portions k) ≡ k
+    → place_by_instalment place (in_order_of_instalments portions k) ≡ k
 back-by_instalment portions place k are =
     let same : place (portions (k % 4)) ≡ k % 4 = are.there (k % 4) (omega arith) in
     omega (arith, same)
@@ -36,7 +38,7 @@ in_range-by_instalment portions place n c are is =
     omega (arith, small, is.first, is.last)
 
 pub forth-by_instalment : (portions : ℕ → Portion) (place : Portion → ℕ) (n : ℕ) (c : Cell) → ArePlaces portions place
-    → IsCell n c → by_instalment portions (place_by_instalment place c) ≡ c
+    → IsCell n c → in_order_of_instalments portions (place_by_instalment place c) ≡ c
 forth-by_instalment portions place n c are is =
     let small : place c.portion < 4 = are.small c.portion in
     let quotient : (4 * (c.instalment - 1) + place c.portion) / 4 + 1 ≡ c.instalment = omega (arith, small, is.first) in
@@ -96,7 +98,7 @@ due-here : (due k : ℕ) → k < 4 * due → due_first due k ≡ record {
 }
 due-here due k here = cond-true (ltb k (4 * due)) _ _ (lt-ltb k (4 * due) here)
 
-due-later : (due k : ℕ) → 4 * due ≤ k → due_first due k ≡ by_instalment standard k
+due-later : (due k : ℕ) → 4 * due ≤ k → due_first due k ≡ in_order_of_instalments standard k
 due-later due k later = cond-false (ltb k (4 * due)) _ _ (le-ltb k (4 * due) later)
 
 pub place-here : (due : ℕ) (c : Cell) → c.instalment ≤ due → due_first_place due c ≡ place_among standard c.portion *
@@ -135,7 +137,7 @@ back-due_first due k =
           ∙ omega (arith, parts)
       | inr later ↦
           ap (due_first_place due) (due-later due k later)
-          ∙ place-later due (by_instalment standard k) (omega (arith, later))
+          ∙ place-later due (in_order_of_instalments standard k) (omega (arith, later))
           ∙ back-by_instalment standard (place_among standard) k standard_places
     ]
 

@@ -2,7 +2,7 @@
 use Rattle.std.specs.Prelude.{◌≡◌, ℕ, ◌+◌, ◌-◌, ◌<◌, ◌≤◌, Bool, nat_lt, List, [], ◌∷◌, slice_index, length, All}
 
 -- an instalment with what is owed, paid, waived and written off of it, by portion
-pub record Sums : Type 0 where
+pub record Instalment : Type 0 where
   pub due : ℕ
   pub owed : List ℕ
   pub paid : List ℕ
@@ -19,37 +19,37 @@ abbrev pub nothing : List ℕ
 nothing = 0 ∷ 0 ∷ 0 ∷ 0 ∷ []
 
 -- an instalment with nothing paid
-abbrev pub fresh_row : ℕ → List ℕ → Sums
+abbrev pub fresh_row : ℕ → List ℕ → Instalment
 fresh_row due owed = record { due = due; owed = owed; paid = nothing; waived = nothing; written_off = nothing }
 
 -- owed, less paid, waived and written off
-abbrev pub open_at : Sums → ℕ → ℕ
+abbrev pub open_at : Instalment → ℕ → ℕ
 open_at row p =
     slice_index row.owed p - slice_index row.paid p - slice_index row.waived p - slice_index row.written_off p
 
 -- what is outstanding in a row, over all portions
-abbrev pub row_outstanding : Sums → ℕ
+abbrev pub row_outstanding : Instalment → ℕ
 row_outstanding row = open_at row 0 + open_at row 1 + open_at row 2 + open_at row 3
 
 -- something is outstanding
-abbrev pub is_open : Sums → Bool
+abbrev pub is_open : Instalment → Bool
 is_open row = nat_lt 0 (row_outstanding row)
 
 -- four sums of each kind
-pub record IsWhole (row : Sums) : Type 0 where
+pub record IsWhole (row : Instalment) : Type 0 where
   pub owed : length row.owed ≡ 4
   pub paid : length row.paid ≡ 4
   pub waived : length row.waived ≡ 4
   pub written_off : length row.written_off ≡ 4
 
 -- each row has a sum for each portion
-abbrev pub AreWhole : List Sums → Type 0
+abbrev pub AreWhole : List Instalment → Type 0
 AreWhole rows = All IsWhole rows
 
 -- in a row, and in each of several, what is settled is at most what is owed
-abbrev pub IsRowWithin : Sums → Type 0
+abbrev pub IsRowWithin : Instalment → Type 0
 IsRowWithin row = IsWithin row.owed row.paid row.waived row.written_off
 
 -- no row has more settled than owed
-abbrev pub AreWithin : List Sums → Type 0
+abbrev pub AreWithin : List Instalment → Type 0
 AreWithin rows = All IsRowWithin rows

@@ -10,5 +10,5 @@ mod strategy;
 
 pub use named::{DueFirst, InterestFirst, MifosStandard, Named, PrincipalFirst};
 pub use payment::{due_by, outstanding, pay, undo};
-pub use row::{Cell, Portion, Row, Share};
+pub use row::{Cell, Instalment, Portion, Share};
 pub use strategy::Strategy;

@@ -1,29 +1,29 @@
 //! A payment laid on the cells of a loan in a strategy's order, and taken back.
 
 ghost use Rattle.std.specs.Prelude.{◌≡◌, ℕ, ◌+◌, ◌*◌, ◌≤◌, IfOk, OnErr, IsOkUnless, length, vec_len, All};
-ghost use Rattle.mf_alloc.specs.Rows.{IsCell, outstanding as open_in, pay_into, with_paid, without_paid, take_out};
+ghost use Rattle.mf_alloc.specs.Rows.{IsCell, outstanding, pay_into, with_paid, without_paid, take_out};
 ghost use Rattle.mf_alloc.specs.Rows.{IsPayable};
-ghost use Rattle.mf_alloc.specs.Order.{due_by as due_among, order_at};
-ghost use Rattle.mf_alloc.specs.Payment.{shares_of as line_shares, rest_of as line_rest, amount_of_shares};
+ghost use Rattle.mf_alloc.specs.Order.{due_by, order_at};
+ghost use Rattle.mf_alloc.specs.Payment.{shares_of, rest_of, amount_of_shares};
 
-use crate::row::{Cell, Row, Share};
+use crate::row::{Cell, Instalment, Share};
 use crate::strategy::Strategy;
 use mf_base::{Day, Fault};
 use std::alloc::Global;
 
 /// What is outstanding in a cell, in whole cents.
-pub fn outstanding(rows: &[Row], cell: Cell) -> u64
+pub fn outstanding(rows: &[Instalment], cell: Cell) -> u64
     requires { IsCell (length rows.now) cell }
-    ensures { result ≡ open_in rows.now cell }
+    ensures { result ≡ outstanding rows.now cell }
 {
     let row = &rows[(cell.instalment - 1) as usize];
     row.outstanding(cell.portion)
 }
 
 /// How many instalments are due by a day: those whose due day is on or before it.
-pub fn due_by(rows: &[Row], day: Day) -> u32
+pub fn due_by(rows: &[Instalment], day: Day) -> u32
     requires { length rows.now ≤ 360 }
-    ensures value { result ≡ due_among day rows.now }
+    ensures value { result ≡ due_by day rows.now }
     ensures most { result ≤ length rows.now }
 {
     rows.iter()
@@ -33,9 +33,9 @@ pub fn due_by(rows: &[Row], day: Day) -> u32
 }
 
 /// Pays a share into its cell.
-fn credit(rows: &mut [Row], share: Share)
+fn credit(rows: &mut [Instalment], share: Share)
     requires there { IsCell (length rows.old) share.cell }
-    requires fits { share.amount ≤ open_in rows.old share.cell }
+    requires fits { share.amount ≤ outstanding rows.old share.cell }
     ensures { rows.new ≡ pay_into rows.old share }
 {
     let row = &mut rows[(share.cell.instalment - 1) as usize];
@@ -44,7 +44,7 @@ fn credit(rows: &mut [Row], share: Share)
 }
 
 /// Takes a share out of its cell.
-fn debit(rows: &mut [Row], share: Share)
+fn debit(rows: &mut [Instalment], share: Share)
     requires { IsCell (length rows.old) share.cell }
     ensures { rows.new ≡ take_out rows.old share }
 {
@@ -54,7 +54,7 @@ fn debit(rows: &mut [Row], share: Share)
 }
 
 /// Pays each share into its cell.
-fn credit_all(rows: &mut [Row], shares: &[Share])
+fn credit_all(rows: &mut [Instalment], shares: &[Share])
     requires { IsPayable rows.old shares.now }
     ensures paid { rows.new ≡ with_paid rows.old shares.now }
     ensures back { without_paid rows.new shares.now ≡ rows.old }
@@ -68,15 +68,15 @@ fn credit_all(rows: &mut [Row], shares: &[Share])
 fn shares_of<T: Strategy>(
     alloc: Global,
     strategy: &T,
-    rows: &[Row],
+    rows: &[Instalment],
     due: u32,
     amount: u64,
 ) -> Result<(Vec<Share>, u64), Fault>
     requires few { length rows.now ≤ 360 }
     requires due { due ≤ length rows.now }
-    ensures shares { IfOk result (λ answer. answer.0.items ≡ line_shares (T.cell_at strategy.now (length rows.now) due)
+    ensures shares { IfOk result (λ answer. answer.0.items ≡ shares_of (T.cell_at strategy.now (length rows.now) due)
         rows.now amount) }
-    ensures rest { IfOk result (λ answer. answer.1 ≡ line_rest (T.cell_at strategy.now (length rows.now) due) rows.now
+    ensures rest { IfOk result (λ answer. answer.1 ≡ rest_of (T.cell_at strategy.now (length rows.now) due) rows.now
         amount) }
     ensures whole { IfOk result (λ answer. amount_of_shares answer.0.items + answer.1 ≡ amount) }
     ensures payable { IfOk result (λ answer. IsPayable rows.now answer.0.items) }
@@ -106,14 +106,14 @@ fn shares_of<T: Strategy>(
 pub fn pay<T: Strategy>(
     alloc: Global,
     strategy: &T,
-    rows: &mut Vec<Row>,
+    rows: &mut Vec<Instalment>,
     amount: u64,
     day: Day,
 ) -> Result<(Vec<Share>, u64), Fault>
     requires { vec_len rows.old ≤ 360 }
-    ensures shares { IfOk result (λ answer. answer.0.items ≡ line_shares (order_at (T.cell_at strategy.now)
+    ensures shares { IfOk result (λ answer. answer.0.items ≡ shares_of (order_at (T.cell_at strategy.now)
         rows.old.items day) rows.old.items amount) }
-    ensures rest { IfOk result (λ answer. answer.1 ≡ line_rest (order_at (T.cell_at strategy.now) rows.old.items day)
+    ensures rest { IfOk result (λ answer. answer.1 ≡ rest_of (order_at (T.cell_at strategy.now) rows.old.items day)
         rows.old.items amount) }
     ensures whole { IfOk result (λ answer. amount_of_shares answer.0.items + answer.1 ≡ amount) }
     ensures few { IfOk result (λ answer. vec_len answer.0 ≤ 4 * vec_len rows.old) }
@@ -132,7 +132,7 @@ pub fn pay<T: Strategy>(
 }
 
 /// Takes shares out again, the last first.
-fn debit_all(rows: &mut [Row], shares: &[Share])
+fn debit_all(rows: &mut [Instalment], shares: &[Share])
     requires { All (λ share. IsCell (length rows.old) share.cell) shares.now }
     ensures { rows.new ≡ without_paid rows.old shares.now }
 {
@@ -144,7 +144,7 @@ fn debit_all(rows: &mut [Row], shares: &[Share])
 }
 
 /// Lowers what is paid by the shares and changes nothing else. It takes no memory.
-pub fn undo(rows: &mut Vec<Row>, shares: &[Share])
+pub fn undo(rows: &mut Vec<Instalment>, shares: &[Share])
     requires { All (λ share. IsCell (vec_len rows.old) share.cell) shares.now }
     ensures { rows.new.items ≡ without_paid rows.old.items shares.now }
 {

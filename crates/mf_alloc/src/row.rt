@@ -1,7 +1,7 @@
 //! The cells of a loan: its instalments with their sums by portion.
 
 ghost use Rattle.std.specs.Prelude.{◌≡◌, ℕ, ◌+◌, ◌<◌, ◌≤◌};
-ghost use Rattle.mf_alloc.specs.Sums.{Sums, IsWithin, fresh_row, open_at, is_open as is_open_row};
+ghost use Rattle.mf_alloc.specs.Sums.{Instalment, IsWithin, fresh_row, open_at, is_open};
 
 use mf_base::Day;
 use std::marker::Model;
@@ -50,7 +50,7 @@ pub struct Share {
 /// An instalment with its sums, in whole cents, each in the order of `Portion`. In each portion what is paid, waived
 /// and written off is together at most what is owed.
 #[derive(Clone, Copy, PartialEq, Eq)]
-pub struct Row {
+pub struct Instalment {
     pub due: Day,
     pub owed: [u64; 4],
     pub paid: [u64; 4],
@@ -58,8 +58,8 @@ pub struct Row {
     pub written_off: [u64; 4],
 }
 
-impl Model for Row {
-    ghost Value = { Sums };
+impl Model for Instalment {
+    ghost Value = { Instalment };
 
     ghost view = { λ row. record {
       due = row.due;
@@ -80,12 +80,12 @@ impl Model for Row {
     } };
 }
 
-impl Row {
+impl Instalment {
     /// An instalment with nothing paid.
-    pub fn fresh(due: Day, owed: [u64; 4]) -> Row
+    pub fn fresh(due: Day, owed: [u64; 4]) -> Instalment
         ensures { result ≡ fresh_row due owed }
     {
-        Row {
+        Instalment {
             due,
             owed,
             paid: [0; 4],
@@ -104,7 +104,7 @@ impl Row {
 
     /// Whether anything of the instalment is outstanding.
     pub fn is_open(&self) -> bool
-        ensures { result ≡ is_open_row self.now }
+        ensures { result ≡ is_open self.now }
     {
         self.outstanding_at(0) > 0
             || self.outstanding_at(1) > 0
@@ -113,7 +113,7 @@ impl Row {
     }
 }
 
-impl Row {
+impl Instalment {
     ghost use Rattle.std.specs.Prelude.{◌≡◌};
     ghost use Rattle.mf_alloc.specs.Rows.{place_in_row};
     ghost use Rattle.mf_alloc.specs.Sums.{open_at};

@@ -18,12 +18,12 @@ class_of (pos days) = class_by days
 class_of (negsuc days) = C0
 
 -- an active loan: its outstanding principal and its days overdue
-pub record Loan : Type 0 where
+pub record AgedLoan : Type 0 where
   pub principal : ℕ
   pub days : ℤ
 
 -- a line: how many loans, their outstanding principal, and that of each class
-pub record Line : Type 0 where
+pub record OfficeLine : Type 0 where
   pub office : ℕ
   pub loans : ℕ
   pub outstanding : ℕ
@@ -70,15 +70,15 @@ if_over_90 C31To60 amount = 0
 if_over_90 C61To90 amount = 0
 
 -- the principal of the loans in a class
-abbrev pub sum_in : (Class → ℕ → ℕ) → List Loan → ℕ
-sum_in chosen loans = sum_by (λ (loan : Loan). chosen (class_of loan.days) loan.principal) loans
+abbrev pub sum_in : (Class → ℕ → ℕ) → List AgedLoan → ℕ
+sum_in chosen loans = sum_by (λ (loan : AgedLoan). chosen (class_of loan.days) loan.principal) loans
 
 -- the line of an office's active loans
-abbrev pub line_of : ℕ → List Loan → Line
-line_of office loans = record {
+abbrev pub line_of_loans : ℕ → List AgedLoan → OfficeLine
+line_of_loans office loans = record {
   office = office;
   loans = length loans;
-  outstanding = sum_by (λ (loan : Loan). loan.principal) loans;
+  outstanding = sum_by (λ (loan : AgedLoan). loan.principal) loans;
   c1_30 = sum_in if_1_30 loans;
   c31_60 = sum_in if_31_60 loans;
   c61_90 = sum_in if_61_90 loans;
@@ -86,7 +86,7 @@ line_of office loans = record {
 }
 
 -- a line with one loan more
-abbrev pub with_loan : Line → ℕ → ℤ → Line
+abbrev pub with_loan : OfficeLine → ℕ → ℤ → OfficeLine
 with_loan line principal days = record {
   office = line.office;
   loans = line.loans + 1;
@@ -102,5 +102,5 @@ abbrev pub hundredths_of : ℕ → ℕ → ℕ
 hundredths_of whole part = if whole == 0 then 0 else half_even (10000 * part) whole
 
 -- the part of more than 30 days, in hundredths of a percent
-abbrev pub par30_of : Line → ℕ
+abbrev pub par30_of : OfficeLine → ℕ
 par30_of line = hundredths_of line.outstanding (line.c31_60 + line.c61_90 + line.over_90)

@@ -1,17 +1,17 @@
 //! How long a loan is overdue, and the class that it falls into by that.
 
 ghost use Rattle.std.specs.Prelude.{◌≡◌, pos};
-ghost use Rattle.mf_arrears.specs.Ageing.{days_overdue, days_since, earliest_due as earliest_due_of};
-ghost use Rattle.mf_arrears.specs.Ageing.{earlier as earlier_of};
+ghost use Rattle.mf_arrears.specs.Ageing.{days_overdue, days_since, earliest_due};
+ghost use Rattle.mf_arrears.specs.Ageing.{earlier};
 ghost use Rattle.mf_arrears.specs.Line.{class_of};
 
 use crate::line::Class;
-use mf_alloc::Row;
+use mf_alloc::Instalment;
 use mf_base::Day;
 
 /// The earlier of a day, where there is one, and another.
 pub fn earlier(day: Option<Day>, other: Day) -> Option<Day>
-    ensures { result ≡ earlier_of day other }
+    ensures { result ≡ earlier day other }
 {
     match day {
         Some(day) if day <= other => Some(day),
@@ -20,8 +20,8 @@ pub fn earlier(day: Option<Day>, other: Day) -> Option<Day>
 }
 
 /// The earliest due day of an instalment with something outstanding.
-fn earliest_due(rows: &[Row]) -> Option<Day>
-    ensures { result ≡ earliest_due_of rows.now }
+fn earliest_due(rows: &[Instalment]) -> Option<Day>
+    ensures { result ≡ earliest_due rows.now }
 {
     rows.iter()
         .filter(|row| row.is_open())
@@ -41,7 +41,7 @@ pub fn days_past(due: Option<Day>, day: Day) -> i64
 
 /// How many days a loan is overdue on a day: the days since the earliest due day of an instalment with something
 /// outstanding, and 0 where that day is not past or there is none.
-pub fn arrears(rows: &[Row], day: Day) -> i64
+pub fn arrears(rows: &[Instalment], day: Day) -> i64
     ensures { result ≡ pos (days_overdue rows.now day) }
 {
     days_past(earliest_due(rows), day)

@@ -3,14 +3,14 @@
 
 ghost use Rattle.std.specs.Prelude.{◌≡◌, ◌⊎◌, ℕ, ◌+◌, ◌^◌, ◌<◌, ◌≤◌, List, ◌++◌, OnOk, OnErr};
 ghost use Rattle.mf_alloc.specs.Sums.{open_at};
-ghost use Rattle.mf_arrears.specs.Line.{Loan, line_of};
-ghost use Rattle.mf_arrears.specs.Folding.{LoanSoFar as LoanRead, aged_by, nothing_of, with_row, Progress, step};
-ghost use Rattle.mf_arrears.specs.Folding.{IsLow, IsAt};
+ghost use Rattle.mf_arrears.specs.Line.{AgedLoan, line_of_loans};
+ghost use Rattle.mf_arrears.specs.Folding.{LoanSoFar, aged_by, nothing_of, with_row, Progress, step};
+ghost use Rattle.mf_arrears.specs.Folding.{IsLow, IsSoFar};
 
 use crate::ageing::{days_past, earlier};
 use crate::line::OfficeLine;
 use crate::report::MOST_LOANS;
-use mf_alloc::{Portion, Row};
+use mf_alloc::{Instalment, Portion};
 use mf_base::Day;
 use mf_catalog::GREATEST_AMOUNT;
 use std::marker::Model;
@@ -29,7 +29,7 @@ pub struct LoanSoFar {
 }
 
 impl Model for LoanSoFar {
-    ghost Value = { LoanRead };
+    ghost Value = { LoanSoFar };
 
     ghost view = { λ read. record { loan = read.loan; principal = read.principal; due = read.due } };
 
@@ -49,7 +49,7 @@ impl LoanSoFar {
     }
 
     /// Takes in an instalment of this loan.
-    fn add(&mut self, row: Row) -> Result<(), TooMuch>
+    fn add(&mut self, row: Instalment) -> Result<(), TooMuch>
         ensures value { OnOk result (self.new ≡ with_row self.old row) }
         ensures too_much { OnErr result (2 ^ 64 ≤ self.old.principal + open_at row 3) }
     {
@@ -66,8 +66,8 @@ impl LoanSoFar {
 
     /// Adds the loan to its office's line, where something is outstanding. At an error the line says nothing.
     pub fn count(&self, today: Day, line: &mut OfficeLine) -> Result<(), TooMuch>
-        ensures line { OnOk result ((office : ℕ) (loans : List Loan) → line.old ≡ line_of office loans
-            → line.new ≡ line_of office (loans ++ aged_by today self.now.principal self.now.due)) }
+        ensures line { OnOk result ((office : ℕ) (loans : List AgedLoan) → line.old ≡ line_of_loans office loans
+            → line.new ≡ line_of_loans office (loans ++ aged_by today self.now.principal self.now.due)) }
         ensures too_much { OnErr result ((10 ^ 12 < self.now.principal) ⊎ (10 ^ 10 ≤ line.old.loans)) }
     {
         let Some(due) = self.due else {
@@ -84,13 +84,13 @@ impl LoanSoFar {
     /// one is added to its office's line. At an error both say nothing.
     pub fn take(
         &mut self,
-        found: (u32, Row),
+        found: (u32, Instalment),
         today: Day,
         line: &mut OfficeLine,
     ) -> Result<(), TooMuch>
-        ensures value { OnOk result ((office : ℕ) (p : Progress) → IsAt office p self.old line.old
-            → IsAt office (step today p found) self.new line.new) }
-        ensures too_much { OnErr result ((office : ℕ) (p : Progress) → IsAt office p self.old line.old → IsLow p
+        ensures value { OnOk result ((office : ℕ) (p : Progress) → IsSoFar office p self.old line.old
+            → IsSoFar office (step today p found) self.new line.new) }
+        ensures too_much { OnErr result ((office : ℕ) (p : Progress) → IsSoFar office p self.old line.old → IsLow p
             → IsLow (step today p found) → ⊥) }
     {
         let (loan, row) = found;

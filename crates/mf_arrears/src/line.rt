@@ -1,7 +1,8 @@
 //! An office's line of the report of arrears.
 
 ghost use Rattle.std.specs.Prelude.{◌≡◌, ℕ, ◌+◌, ◌*◌, ◌<◌, ◌≤◌, ◌^◌, List, [], ◌∷◌, ◌++◌};
-ghost use Rattle.mf_arrears.specs.Line.{Line, IsLine, Loan, line_of, with_loan, hundredths_of, par30_of};
+ghost use Rattle.mf_arrears.specs.Line.{OfficeLine, IsLine, AgedLoan, line_of_loans, with_loan, hundredths_of};
+ghost use Rattle.mf_arrears.specs.Line.{par30_of};
 
 use crate::ageing::class;
 use mf_base::half_even;
@@ -37,7 +38,7 @@ pub struct OfficeLine {
 }
 
 impl Model for OfficeLine {
-    ghost Value = { Line };
+    ghost Value = { OfficeLine };
 
     ghost view = { λ l. record {
       office = l.office;
@@ -65,7 +66,7 @@ impl Model for OfficeLine {
 impl OfficeLine {
     /// An office without active loans.
     pub fn new(office: OfficeNo) -> Self
-        ensures { result ≡ line_of office [] }
+        ensures { result ≡ line_of_loans office [] }
     {
         OfficeLine {
             office,
@@ -83,8 +84,8 @@ impl OfficeLine {
         requires principal { principal ≤ 10 ^ 12 }
         requires loans { self.old.loans < 10 ^ 10 }
         ensures value { self.new ≡ with_loan self.old principal days }
-        ensures line { (office : ℕ) (loans : List Loan) → self.old ≡ line_of office loans
-            → self.new ≡ line_of office (loans ++ record { principal = principal; days = days } ∷ []) }
+        ensures line { (office : ℕ) (loans : List AgedLoan) → self.old ≡ line_of_loans office loans
+            → self.new ≡ line_of_loans office (loans ++ record { principal = principal; days = days } ∷ []) }
     {
         let principal = principal as u128;
         self.loans += 1;

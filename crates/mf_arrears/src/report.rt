@@ -4,9 +4,9 @@ ghost use Rattle.std.specs.Prelude.{◌≡◌, ℕ, ◌+◌, ◌*◌, ◌-◌, �
 ghost use Rattle.std.specs.Prelude.{◌≢◌, string_bytes, sum_by, decimal};
 ghost use Rattle.mf_base.specs.Money as spec;
 ghost use Rattle.mf_base.specs.Texts.{right};
-ghost use Rattle.mf_arrears.specs.Line.{Line, IsLine, par30_of};
-ghost use Rattle.mf_arrears.specs.Report.{columns_of, columns, sums_of, line_text, all_text, total_of};
-ghost use Rattle.mf_arrears.specs.Report.{plus as plus_line, report_bytes};
+ghost use Rattle.mf_arrears.specs.Line.{OfficeLine, IsLine, par30_of};
+ghost use Rattle.mf_arrears.specs.Report.{report_columns, columns, sums_of, line_text, all_text, total_of};
+ghost use Rattle.mf_arrears.specs.Report.{plus, report_bytes};
 
 use crate::line::{OfficeLine, part_at_risk};
 use mf_base::{Fault, money_text, push_right};
@@ -28,7 +28,7 @@ pub struct Totals {
 }
 
 impl Model for Totals {
-    ghost Value = { Line };
+    ghost Value = { OfficeLine };
 
     ghost view = { λ t. record {
       office = 0;
@@ -47,8 +47,8 @@ impl Totals {
     /// The sums of lines, or None where they have over 10^10 loans.
     pub fn of(lines: &[OfficeLine]) -> Option<Totals>
         ensures value { IfSome result (λ totals. totals ≡ total_of lines.now) }
-        ensures few { IfSome result (λ totals. sum_by (λ (line : Line). line.loans) lines.now ≤ 10 ^ 10) }
-        ensures some { sum_by (λ (line : Line). line.loans) lines.now ≤ 10 ^ 10 → result ≢ None }
+        ensures few { IfSome result (λ totals. sum_by (λ (line : OfficeLine). line.loans) lines.now ≤ 10 ^ 10) }
+        ensures some { sum_by (λ (line : OfficeLine). line.loans) lines.now ≤ 10 ^ 10 → result ≢ None }
     {
         let mut all = Totals::new();
         for office in lines {
@@ -76,7 +76,7 @@ impl Totals {
     /// Adds an office's line.
     fn add_line(&mut self, line: &OfficeLine)
         requires { self.old.loans + line.now.loans ≤ 10 ^ 10 }
-        ensures { self.new ≡ plus_line self.old line.now }
+        ensures { self.new ≡ plus self.old line.now }
     {
         self.loans += line.loans;
         self.outstanding += line.outstanding;
@@ -124,7 +124,7 @@ fn push_columns(
     sums: &[u128],
     par30: u128,
 ) -> Result<(), Fault>
-    ensures text { OnOk result (string_bytes out.new ≡ string_bytes out.old ++ columns_of loans sums.now par30) }
+    ensures text { OnOk result (string_bytes out.new ≡ string_bytes out.old ++ report_columns loans sums.now par30) }
     ensures only { IsOkUnless result Fault.F20 }
 {
     push_number(alloc, out, loans, 12)?;
@@ -171,7 +171,7 @@ fn push_all(alloc: Global, out: &mut String, all: &Totals) -> Result<(), Fault>
 /// The report: a line for each office, in the order handed in, and the line of their sums. Each is 144 columns wide,
 /// and sums are money texts. The only error is F20, out of memory.
 pub fn report_text(alloc: Global, lines: &[OfficeLine]) -> Result<String, Fault>
-    requires { sum_by (λ (line : Line). line.loans) lines.now ≤ 10 ^ 10 }
+    requires { sum_by (λ (line : OfficeLine). line.loans) lines.now ≤ 10 ^ 10 }
     ensures text { IfOk result (λ text. string_bytes text ≡ report_bytes lines.now) }
     ensures only { IsOkUnless result Fault.F20 }
 {

@@ -6,7 +6,7 @@ use Rattle.std.specs.List.{range_with_len}
 use Rattle.std.proofs.lemmas.Bool.{cases_order, cond_both, ltb-true, ltb-false}
 use Rattle.std.proofs.lemmas.List.Sums.{sum-map}
 use Rattle.std.proofs.lemmas.List.FromFn.{sum_by-map-range_with_len_more}
-use Rattle.mf_base.specs.Calendar.{Date, IsDate, year_length, month_length, years_before, months_before, day_of}
+use Rattle.mf_base.specs.Calendar.{CalendarDate, IsDate, year_length, month_length, years_before, months_before, day_of}
 use Rattle.mf_base.specs.Calendar.{next_date, date_of}
 
 -- a sum over one number more
@@ -73,7 +73,8 @@ years_before_mono year later low le =
     subst (λ (x : ℕ). years_before year ≤ years_before x) there (years_before_mono_by year (later - year) low)
 
 -- a date lies before each later month, and before each later year
-day_of-lt_month : (date : Date) (month : ℕ) → IsDate date → date.month < month → day_of date < years_before date.year
+day_of-lt_month : (date : CalendarDate) (month : ℕ) → IsDate date → date.month < month
+    → day_of date < years_before date.year
     + months_before date.year month
 unfolding day_of
 day_of-lt_month date month is later =
@@ -86,7 +87,7 @@ day_of-lt_month date month is later =
       is.last_day,
     )
 
-pub day_of-lt_year : (date : Date) (year : ℕ) → IsDate date → date.year < year → day_of date < years_before year
+pub day_of-lt_year : (date : CalendarDate) (year : ℕ) → IsDate date → date.year < year → day_of date < years_before year
 day_of-lt_year date year is later =
     omega (
       arith,
@@ -98,16 +99,17 @@ day_of-lt_year date year is later =
     )
 
 -- and not before its own
-pub years_before-le-day_of : (date : Date) (year : ℕ) → 2000 ≤ year → year ≤ date.year → years_before year ≤ day_of date
+pub years_before-le-day_of : (date : CalendarDate) (year : ℕ) → 2000 ≤ year → year ≤ date.year → years_before year
+    ≤ day_of date
 unfolding day_of
 years_before-le-day_of date year low le = omega (arith, years_before_mono year date.year low le)
 
 -- in the order of year, month and day
-abbrev pub IsEarlier : Date → Date → Type 0
+abbrev pub IsEarlier : CalendarDate → CalendarDate → Type 0
 IsEarlier a b =
     (a.year < b.year) ⊎ ((a.year ≡ b.year) × ((a.month < b.month) ⊎ ((a.month ≡ b.month) × (a.day < b.day))))
 
-pub day_of-lt : (a b : Date) → IsDate a → IsDate b → IsEarlier a b → day_of a < day_of b
+pub day_of-lt : (a b : CalendarDate) → IsDate a → IsDate b → IsEarlier a b → day_of a < day_of b
 unfolding day_of
 day_of-lt a b first second (inl year) = omega (arith, day_of-lt_year a b.year first year)
 day_of-lt a b first second (inr (year, inl month)) =
@@ -115,7 +117,7 @@ day_of-lt a b first second (inr (year, inl month)) =
 day_of-lt a b first second (inr (year, inr day)) = rw (year, day.0) (omega (arith, day.1, first.first_day))
 
 -- of two dates one is earlier, or they are the same
-cases_date : (a b : Date) → IsEarlier a b ⊎ (IsEarlier b a ⊎ (a ≡ b))
+cases_date : (a b : CalendarDate) → IsEarlier a b ⊎ (IsEarlier b a ⊎ (a ≡ b))
 cases_date a b =
     elim (cases_order a.year b.year) [
       | inr (inl lt) ↦ inl (inl lt)
@@ -132,7 +134,7 @@ cases_date a b =
     ]
 
 -- no two dates have one number
-pub day_of-injective : (a b : Date) → IsDate a → IsDate b → day_of a ≡ day_of b → a ≡ b
+pub day_of-injective : (a b : CalendarDate) → IsDate a → IsDate b → day_of a ≡ day_of b → a ≡ b
 day_of-injective a b first second same =
     elim (cases_date a b) [
       | inl lt ↦ absurd (omega (arith, same, day_of-lt a b first second lt))
@@ -141,7 +143,8 @@ day_of-injective a b first second same =
     ]
 
 -- the date after is a date, and its number is the next
-next_date-step : (date : Date) → IsDate date → IsDate (next_date date) × (day_of (next_date date) ≡ suc (day_of date))
+next_date-step : (date : CalendarDate) → IsDate date → IsDate (next_date date)
+    × (day_of (next_date date) ≡ suc (day_of date))
 unfolding day_of
 next_date-step date is =
     let january = months_before_none (date.year + 1) in
@@ -211,5 +214,5 @@ IsDate-date_of day = (date_of-step day).0
 pub day_of-date_of : (day : ℕ) → day_of (date_of day) ≡ day
 day_of-date_of day = (date_of-step day).1
 
-pub date_of-day_of : (date : Date) → IsDate date → date_of (day_of date) ≡ date
+pub date_of-day_of : (date : CalendarDate) → IsDate date → date_of (day_of date) ≡ date
 date_of-day_of date is = day_of-injective _ date (IsDate-date_of (day_of date)) is (day_of-date_of (day_of date))

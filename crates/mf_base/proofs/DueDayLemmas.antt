@@ -3,10 +3,10 @@ use Rattle.std.proofs.Common.{◌≡◌, ℕ, ◌+◌, ◌-◌, ◌*◌, ◌/◌
 use Rattle.std.proofs.lemmas.Bool.{cases_lt}
 use Rattle.mf_base.specs.declared.day.Freq.{Freq}
 use Rattle.mf_base.specs.declared.day.Freq.TheVariants.{Weeks, Months}
-use Rattle.mf_base.specs.Calendar.{Date, IsDate, month_length, date_of, day_of, months_on, day_after}
+use Rattle.mf_base.specs.Calendar.{CalendarDate, IsDate, month_length, date_of, day_of, months_on, day_after}
 use Rattle.mf_base.proofs.CalendarLemmas.{month_length_bounds, day_of-lt, IsEarlier, IsDate-date_of, day_of-date_of}
 
-pub IsDate-months_on : (date : Date) (count : ℕ) → IsDate date → IsDate (months_on date count)
+pub IsDate-months_on : (date : CalendarDate) (count : ℕ) → IsDate date → IsDate (months_on date count)
 IsDate-months_on date count is =
     let long = month_length_bounds (months_on date count).year (months_on date count).month in
     record {
@@ -17,7 +17,7 @@ IsDate-months_on date count is =
       last_day = omega arith;
     }
 
-earlier_month : (a b : Date) (m n : ℕ) → m < n → a.year ≡ m / 12 → a.month ≡ m % 12 + 1 → b.year ≡ n / 12
+earlier_month : (a b : CalendarDate) (m n : ℕ) → m < n → a.year ≡ m / 12 → a.month ≡ m % 12 + 1 → b.year ≡ n / 12
     → b.month ≡ n % 12 + 1 → IsEarlier a b
 earlier_month a b m n lt year month later_year later_month =
     elim (cases_lt a.year b.year) [
@@ -25,7 +25,7 @@ earlier_month a b m n lt year month later_year later_month =
       | inr not ↦ inr (omega (arith, not), inl (omega (arith, not)))
     ]
 
-pub months_on-lt : (date : Date) (fewer more : ℕ) → IsDate date → fewer < more → day_of (months_on date fewer)
+pub months_on-lt : (date : CalendarDate) (fewer more : ℕ) → IsDate date → fewer < more → day_of (months_on date fewer)
     < day_of (months_on date more)
 months_on-lt date fewer more is lt =
     day_of-lt _ _ (IsDate-months_on date fewer is) (IsDate-months_on date more is)
@@ -37,7 +37,7 @@ pub day_after-lt : (day : ℕ) (freq : Freq) (fewer more : ℕ) → fewer < more
 day_after-lt day Weeks fewer more lt = omega arith
 day_after-lt day Months fewer more lt = months_on-lt (date_of day) fewer more (IsDate-date_of day) lt
 
-months_on-none : (date : Date) → IsDate date → months_on date 0 ≡ date
+months_on-none : (date : CalendarDate) → IsDate date → months_on date 0 ≡ date
 months_on-none date is =
     let months : 12 * date.year + (date.month - 1) + 0 ≡ 12 * date.year + (date.month - 1) = omega arith in
     let year : (12 * date.year + (date.month - 1) + 0) / 12 ≡ date.year = omega (arith, is.last_month) in

@@ -3,7 +3,7 @@ use Rattle.std.proofs.Common.{◌≡◌, ℕ, ◌+◌, ◌/◌, ◌%◌, ◌<◌
 use Rattle.std.specs.Fmt.{decimal, styled_decimal, format_spec, padded_integral, char_count}
 use Rattle.std.proofs.lemmas.Fmt.{decimal_digit, decimal_step}
 use Rattle.std.proofs.lemmas.Bool.{cases_lt}
-use Rattle.jiff_core.specs.declared.civil.date.Date.{Date as CivilDate}
+use Rattle.jiff_core.specs.declared.civil.date.Date.{Date}
 use Rattle.mf_base.specs.CivilDate.{date_from, IsSince2000}
 use Rattle.mf_base.specs.DayText.{two_digits, date_text}
 use Rattle.mf_base.proofs.CivilDateLemmas.{IsDate-since, year-below}
@@ -36,7 +36,7 @@ decimal_four n low high =
     ∙ rw (tens, ones)
 
 -- the three numbers with dashes between them
-pub written_date : (date : CivilDate) → IsSince2000 date → decimal (unsigned_abs date.year) ++ 45
+pub written_date : (date : Date) → IsSince2000 date → decimal (unsigned_abs date.year) ++ 45
     ∷ (styled_decimal (format_spec 32 0 4 2 18446744073709551615) date.month ++ 45
     ∷ styled_decimal (format_spec 32 0 4 2 18446744073709551615) date.day) ≡ date_text (date_from date)
 written_date date since =

@@ -6,7 +6,7 @@ use Rattle.mf_base.specs.declared.day.Freq.{Freq}
 use Rattle.mf_base.specs.declared.day.Freq.TheVariants.{Weeks, Months}
 
 -- a date of the calendar
-pub record Date : Type 0 where
+pub record CalendarDate : Type 0 where
   pub year : ℕ
   pub month : ℕ
   pub day : ℕ
@@ -26,7 +26,7 @@ month_length year month =
     else (if (month == 4) || (month == 6) || (month == 9) || (month == 11) then 30 else 31)
 
 -- the calendar has this date
-pub record IsDate (date : Date) : Type 0 where
+pub record IsDate (date : CalendarDate) : Type 0 where
   pub year : 2000 ≤ date.year
   pub first_month : 1 ≤ date.month
   pub last_month : date.month ≤ 12
@@ -42,23 +42,23 @@ abbrev pub months_before : ℕ → ℕ → ℕ
 months_before year month = sum_by (month_length year) (range_with_len 1 (month - 1))
 
 -- the days of the years before, of the months before, and of the month before the date
-unfoldable pub day_of : Date → ℕ
+unfoldable pub day_of : CalendarDate → ℕ
 day_of date = years_before date.year + months_before date.year date.month + (date.day - 1)
 
 -- the date after
-abbrev pub next_date : Date → Date
+abbrev pub next_date : CalendarDate → CalendarDate
 next_date date =
     if nat_lt date.day (month_length date.year date.month) then record date { day = date.day + 1 }
     else (if nat_lt date.month 12 then record { year = date.year; month = date.month + 1; day = 1 }
     else record { year = date.year + 1; month = 1; day = 1 })
 
 -- the date of a day
-unfoldable pub date_of : ℕ → Date
+unfoldable pub date_of : ℕ → CalendarDate
 date_of zero = record { year = 2000; month = 1; day = 1 }
 date_of (suc day) = next_date (date_of day)
 
 -- so many months on; a day that the month has not is its last
-abbrev pub months_on : Date → ℕ → Date
+abbrev pub months_on : CalendarDate → ℕ → CalendarDate
 months_on date count =
     let months = 12 * date.year + (date.month - 1) + count in
     let year = months / 12 in

@@ -1,13 +1,13 @@
 -- The texts of days.
 use Rattle.std.specs.Prelude.{◌≡◌, ℕ, ◌+◌, ◌/◌, ◌%◌, ◌<◌, List, [], ◌∷◌, ◌++◌}
-use Rattle.mf_base.specs.Calendar.{Date, date_of}
+use Rattle.mf_base.specs.Calendar.{CalendarDate, date_of}
 
 -- a number below 100 as two digits
 abbrev pub two_digits : ℕ → List ℕ
 two_digits number = (48 + number / 10) ∷ (48 + number % 10) ∷ []
 
 -- YYYY-MM-DD
-abbrev pub date_text : Date → List ℕ
+abbrev pub date_text : CalendarDate → List ℕ
 date_text date =
     two_digits (date.year / 100) ++ (two_digits (date.year % 100)
     ++ 45 ∷ (two_digits date.month ++ 45 ∷ two_digits date.day))

@@ -1,25 +1,26 @@
 //! Laws of days and of money texts. Each function does nothing: its contract is the law.
 
 ghost use Rattle.std.specs.Prelude.{◌≡◌, ◌↔◌, ℕ, ◌<◌, ◌≤◌};
-ghost use Rattle.mf_base.specs.Calendar.{Date, IsDate, date_of, day_of, day_after};
+ghost use Rattle.mf_base.specs.Calendar.{CalendarDate, IsDate, date_of, day_of, day_after};
 ghost use Rattle.mf_base.specs.declared.day.Freq.{Freq};
 ghost use Rattle.mf_base.specs.DayText.{date_text, day_text, last_entered_day, last_day};
 ghost use Rattle.mf_base.specs.Money.{IsMoneyText, money_limit, money_text};
 
-/// Date and number of a day give each other back: each number is that of one date, and each date has one number.
+/// CalendarDate and number of a day give each other back: each number is that of one date, and each date has one
+/// number.
 pub fn dates_and_numbers()
     ensures is_date { (day : ℕ) → IsDate (date_of day) }
     ensures number { (day : ℕ) → day_of (date_of day) ≡ day }
-    ensures date { (date : Date) → IsDate date → date_of (day_of date) ≡ date }
+    ensures date { (date : CalendarDate) → IsDate date → date_of (day_of date) ≡ date }
 {}
 
 /// A day's text is that of its date, and no two days have one text. The days that may be entered are those
 /// before the year 2100, and the days that have a text are those before the year 10000.
 pub fn texts_of_days()
-    ensures text { (date : Date) → IsDate date → day_text (day_of date) ≡ date_text date }
+    ensures text { (date : CalendarDate) → IsDate date → day_text (day_of date) ≡ date_text date }
     ensures apart { (one other : ℕ) → day_text one ≡ day_text other → one ≡ other }
-    ensures entered { (date : Date) → IsDate date → ((date.year < 2100) ↔ (day_of date ≤ last_entered_day)) }
-    ensures last { (date : Date) → IsDate date → ((date.year < 10_000) ↔ (day_of date ≤ last_day)) }
+    ensures entered { (date : CalendarDate) → IsDate date → ((date.year < 2100) ↔ (day_of date ≤ last_entered_day)) }
+    ensures last { (date : CalendarDate) → IsDate date → ((date.year < 10_000) ↔ (day_of date ≤ last_day)) }
 {}
 
 /// No step leads to the day itself, and more steps lead to a later day: due days ascend.

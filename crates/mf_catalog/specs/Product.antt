@@ -31,9 +31,9 @@ has_kind kind None = false
 has_kind kind (Some charge) = same_kind kind charge.kind
 
 -- the charge is there, where one is named
-abbrev pub is_there : (ℕ → Option ChargeDef) → Option ℕ → Bool
-is_there charges None = true
-is_there charges (Some k) = is_some (charges k)
+abbrev pub is_charge_there : (ℕ → Option ChargeDef) → Option ℕ → Bool
+is_charge_there charges None = true
+is_charge_there charges (Some k) = is_some (charges k)
 
 -- the charge is there and has this kind, where one is named
 abbrev pub is_of_kind : (ℕ → Option ChargeDef) → ChargeKind → Option ℕ → Bool
@@ -42,7 +42,8 @@ is_of_kind charges kind (Some k) = has_kind kind (charges k)
 
 -- each charge that the product names is there
 abbrev pub charges_there : (ℕ → Option ChargeDef) → ProductMembers → Bool
-charges_there charges p = is_there charges p.disbursement_charge && (is_there charges p.instalment_charge && is_there
+charges_there charges p = is_charge_there charges p.disbursement_charge
+    && (is_charge_there charges p.instalment_charge && is_charge_there
     charges p.overdue_charge)
 
 -- each charge that the product names is there and of the kind that its place asks

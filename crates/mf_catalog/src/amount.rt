@@ -1,7 +1,7 @@
 //! What a charge comes to on a principal and its interest.
 
 ghost use Rattle.std.specs.Prelude.{◌≡◌, ◌*◌, ◌<◌, ◌≤◌, ◌^◌};
-ghost use Rattle.mf_base.specs.Rounding.{half_even as rounded};
+ghost use Rattle.mf_base.specs.Rounding.{half_even};
 ghost use Rattle.mf_catalog.specs.Charge.{amount_of, base_of};
 ghost use Rattle.mf_catalog.specs.Limits.{IsChargeWithinLimits};
 
@@ -26,7 +26,7 @@ pub fn charge_amount(charge: &ChargeDef, amount: u64, interest: u64) -> u64
 /// So many hundredths of a percent of a base.
 fn percentage(base: u64, value: u64) -> u64
     requires { value ≤ 10000 }
-    ensures { result ≡ rounded (base * value) 10000 }
+    ensures { result ≡ half_even (base * value) 10000 }
 {
     half_even(base as u128 * value as u128, 10000) as u64
 }

@@ -4,7 +4,7 @@ ghost use Rattle.std.specs.Prelude.{◌≡◌, ◌⊎◌, ℕ, cond, option_map,
 ghost use Rattle.mf_base.specs.declared.fault.Fault.{Fault};
 ghost use Rattle.mf_base.specs.declared.fault.Fault.TheVariants.{F7, F8, F20};
 ghost use Rattle.mf_catalog.specs.Product.{charge_at, charges_there, is_consistent, limits_agree, kinds_right};
-ghost use Rattle.mf_catalog.specs.Product.{is_of_kind, lending, charge_of, terms_of as terms_given};
+ghost use Rattle.mf_catalog.specs.Product.{is_of_kind, lending, charge_of, terms_of};
 
 use crate::charge::{ChargeDef, ChargeKind};
 use crate::product::{Product, ProductMembers};
@@ -99,7 +99,7 @@ fn copy_named(charges: &[ChargeDef], named: Option<u32>) -> Result<Option<Charge
 /// that stands. The charges hold those that the product names. F20 when out of memory.
 pub fn terms_of(product: &Product, charges: &[ChargeDef]) -> Result<Terms, Fault>
     requires named { charges_there (charge_at charges.now) product.now.members ≡ true }
-    ensures ok { IfOk result (λ terms. terms ≡ terms_given (charge_at charges.now) product.now.members) }
+    ensures ok { IfOk result (λ terms. terms ≡ terms_of (charge_at charges.now) product.now.members) }
     ensures err { IfErr result (λ fault. fault ≡ F20) }
 {
     let members = &product.members;
@@ -120,7 +120,7 @@ pub fn terms_for(
 ) -> Result<Terms, Fault>
     requires named { charges_there (charge_at charges.now) product.now.members ≡ true }
     ensures ok { IfOk result (λ terms. (lending product.now principal periods ≡ Ok tt)
-        × (terms ≡ terms_given (charge_at charges.now) product.now.members)) }
+        × (terms ≡ terms_of (charge_at charges.now) product.now.members)) }
     ensures refused { (fault : Fault) → lending product.now principal periods ≡ Err fault → result ≡ Err fault }
     ensures err { IfErr result (λ fault. (lending product.now principal periods ≡ Err fault)
         ⊎ ((lending product.now principal periods ≡ Ok tt) × (fault ≡ F20))) }

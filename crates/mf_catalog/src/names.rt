@@ -105,7 +105,8 @@ impl Choice for Method {
         self as u32
     }
 
-    ghost told_apart = { elim [ method.Flat ↦ (refl, refl) | method.EqualPrincipal ↦ (refl, refl) | method.Fixed ↦ (refl, refl) ] };
+    ghost told_apart = { elim
+        [ method.Flat ↦ (refl, refl) | method.EqualPrincipal ↦ (refl, refl) | method.Fixed ↦ (refl, refl) ] };
 }
 
 impl Choice for StrategyName {

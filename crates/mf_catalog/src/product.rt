@@ -42,7 +42,7 @@ pub struct ProductMembers {
 
 impl ProductMembers {
     ghost use Rattle.std.specs.Prelude.{◌≡◌};
-    ghost use Rattle.mf_catalog.specs.Product.{terms_with as terms_given};
+    ghost use Rattle.mf_catalog.specs.Product.{terms_with};
 
     /// The terms that a product with these members gives a loan, with these charges at disbursement, with each
     /// instalment and for an overdue one.
@@ -52,7 +52,7 @@ impl ProductMembers {
         instalment: Option<ChargeDef>,
         overdue: Option<ChargeDef>,
     ) -> Terms
-        ensures { result ≡ terms_given self.now disbursement instalment overdue }
+        ensures { result ≡ terms_with self.now disbursement instalment overdue }
     {
         Terms {
             method: self.method,

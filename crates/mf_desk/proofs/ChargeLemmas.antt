@@ -9,7 +9,7 @@ use Rattle.mf_catalog.specs.declared.charge.ChargeDef.{ChargeDef}
 use Rattle.mf_catalog.specs.declared.charge.ChargeKind.{ChargeKind}
 use Rattle.mf_catalog.specs.declared.charge.ChargeKind.TheVariants.{Disbursement, Instalment, Overdue}
 use Rattle.mf_catalog.specs.declared.product.ProductMembers.{ProductMembers}
-use Rattle.mf_catalog.specs.Product.{charge_at, is_there, has_kind, is_of_kind, charges_there, limits_agree}
+use Rattle.mf_catalog.specs.Product.{charge_at, is_charge_there, has_kind, is_of_kind, charges_there, limits_agree}
 use Rattle.mf_catalog.specs.Product.{is_consistent}
 use Rattle.mf_model.specs.Institution.{Institution, charge_in}
 use Rattle.mf_model.specs.Outcomes.{with_found}
@@ -22,14 +22,16 @@ use Rattle.mf_desk.specs.Charges.{number_of, charge_named, charge_before, list_o
 use Rattle.mf_desk.proofs.Decisions.{Learns, learns, learns_both, learned_decides, learned_refuses}
 
 -- a charge is found where it stands first, and where it stands later
-there_first : (charge : Option ChargeDef) (others : List ChargeDef) → is_there (charge_at (charge_before charge others))
+there_first : (charge : Option ChargeDef) (others : List ChargeDef)
+    → is_charge_there (charge_at (charge_before charge others))
     (number_of charge) ≡ true
 there_first None others = refl
 there_first (Some c) others =
     ap (λ b. is_some (cond b (Some c) (charge_at others c.number))) (eq-eqb c.number c.number refl)
 
 there_later : (charge : Option ChargeDef) (others : List ChargeDef) (named : Option ℕ)
-    → is_there (charge_at others) named ≡ true → is_there (charge_at (charge_before charge others)) named ≡ true
+    → is_charge_there (charge_at others) named ≡ true → is_charge_there (charge_at (charge_before charge others)) named
+    ≡ true
 there_later None others named h = h
 there_later (Some c) others None h = refl
 there_later (Some c) others (Some n) h = either (c.number == n)
@@ -44,11 +46,11 @@ all_three a b c x y z = rw (x, y, z)
 pub there_listed : (d i o : Option ChargeDef) (p : ProductMembers) → number_of d ≡ p.disbursement_charge → number_of i
     ≡ p.instalment_charge → number_of o ≡ p.overdue_charge → charges_there (charge_at (list_of d i o)) p ≡ true
 there_listed d i o p hd hi ho = all_three _ _ _
-    (subst (λ (n : Option ℕ). is_there (charge_at (list_of d i o)) n ≡ true) hd
+    (subst (λ (n : Option ℕ). is_charge_there (charge_at (list_of d i o)) n ≡ true) hd
     (there_first d (charge_before i (charge_before o []))))
-    (subst (λ (n : Option ℕ). is_there (charge_at (list_of d i o)) n ≡ true) hi
+    (subst (λ (n : Option ℕ). is_charge_there (charge_at (list_of d i o)) n ≡ true) hi
     (there_later d (charge_before i (charge_before o [])) (number_of i) (there_first i (charge_before o []))))
-    (subst (λ (n : Option ℕ). is_there (charge_at (list_of d i o)) n ≡ true) ho
+    (subst (λ (n : Option ℕ). is_charge_there (charge_at (list_of d i o)) n ≡ true) ho
     (there_later d (charge_before i (charge_before o [])) (number_of o) (there_later i (charge_before o [])
     (number_of o) (there_first o []))))
 
@@ -82,7 +84,7 @@ agree_listed charges d i o hd hi ho = agree_before charges d (charge_before i (c
     (agree_before charges i (charge_before o []) hi (agree_before charges o [] ho (agree_none charges)))
 
 same_kinds : (charges : ℕ → Option ChargeDef) (xs : List ChargeDef) → Agree charges xs → (kind : ChargeKind)
-    (named : Option ℕ) → is_there (charge_at xs) named ≡ true → is_of_kind (charge_at xs) kind named
+    (named : Option ℕ) → is_charge_there (charge_at xs) named ≡ true → is_of_kind (charge_at xs) kind named
     ≡ is_of_kind charges kind named
 same_kinds charges xs a kind None t = refl
 same_kinds charges xs a kind (Some n) t = ap (has_kind kind) (a n t)
@@ -110,19 +112,19 @@ consistent_listed : (charges : ℕ → Option ChargeDef) (d i o : Option ChargeD
 consistent_listed charges d i o p hd hi ho t =
     let a = agree_listed charges d i o hd hi ho in
     let f = charge_at (list_of d i o) in
-    let u = is_there f p.disbursement_charge in
-    let v = is_there f p.instalment_charge in
-    let w = is_there f p.overdue_charge in
+    let u = is_charge_there f p.disbursement_charge in
+    let v = is_charge_there f p.instalment_charge in
+    let w = is_charge_there f p.overdue_charge in
     alike (limits_agree p) _ _ _ _ _ _
     (same_kinds charges (list_of d i o) a Disbursement p.disbursement_charge (first_of u v w t))
     (same_kinds charges (list_of d i o) a Instalment p.instalment_charge (second_of u v w t))
     (same_kinds charges (list_of d i o) a Overdue p.overdue_charge (third_of u v w t))
 
 there_in : (charges : ℕ → Option ChargeDef) (d : Option ChargeDef) (named : Option ℕ) → number_of d ≡ named
-    → IsOf charges d → is_there charges named ≡ true
-there_in charges d named n h = subst (λ (m : Option ℕ). is_there charges m ≡ true) n (either d h)
+    → IsOf charges d → is_charge_there charges named ≡ true
+there_in charges d named n h = subst (λ (m : Option ℕ). is_charge_there charges m ≡ true) n (either d h)
   where
-    either : (x : Option ChargeDef) → IsOf charges x → is_there charges (number_of x) ≡ true
+    either : (x : Option ChargeDef) → IsOf charges x → is_charge_there charges (number_of x) ≡ true
     either None k = refl
     either (Some c) k = ap (λ (r : Option ChargeDef). is_some r) k
 
@@ -164,7 +166,7 @@ told_there d m o p i b d_is m_is o_is rd rm ro e =
 
 -- a charge that is missing is told before all else
 not_named : (named : Option ℕ) (i : Institution) (fault : Fault) → charge_named named i ≡ Err fault → (fault ≡ F4)
-    × (is_there (charge_in i.catalogue) named ≡ false)
+    × (is_charge_there (charge_in i.catalogue) named ≡ false)
 not_named None i fault h = absurd (cc)
 not_named (Some n) i fault h = either (charge_in i.catalogue n) h
   where
@@ -183,7 +185,8 @@ told_missing p i fault h =
     let f = charge_in i.catalogue in
     let n = not_named p.overdue_charge i fault h in
     ap (λ t. of_catalogue (cond t (cond (is_consistent f p) (make_product p i.catalogue) (Err F8)) (Err F4)))
-    (last_missing (is_there f p.disbursement_charge) (is_there f p.instalment_charge) (is_there f p.overdue_charge)
+    (last_missing (is_charge_there f p.disbursement_charge) (is_charge_there f p.instalment_charge)
+    (is_charge_there f p.overdue_charge)
     n.1)
     ∙ ap (λ (x : Fault). Err x) (sym n.0)
 

@@ -8,10 +8,10 @@ use Rattle.mf_office.specs.declared.caller.Caller.{Caller}
 use Rattle.mf_office.specs.declared.account.Account.{Account}
 use Rattle.mf_office.specs.Tree.{is_at_or_below}
 use Rattle.mf_account.specs.declared.entry.Entry.{Entry}
-use Rattle.mf_account.specs.Loan.{Loan as Running}
+use Rattle.mf_account.specs.Loan.{DisbursedLoan}
 use Rattle.mf_account.specs.Refusals.{refusal_of, reversal_refused}
 use Rattle.mf_account.specs.Standing.{with_mark}
-use Rattle.mf_account.specs.Change.{Account as Kept, IsChange, IsReplayed, account_by_replay}
+use Rattle.mf_account.specs.Change.{KeptAccount, IsChange, IsReplayed, account_by_replay}
 use Rattle.mf_model.specs.declared.request.LoanRequest.{LoanRequest}
 use Rattle.mf_model.specs.declared.request.Request.TheVariants as request
 use Rattle.mf_model.specs.declared.loan.Loan.{Loan}
@@ -73,7 +73,7 @@ same_second : {A B : Type 0} (p q : A × B) → Some p ≡ Some q → p.1 ≡ q.
 same_second p q h = cc
 
 -- the entries are told of a loan that is there with this account
-entries_told : (loan : Account) (c : Caller) (found : Loan) (r : Option Kept) (lines : List EntryLine)
+entries_told : (loan : Account) (c : Caller) (found : Loan) (r : Option KeptAccount) (lines : List EntryLine)
     (i : Institution) → Some (found, r) ≡ loan_with_account_at loan i → ((k : Catalogue) (l : Ledger)
     → r ≡ option_map account_by_replay (account_in k l) → lines ≡ entries_in k l)
     → loan_outcome loan ShowEntries c i ≡ decision_outcome (tells loan (told.Entries lines)) i
@@ -88,7 +88,7 @@ entries_told loan c found r lines i h of = at (ledger_at loan i) h
         (sym (of i.catalogue l (same_second (found, r) (with_account i.catalogue l) h)))
 
 -- the account of a loan that is there; F9 where it has none
-account_read : (loan : Account) (found : Loan) (r : Option Kept) (i : Institution)
+account_read : (loan : Account) (found : Loan) (r : Option KeptAccount) (i : Institution)
     → Some (found, r) ≡ loan_with_account_at loan i → account_there loan i ≡ if_disbursed r
 account_read loan found r i h = at (ledger_at loan i) h
   where
@@ -99,7 +99,7 @@ account_read loan found r i h = at (ledger_at loan i) h
     at (Some l) h = ap if_disbursed (sym (same_second (found, r) (with_account i.catalogue l) h))
 
 -- where there is none it is refused with F9
-pub if_none : (r : Option Kept) → ok_or r F9 ≡ if_disbursed r
+pub if_none : (r : Option KeptAccount) → ok_or r F9 ≡ if_disbursed r
 if_none None = refl
 if_none (Some a) = refl
 
@@ -113,16 +113,16 @@ refuses_same value (Ok r) h = tt
 refuses_same value (Err f) h = inr h
 
 -- a disbursed loan that was found, with its account
-pub record IsAccountOf (loan : Account) (a : Running) (i : Institution) : Type 0 where
+pub record IsAccountOf (loan : Account) (a : DisbursedLoan) (i : Institution) : Type 0 where
   pub ledger : Ledger
   pub ledger_is : ledger_at loan i ≡ Some ledger
   pub account_is : account_in i.catalogue ledger ≡ Some a
 
 -- the account of a loan that is there keeps what a replay gives
-pub is_replayed : (loan : Account) (a : Kept) (i : Institution) → account_there loan i ≡ Ok a → IsReplayed a
+pub is_replayed : (loan : Account) (a : KeptAccount) (i : Institution) → account_there loan i ≡ Ok a → IsReplayed a
 is_replayed loan a i h = at (ledger_at loan i) h
   where
-    running : (o : Option Running) → if_disbursed (option_map account_by_replay o) ≡ Ok a → IsReplayed a
+    running : (o : Option DisbursedLoan) → if_disbursed (option_map account_by_replay o) ≡ Ok a → IsReplayed a
     running None h = absurd (cc)
     running (Some r) h = let same : account_by_replay r ≡ a =
         cc in subst IsReplayed same (record { state = refl; settled = refl })
@@ -132,15 +132,15 @@ is_replayed loan a i h = at (ledger_at loan i) h
     at None h = absurd (cc)
     at (Some l) h = running (account_in i.catalogue l) h
 
-pub is_account_of : (loan : Account) (a : Kept) (i : Institution) → account_there loan i ≡ Ok a
+pub is_account_of : (loan : Account) (a : KeptAccount) (i : Institution) → account_there loan i ≡ Ok a
     → IsAccountOf loan a.loan i
 is_account_of loan a i h = at (ledger_at loan i) refl h
   where
-    running : (l : Ledger) (o : Option Running) → account_in i.catalogue l ≡ o → ledger_at loan i ≡ Some l
+    running : (l : Ledger) (o : Option DisbursedLoan) → account_in i.catalogue l ≡ o → ledger_at loan i ≡ Some l
         → if_disbursed (option_map account_by_replay o) ≡ Ok a → IsAccountOf loan a.loan i
     running l None is e h = absurd (cc)
     running l (Some r) is e h = let same : account_by_replay r ≡ a =
-        cc in record { ledger = l; ledger_is = e; account_is = is ∙ ap (λ (x : Kept). Some x.loan) same }
+        cc in record { ledger = l; ledger_is = e; account_is = is ∙ ap (λ (x : KeptAccount). Some x.loan) same }
 
     at : (o : Option Ledger) → ledger_at loan i ≡ o → where_found (option_map (λ (l : Ledger). l.loan) o) (λ found.
         if_disbursed (option_map account_by_replay (account_of i.catalogue o))) ≡ Ok a → IsAccountOf loan a.loan i
@@ -148,29 +148,32 @@ is_account_of loan a i h = at (ledger_at loan i) refl h
     at (Some l) e h = running l (account_in i.catalogue l) refl e h
 
 -- what is entered into its account
-abbrev entering : Account → (Running → Option Fault) → (ℕ → Running → Entry) → Institution → Outcome
+abbrev entering : Account → (DisbursedLoan → Option Fault) → (ℕ → DisbursedLoan → Entry) → Institution → Outcome
 entering loan first make i = in_ledger loan (λ k l. enter first make k (account_in k l)) i
 
 -- what refuses an entry on a day, if anything does
-abbrev pub refuses : (Running → Option Fault) → (ℕ → Running → Entry) → Running → ℕ → Option Fault
+abbrev pub refuses : (DisbursedLoan → Option Fault) → (ℕ → DisbursedLoan → Entry) → DisbursedLoan → ℕ → Option Fault
 refuses first make a today = fault_or (first a) (refusal_of a (make today a) today)
 
 -- what is done with a loan that was found, with its account
-abbrev on_account : Account → (Catalogue → Option Running → Result (LoanReply × Option LedgerChange) Fault)
+abbrev on_account : Account → (Catalogue → Option DisbursedLoan → Result (LoanReply × Option LedgerChange) Fault)
     → Institution → Outcome
 on_account loan act i = in_ledger loan (λ k l. act k (account_in k l)) i
 
-pub account_acted : (loan : Account) (act : Catalogue → Option Running → Result (LoanReply × Option LedgerChange) Fault)
-    (a : Running) (i : Institution) → IsAccountOf loan a i → on_account loan act i ≡ of_office loan.office
+pub account_acted : (loan : Account)
+    (act : Catalogue → Option DisbursedLoan → Result (LoanReply × Option LedgerChange) Fault)
+    (a : DisbursedLoan) (i : Institution) → IsAccountOf loan a i → on_account loan act i ≡ of_office loan.office
     (of_loan loan (rows_at loan.office i) (act i.catalogue (Some a)))
 account_acted loan act a i f =
     ap (λ (o : Option Ledger). of_office loan.office (where_found o (λ l. of_loan loan (rows_at loan.office i)
     (act i.catalogue (account_in i.catalogue l))))) f.ledger_is
-    ∙ ap (λ (o : Option Running). of_office loan.office (of_loan loan (rows_at loan.office i) (act i.catalogue o)))
+    ∙ ap (λ (o : Option DisbursedLoan). of_office loan.office
+    (of_loan loan (rows_at loan.office i) (act i.catalogue o)))
     f.account_is
 
 -- its account refuses the entry
-pub entering_refused : (loan : Account) (first : Running → Option Fault) (make : ℕ → Running → Entry) (a : Kept)
+pub entering_refused : (loan : Account) (first : DisbursedLoan → Option Fault) (make : ℕ → DisbursedLoan → Entry)
+    (a : KeptAccount)
     (today : ℕ) (fault : Fault) (i : Institution) → account_there loan i ≡ Ok a → today ≡ i.catalogue.day
     → refuses first make a.loan today ≡ Some fault → entering loan first make i ≡ Err fault
 entering_refused loan first make a today fault i h day refused =
@@ -182,18 +185,19 @@ entering_refused loan first make a today fault i h day refused =
     (unless_fault o (Entered (make today a.loan).seq) (with_new_entry (make today a.loan))))) refused
 
 -- what becomes of a loan is committed as the entries that it has then
-commit_is : (loan : Account) (a : Running) (change : LedgerChange) (after : List Entry) (i : Institution)
+commit_is : (loan : Account) (a : DisbursedLoan) (change : LedgerChange) (after : List Entry) (i : Institution)
     (f : IsAccountOf loan a i) → ((l : Ledger) → l.entries ≡ a.entries → change l ≡ with_entries after l)
     → loan_changed loan.number change (rows_at loan.office i) ≡ loan_entered loan.number after (rows_at loan.office i)
 commit_is loan a change after i f same =
     let is : f.ledger.entries ≡ a.entries =
-    ap (λ (x : Running). x.entries) (account_is i.catalogue f.ledger a f.account_is).account_is in
+    ap (λ (x : DisbursedLoan). x.entries) (account_is i.catalogue f.ledger a f.account_is).account_is in
     ap (λ (ls : List Ledger). record (rows_at loan.office i) { loans = ls })
     (with_same_at loan.number change (with_entries after) (rows_at loan.office i).loans f.ledger f.ledger_is
     (same f.ledger is))
 
 -- its account takes the entry
-pub entering_accepted : (loan : Account) (first : Running → Option Fault) (make : ℕ → Running → Entry) (a new : Kept)
+pub entering_accepted : (loan : Account) (first : DisbursedLoan → Option Fault) (make : ℕ → DisbursedLoan → Entry)
+    (a new : KeptAccount)
     (today : ℕ) (i : Institution) → account_there loan i ≡ Ok a → today ≡ i.catalogue.day
     → refuses first make a.loan today ≡ None → new.loan.entries ≡ a.loan.entries ++ make today a.loan ∷ []
     → entering loan first make i ≡ decision_outcome (record {
@@ -215,7 +219,8 @@ entering_accepted loan first make a new today i h day accepted entries =
     (commit_is loan a.loan (with_new_entry e) new.loan.entries i f one_more)
 
 -- its account lets the entry go
-pub reversing_accepted : (loan : Account) (seq : ℕ) (a new : Kept) (i : Institution) → account_there loan i ≡ Ok a
+pub reversing_accepted : (loan : Account) (seq : ℕ) (a new : KeptAccount) (i : Institution) → account_there loan i
+    ≡ Ok a
     → reversal_refused a.loan.entries seq ≡ None → new.loan.entries ≡ with_mark a.loan.entries (seq - 1) true
     → on_account loan (λ k. reverse seq) i ≡ decision_outcome (record {
       reply = reply.Loan loan (Reversed seq);
@@ -232,7 +237,7 @@ reversing_accepted loan seq a new i h accepted entries =
     (commit_is loan a.loan (with_reversal seq) new.loan.entries i f marked)
 
 -- the account is handed on with other entries
-handed_on : (loan : Account) (becomes : List Entry → List Entry → Type 0) (a new : Kept) (entries : List Entry)
+handed_on : (loan : Account) (becomes : List Entry → List Entry → Type 0) (a new : KeptAccount) (entries : List Entry)
     (i : Institution) → account_there loan i ≡ Ok a → new.loan ≡ record a.loan { entries = entries }
     → becomes a.loan.entries new.loan.entries → IsReplayed new → IsChange a.loan new.loan new.change
     → IsHandedOn loan becomes new i
@@ -242,7 +247,8 @@ handed_on loan becomes a new entries i h is became kept change =
       before = a.loan;
       there = ap (account_of i.catalogue) f.ledger_is ∙ f.account_is;
       entries = became;
-      others = is ∙ ap (λ (es : List Entry). record a.loan { entries = es }) (sym (ap (λ (x : Running). x.entries) is));
+      others = is ∙ ap (λ (es : List Entry). record a.loan { entries = es })
+          (sym (ap (λ (x : DisbursedLoan). x.entries) is));
       kept = kept;
       change = change;
     }
@@ -317,8 +323,8 @@ module _ {S : Type 0} (store : Ghosts S) where
   }
 
   -- the entries of a loan that was read with its account
-  pub told_of_account : (loan : Account) (c : Caller) (read : Option (Loan × Option Kept)) (found : Loan)
-      (r : Option Kept) (lines : List EntryLine) (old new : S) (d : Decision)
+  pub told_of_account : (loan : Account) (c : Caller) (read : Option (Loan × Option KeptAccount)) (found : Loan)
+      (r : Option KeptAccount) (lines : List EntryLine) (old new : S) (d : Decision)
       → Reads store.stands store.clean store.leaves (loan_with_account_at loan) old new (Ok read)
       → read ≡ Some (found, r) → ((k : Catalogue) (l : Ledger) → r ≡ option_map account_by_replay (account_in k l)
       → lines ≡ entries_in k l) → d ≡ tells loan (told.Entries lines)
@@ -331,8 +337,9 @@ module _ {S : Type 0} (store : Ghosts S) where
       (λ i h. subst (λ (x : Decision). IfSome x.commit (λ c. IsHanded c i)) (sym is) tt)
 
   -- the account of a loan that was read with it
-  pub account_asked : (loan : Account) (read : Option (Loan × Option Kept)) (found : Loan) (r : Option Kept)
-      (old new : S) (result : Result Kept Fault)
+  pub account_asked : (loan : Account) (read : Option (Loan × Option KeptAccount)) (found : Loan)
+      (r : Option KeptAccount)
+      (old new : S) (result : Result KeptAccount Fault)
       → Reads store.stands store.clean store.leaves (loan_with_account_at loan) old new (Ok read)
       → read ≡ Some (found, r) → result ≡ if_disbursed r → Asks store (account_there loan) old new result
   account_asked loan read found r old new result reads there is = record {
@@ -347,17 +354,19 @@ module _ {S : Type 0} (store : Ghosts S) where
       value c i h = account_read loan found r i (sym there ∙ reads.value_is c i h) ∙ sym is
 
   -- what is entered into the account of a loan
-  abbrev Known : Account → Kept → ℕ → Institution → Type 0
+  abbrev Known : Account → KeptAccount → ℕ → Institution → Type 0
   Known loan a today i = (account_there loan i ≡ Ok a) × (today ≡ i.catalogue.day)
 
-  known : (loan : Account) (a : Kept) (today : ℕ) (old mid new : S) → Asks store (account_there loan) old mid (Ok a)
+  known : (loan : Account) (a : KeptAccount) (today : ℕ) (old mid new : S)
+      → Asks store (account_there loan) old mid (Ok a)
       → Reads store.stands store.clean store.leaves (λ i. i.catalogue.day) mid new (Ok today)
       → Learns store (Known loan a today) old new
   known loan a today old mid new ask read =
       learns_both store (λ i. account_there loan i ≡ Ok a) (λ i. today ≡ i.catalogue.day) old mid new
       (learns store (account_there loan) old mid a ask) (learns_value (λ i. i.catalogue.day) mid new today read)
 
-  pub then_entered : (loan : Account) (first : Running → Option Fault) (make : ℕ → Running → Entry) (a after : Kept)
+  pub then_entered : (loan : Account) (first : DisbursedLoan → Option Fault) (make : ℕ → DisbursedLoan → Entry)
+      (a after : KeptAccount)
       (today : ℕ) (old mid new : S) → Asks store (account_there loan) old mid (Ok a)
       → Reads store.stands store.clean store.leaves (λ i. i.catalogue.day) mid new (Ok today)
       → (IsReplayed a → refuses first make a.loan today ≡ None) → after.loan ≡ record a.loan {
@@ -371,14 +380,15 @@ module _ {S : Type 0} (store : Ghosts S) where
         commit = Some (AddEntry loan after);
       }))
   then_entered loan first make a after today old mid new ask read accepted is kept change =
-      let entries = ap (λ (x : Running). x.entries) is in
+      let entries = ap (λ (x : DisbursedLoan). x.entries) is in
       learned_tells (Known loan a today) (entering loan first make) old new _ (known loan a today old mid new ask read)
       (λ i h. entering_accepted loan first make a after today i h.0 h.1 (accepted (is_replayed loan a i h.0))
       entries)
       (λ i h. let true_to = is_replayed loan a i h.0 in handed_on loan OneMore a after (a.loan.entries
       ++ make today a.loan ∷ []) i h.0 is (make today a.loan, entries) (kept true_to) (change true_to))
 
-  pub then_refused : (loan : Account) (first : Running → Option Fault) (make : ℕ → Running → Entry) (a : Kept)
+  pub then_refused : (loan : Account) (first : DisbursedLoan → Option Fault) (make : ℕ → DisbursedLoan → Entry)
+      (a : KeptAccount)
       (today : ℕ) (fault : Fault) (old mid new : S) → Asks store (account_there loan) old mid (Ok a)
       → Reads store.stands store.clean store.leaves (λ i. i.catalogue.day) mid new (Ok today)
       → (IsReplayed a → (fault ≡ F20) ⊎ (refuses first make a.loan today ≡ Some fault))
@@ -393,7 +403,8 @@ module _ {S : Type 0} (store : Ghosts S) where
       ])
 
   -- what is reversed in the account of a loan
-  pub then_reversed : (loan : Account) (seq : ℕ) (a after : Kept) (old new : S) → Asks store (account_there loan) old
+  pub then_reversed : (loan : Account) (seq : ℕ) (a after : KeptAccount) (old new : S)
+      → Asks store (account_there loan) old
       new (Ok a)
       → reversal_refused a.loan.entries seq ≡ None → after.loan ≡ record a.loan {
         entries = with_mark a.loan.entries
@@ -403,7 +414,7 @@ module _ {S : Type 0} (store : Ghosts S) where
       → Decides store (in_ledger loan (λ k l. reverse seq (account_in k l))) old new
       (Ok (record { reply = reply.Loan loan (Reversed seq); commit = Some (ReverseEntry loan seq after) }))
   then_reversed loan seq a after old new ask accepted is kept change =
-      let entries = ap (λ (x : Running). x.entries) is in
+      let entries = ap (λ (x : DisbursedLoan). x.entries) is in
       learned_tells (λ i. account_there loan i ≡ Ok a) (on_account loan (λ k. reverse seq)) old new _ (learns store
       (account_there loan) old new a ask) (λ i h. reversing_accepted loan seq a after i h accepted entries)
       (λ i h. let true_to = is_replayed loan a i h in handed_on loan (OneReversed seq) a after (with_mark a.loan.entries

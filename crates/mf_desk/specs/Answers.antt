@@ -5,14 +5,14 @@ use Rattle.mf_base.specs.declared.fault.Fault.{Fault}
 use Rattle.mf_base.specs.declared.fault.Fault.TheVariants.{F2, F4, F9, F20}
 use Rattle.mf_office.specs.declared.account.Account.{Account}
 use Rattle.mf_office.specs.declared.caller.Caller.{Caller}
-use Rattle.mf_account.specs.Change.{Account as Kept}
+use Rattle.mf_account.specs.Change.{KeptAccount}
 use Rattle.mf_model.specs.declared.request.Call.{Call}
 use Rattle.mf_model.specs.declared.request.Request.{Request}
 use Rattle.mf_model.specs.declared.loan.Loan.{Loan}
 use Rattle.mf_model.specs.declared.reply.LoanReply.{LoanReply}
 use Rattle.mf_model.specs.declared.reply.Reply.{Reply}
 use Rattle.mf_desk.specs.declared.decision.Decision.{Decision}
-use Rattle.mf_arrears.specs.Line.{Line}
+use Rattle.mf_arrears.specs.Line.{OfficeLine}
 use Rattle.mf_model.specs.Arrears.{arrears_seen}
 use Rattle.mf_model.specs.Institution.{Institution, Catalogue, Rows, Ledger, after_maybe}
 use Rattle.mf_model.specs.Loans.{on_loan, LedgerChange, in_loan}
@@ -67,12 +67,12 @@ abbrev pub loan_there : Account → Institution → Result Loan Fault
 loan_there loan i = if_there (loan_at loan i)
 
 -- an account that there is; F9 where there is none
-abbrev pub if_disbursed : Option Kept → Result Kept Fault
+abbrev pub if_disbursed : Option KeptAccount → Result KeptAccount Fault
 if_disbursed None = Err F9
 if_disbursed (Some a) = Ok a
 
 -- the account of a loan; F4 where the loan isn't there, F9 where it isn't disbursed
-abbrev pub account_there : Account → Institution → Result Kept Fault
+abbrev pub account_there : Account → Institution → Result KeptAccount Fault
 account_there loan i = where_found (loan_at loan i) (λ found. if_disbursed (account_at loan i))
 
 -- what a request on a loan comes to, where its office is seen
@@ -90,7 +90,7 @@ abbrev pub in_ledger : Account → (Catalogue → Ledger → Result (LoanReply �
 in_ledger loan act i = in_rows loan.office (λ k rows. in_loan loan (act k) rows) i
 
 -- the arrears that a caller sees; F2 where there is no such member of staff
-abbrev pub arrears_told : Caller → Institution → Result (List Line) Fault
+abbrev pub arrears_told : Caller → Institution → Result (List OfficeLine) Fault
 arrears_told c i = cond (is_some (staff_at i c)) (Ok (arrears_seen c.office i)) (Err F2)
 
 module _ {S : Type 0} (store : Ghosts S) where
@@ -119,9 +119,9 @@ module _ {S : Type 0} (store : Ghosts S) where
     pub stop : store.clean new → (is : List Institution) → store.leaves old is → store.leaves new is
 
   -- Lines that were read have at most 10^10 loans in all, so that a report can sum them.
-  abbrev pub CanBeSummed : S → S → Result (List Line) Fault → Type 0
+  abbrev pub CanBeSummed : S → S → Result (List OfficeLine) Fault → Type 0
   CanBeSummed old new result = store.clean new → (i : Institution) → store.stands old i
-      → IfOk result (λ lines. sum_by (λ (line : Line). line.loans) lines ≤ 10 ^ 10)
+      → IfOk result (λ lines. sum_by (λ (line : OfficeLine). line.loans) lines ≤ 10 ^ 10)
 
   -- What was made of the reply that the institution tells, or its refusal, or the refusal to make something of its
   -- reply, or F20.

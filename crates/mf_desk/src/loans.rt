@@ -1,7 +1,7 @@
 //! What is asked of one loan.
 
 ghost use Rattle.std.specs.Prelude.{◌≡◌, ◌≢◌, IfErr};
-ghost use Rattle.mf_office.specs.declared.caller.Caller.{Caller as AnyCaller};
+ghost use Rattle.mf_office.specs.declared.caller.Caller.{Caller};
 ghost use Rattle.mf_model.specs.declared.request.LoanRequest.TheVariants.{Take};
 ghost use Rattle.mf_model.specs.Sound.{IsLoanInRange};
 ghost use Rattle.mf_desk.specs.Answers.{Asks, Decides, loan_there, loan_outcome};
@@ -37,7 +37,7 @@ fn take_step<S: InstitutionStore>(
     loan: Account,
     step: LoanStep,
 ) -> Result<Decision, Fault>
-    ensures decides { (c : AnyCaller) → Decides S.InstitutionStore (loan_outcome loan (Take step) c) store.old store.new
+    ensures decides { (c : Caller) → Decides S.InstitutionStore (loan_outcome loan (Take step) c) store.old store.new
         result }
     ensures refusal { IfErr result (λ f. f ≢ Fault.F19) }
 {

@@ -2,7 +2,7 @@
 
 ghost use Rattle.std.specs.Prelude.{◌≡◌, ◌≢◌, ◌⊎◌, ◌-◌, None, Some, IfOk, IfErr, true};
 ghost use Rattle.mf_base.specs.declared.fault.Fault.TheVariants.{F20};
-ghost use Rattle.mf_office.specs.declared.caller.Caller.{Caller as AnyCaller};
+ghost use Rattle.mf_office.specs.declared.caller.Caller.{Caller};
 ghost use Rattle.mf_account.specs.Change.{IsChange, IsReplayed};
 ghost use Rattle.mf_account.specs.Standing.{with_mark};
 ghost use Rattle.mf_account.specs.Refusals.{reversal_refused};
@@ -39,7 +39,7 @@ pub fn reverse<S: InstitutionStore>(
     loan: Account,
     seq: u32,
 ) -> Result<Decision, Fault>
-    ensures decides { (c : AnyCaller) → Decides S.InstitutionStore (loan_outcome loan (Reverse seq) c) store.old
+    ensures decides { (c : Caller) → Decides S.InstitutionStore (loan_outcome loan (Reverse seq) c) store.old
         store.new result }
     ensures refusal { IfErr result (λ f. f ≢ Fault.F19) }
 {

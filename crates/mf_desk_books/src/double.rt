@@ -273,7 +273,7 @@ impl Books {
     }
 
     /// A loan with its account, replayed; None where there is no such loan.
-    fn replayed(
+    fn replay(
         &self,
         alloc: Global,
         loan: Account,
@@ -313,7 +313,7 @@ impl Books {
     }
 
     /// A copy of the charge that is named, if one is.
-    fn named(&self, number: Option<u32>) -> Result<Option<ChargeDef>, Fault>
+    fn named_charge(&self, number: Option<u32>) -> Result<Option<ChargeDef>, Fault>
         ensures { IfErr result (λ fault. fault ≡ Fault.F20) }
     {
         let Some(number) = number else {
@@ -330,9 +330,9 @@ impl Books {
         ensures { IfErr result (λ fault. fault ≡ Fault.F20) }
     {
         let members = &self.find_product(product).ok_or(Fault::F20)?.members;
-        let disbursement = self.named(members.disbursement_charge)?;
-        let instalment = self.named(members.instalment_charge)?;
-        let overdue = self.named(members.overdue_charge)?;
+        let disbursement = self.named_charge(members.disbursement_charge)?;
+        let instalment = self.named_charge(members.instalment_charge)?;
+        let overdue = self.named_charge(members.overdue_charge)?;
         Ok(members.terms_with(disbursement, instalment, overdue))
     }
 }
@@ -438,7 +438,7 @@ impl InstitutionStore for Books {
 
     fn charge(&mut self, _alloc: Global, number: u32) -> Result<Option<ChargeDef>, Fault> {
         self.count_call()?;
-        self.named(Some(number))
+        self.named_charge(Some(number))
     }
 
     fn product(&mut self, _alloc: Global, number: u32) -> Result<Option<Product>, Fault> {
@@ -463,12 +463,12 @@ impl InstitutionStore for Books {
         loan: Account,
     ) -> Result<Option<(Loan, Option<LoanAccount>)>, Fault> {
         self.count_call()?;
-        self.replayed(alloc, loan)
+        self.replay(alloc, loan)
     }
 
     fn statement(&mut self, alloc: Global, loan: Account) -> Result<Option<Statement>, Fault> {
         self.count_call()?;
-        let Some((loan, account)) = self.replayed(alloc, loan)? else {
+        let Some((loan, account)) = self.replay(alloc, loan)? else {
             return Ok(None);
         };
         Ok(Some(Statement::of(&loan, &account)))
@@ -480,7 +480,7 @@ impl InstitutionStore for Books {
         loan: Account,
     ) -> Result<Option<InstalmentList>, Fault> {
         self.count_call()?;
-        let Some((_, account)) = self.replayed(alloc, loan)? else {
+        let Some((_, account)) = self.replay(alloc, loan)? else {
             return Ok(None);
         };
         match account {

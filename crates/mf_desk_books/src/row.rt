@@ -147,7 +147,7 @@ impl Row {
             return Ok(None);
         };
         let entries = copy_entries(alloc, &self.entries)?;
-        let disbursed = mf_account::Loan {
+        let disbursed = mf_account::DisbursedLoan {
             terms,
             principal: self.principal,
             periods: self.periods,

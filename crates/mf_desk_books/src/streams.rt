@@ -47,7 +47,9 @@ pub const BRANCHES_REPLIES: &str = "201 {\"office\":2}\n\
 /// A client has a loan of 100000 cents at 12 percent for three months, paid out on 2024-01-31. The business day becomes
 /// 2024-03-31.
 pub const LENT: &str =
-    "1/1 POST /products {\"name\":\"P\",\"method\":\"declining-equal-principal\",\"rate\":1200,\"frequency\":\"months\",\"every\":1,\"principal_grace\":0,\"interest_grace\":0,\"min_principal\":1,\"max_principal\":1000000,\"min_periods\":1,\"max_periods\":12,\"strategy\":\"mifos-standard-strategy\"}\n\
+    "1/1 POST /products {\"name\":\"P\",\"method\":\"declining-equal-principal\",\"rate\":1200,\
+\"frequency\":\"months\",\"every\":1,\"principal_grace\":0,\"interest_grace\":0,\"min_principal\":1,\
+\"max_principal\":1000000,\"min_periods\":1,\"max_periods\":12,\"strategy\":\"mifos-standard-strategy\"}\n\
 1/1 POST /clients {\"office\":1,\"name\":\"Amina\"}\n\
 1/1 POST /loans {\"client\":\"0001-000001\",\"product\":1,\"principal\":100000,\"periods\":3}\n\
 1/1 POST /loans/0001-000001/approve\n\

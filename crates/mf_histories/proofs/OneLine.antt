@@ -9,7 +9,7 @@ use Rattle.mf_base.specs.declared.fault.Fault.TheVariants.{F2, F3, F4, F16, F18,
 use Rattle.mf_office.specs.Tree.{is_within, is_at_or_below}
 use Rattle.mf_office.specs.declared.account.Account.{Account}
 use Rattle.mf_office.specs.declared.caller.Caller.{Caller}
-use Rattle.mf_account.specs.Loan.{Loan as Running}
+use Rattle.mf_account.specs.Loan.{DisbursedLoan}
 use Rattle.mf_model.specs.declared.request.LoanRequest.{LoanRequest}
 use Rattle.mf_model.specs.declared.request.OfficeRequest.{OfficeRequest}
 use Rattle.mf_model.specs.declared.request.Request.{Request}
@@ -39,13 +39,13 @@ use Rattle.mf_histories.proofs.Numbered.{numbered_changed, numbered_kept, entrie
 use Rattle.mf_histories.proofs.Numbered.{entries_before, entries_with_office}
 use Rattle.mf_histories.proofs.OneRequest.{IsDone, IsOnLedger, done_on, KeepEntries, kept_in_office}
 
-untold : (caller : Option Caller) (asked : Option LoanRequest) (k : Catalogue) (account : Option Running)
+untold : (caller : Option Caller) (asked : Option LoanRequest) (k : Catalogue) (account : Option DisbursedLoan)
     → deed_of caller asked k account None ≡ None
 untold None asked k account = refl
 untold (Some c) None k account = refl
 untold (Some c) (Some asked) k account = refl
 
-unasked : (caller : Option Caller) (k : Catalogue) (account : Option Running) (told : Option LoanReply)
+unasked : (caller : Option Caller) (k : Catalogue) (account : Option DisbursedLoan) (told : Option LoanReply)
     → deed_of caller None k account told ≡ None
 unasked None k account told = refl
 unasked (Some c) k account told = refl

@@ -11,8 +11,8 @@ use Rattle.mf_catalog.specs.declared.product.Product.{Product}
 use Rattle.mf_catalog.specs.Product.{lending}
 use Rattle.mf_office.specs.declared.caller.Caller.{Caller}
 use Rattle.mf_account.specs.declared.entry.Entry.{Entry}
-use Rattle.mf_account.specs.Loan.{Loan as Running}
-use Rattle.mf_account.specs.Refusals.{refusal_of, reversal_refused, is_there, is_sealed}
+use Rattle.mf_account.specs.Loan.{DisbursedLoan}
+use Rattle.mf_account.specs.Refusals.{refusal_of, reversal_refused, is_instalment_number, is_sealed}
 use Rattle.mf_account.specs.Kinds.{is_seal}
 use Rattle.mf_account.specs.Standing.{entry_at, with_mark}
 use Rattle.mf_model.specs.declared.loan.Stage.{Stage}
@@ -58,9 +58,10 @@ IsOnLedger asked c k l (Ok (told, Some change)) =
     IsDone (deed_told asked c k (account_in k l) told) l.entries (change l).entries
 
 module _ (asked : LoanRequest) (c : Caller) (k : Catalogue) (l : Ledger) where
-  entering : (first : Running → Option Fault) (make : ℕ → Running → Entry)
-      → ((a : Running) → entry_by asked c k a ≡ Some (make k.day a))
-      → (account : Option Running) → account_in k l ≡ account → IsOnLedger asked c k l (enter first make k account)
+  entering : (first : DisbursedLoan → Option Fault) (make : ℕ → DisbursedLoan → Entry)
+      → ((a : DisbursedLoan) → entry_by asked c k a ≡ Some (make k.day a))
+      → (account : Option DisbursedLoan) → account_in k l ≡ account
+      → IsOnLedger asked c k l (enter first make k account)
   entering first make by None is = tt
   entering first make by (Some a) is = step (fault_or (first a) (refusal_of a (make k.day a) k.day))
     where
@@ -103,19 +104,20 @@ not_there : (b x y z : Bool)
 not_there true x y z h = refl
 not_there false x y z h = absurd (cc)
 
-reversing : (seq : ℕ) (c : Caller) (k : Catalogue) (l : Ledger) (account : Option Running) → account_in k l ≡ account
+reversing : (seq : ℕ) (c : Caller) (k : Catalogue) (l : Ledger) (account : Option DisbursedLoan) → account_in k l
+    ≡ account
     → IsOnLedger (Reverse seq) c k l (reverse seq account)
 reversing seq c k l None is = tt
 reversing seq c k l (Some a) is = step (reversal_refused a.entries seq) refl
   where
     same : a.entries ≡ l.entries
-    same = ap (λ (x : Running). x.entries) (sym (account_is k l a is).account_is)
+    same = ap (λ (x : DisbursedLoan). x.entries) (sym (account_is k l a is).account_is)
 
     step : (fault : Option Fault) → reversal_refused a.entries seq ≡ fault
         → IsOnLedger (Reverse seq) c k l (unless_fault fault (Reversed seq) (with_reversal seq))
     step (Some fault) e = tt
     step None e =
-        let there = not_there (is_there (length a.entries) seq) (entry_at a.entries (seq - 1)).reversed
+        let there = not_there (is_instalment_number (length a.entries) seq) (entry_at a.entries (seq - 1)).reversed
         (is_sealed a.entries) (not (is_seal (entry_at a.entries (seq - 1)).kind)) e in
         let within = and_parts (nat_le 1 seq) (nat_le seq (length a.entries)) there in
         let low = leb-true 1 seq within.0 in

@@ -5,7 +5,7 @@ use Rattle.mf_base.specs.declared.fault.Fault.{Fault}
 use Rattle.mf_office.specs.declared.account.Account.{Account}
 use Rattle.mf_office.specs.declared.caller.Caller.{Caller}
 use Rattle.mf_account.specs.declared.entry.Entry.{Entry}
-use Rattle.mf_account.specs.Loan.{Loan as Running}
+use Rattle.mf_account.specs.Loan.{DisbursedLoan}
 use Rattle.mf_account.specs.Standing.{with_mark}
 use Rattle.mf_model.specs.declared.request.LoanRequest.{LoanRequest}
 use Rattle.mf_model.specs.declared.request.LoanRequest.TheVariants.{Repay, ChargeFee, Post}
@@ -40,7 +40,7 @@ told_in (Ok (reply.Loan b told)) = Some told
 told_in _ = None
 
 -- the entry that a request makes on the business day, by the account that the loan has
-abbrev pub entry_by : LoanRequest → Caller → Catalogue → Running → Option Entry
+abbrev pub entry_by : LoanRequest → Caller → Catalogue → DisbursedLoan → Option Entry
 entry_by (Repay asked) c k a = Some (repayment asked c a)
 entry_by (ChargeFee charge due) c k a = option_map (λ d. fee d due c k.day a) (charge_in k charge)
 entry_by (Post asked) c k a = Some (posting asked c k.day a)
@@ -48,13 +48,14 @@ entry_by _ c k a = None
 
 -- a request that was told that it entered something added that entry, and one told that it reversed an entry marked
 -- that one
-abbrev pub deed_told : LoanRequest → Caller → Catalogue → Option Running → LoanReply → Option Deed
+abbrev pub deed_told : LoanRequest → Caller → Catalogue → Option DisbursedLoan → LoanReply → Option Deed
 deed_told asked c k account (Entered seq) = option_map Adds (option_and_then (entry_by asked c k) account)
 deed_told asked c k account (Reversed seq) = Some (Marks seq)
 deed_told asked c k account _ = None
 
 -- what a call with this answer does to the entries of a loan
-abbrev pub deed_of : Option Caller → Option LoanRequest → Catalogue → Option Running → Option LoanReply → Option Deed
+abbrev pub deed_of : Option Caller → Option LoanRequest → Catalogue → Option DisbursedLoan → Option LoanReply
+    → Option Deed
 deed_of (Some c) (Some asked) k account (Some told) = deed_told asked c k account told
 deed_of _ _ k account told = None
 

@@ -10,7 +10,7 @@ use Rattle.mf_catalog.specs.declared.terms.Terms.{Terms}
 use Rattle.mf_catalog.specs.Limits.{IsChargeWithinLimits, AreTermsWithinLimits}
 use Rattle.mf_catalog.specs.Product.{AreMembersWithinLimits, charge_of, limits_agree, kinds_right, terms_of}
 use Rattle.mf_catalog.proofs.ProductLemmas.{graces_within, loan_within}
-use Rattle.mf_schedule.specs.declared.instalment.Instalment.{Instalment}
+use Rattle.mf_schedule.specs.declared.instalment.FreshInstalment.{FreshInstalment}
 use Rattle.mf_schedule.specs.Fresh.{IsLoanWithinLimits, fresh_schedule, total_principal}
 use Rattle.mf_schedule.proofs.LoanLemmas.{scheduled-principal-sum}
 use Rattle.mf_alloc.specs.Sums.{is_open, row_outstanding}
@@ -19,12 +19,13 @@ use Rattle.std.proofs.lemmas.Bool.{cases_lt, lt-ltb}
 use Rattle.std.proofs.lemmas.List.Sums.{sum_by-append}
 use Rattle.mf_account.proofs.SoundLemmas.{or_true}
 use Rattle.mf_account.specs.declared.entry.Entry.{Entry}
-use Rattle.mf_account.specs.Loan.{Loan as Running, IsEntry, AreEntries, IsSound as IsSoundAccount, schedule_of}
+use Rattle.mf_account.specs.Loan.{DisbursedLoan, IsEntry, AreEntries, IsSoundDisbursed, schedule_of}
 use Rattle.mf_account.specs.Loan.{orders_of, status_of_loan}
 use Rattle.mf_account.specs.Standing.{entry_at}
 use Rattle.mf_model.specs.declared.loan.Stage.{Stage}
 use Rattle.mf_model.specs.declared.loan.Stage.TheVariants.{Submitted, Approved, Disbursed, Withdrawn, Rejected}
-use Rattle.mf_model.specs.Institution.{Catalogue, Charge, Offer, Ledger, item_numbered, charge_def, product_of}
+use Rattle.mf_model.specs.Institution.{Catalogue, ListedCharge, ListedProduct, Ledger, item_numbered, charge_def}
+use Rattle.mf_model.specs.Institution.{product_of}
 use Rattle.mf_model.specs.Institution.{charge_in, product_in}
 use Rattle.mf_model.specs.Stages.{disbursed_on}
 use Rattle.mf_model.specs.Accounts.{terms_in, running_loan, running_from, account_in}
@@ -34,14 +35,14 @@ use Rattle.mf_office.specs.declared.caller.Caller.{Caller}
 use Rattle.mf_model.proofs.Growing.{all_at, and_left}
 
 -- what an account is made of
-pub record IsRunning (k : Catalogue) (l : Ledger) (a : Running) : Type 0 where
+pub record IsRunning (k : Catalogue) (l : Ledger) (a : DisbursedLoan) : Type 0 where
   pub day : ℕ
   pub terms : Terms
   pub day_is : disbursed_on l.loan.stage ≡ Some day
   pub terms_is : terms_in k l.loan.product ≡ Some terms
   pub account_is : running_loan l.loan l.entries day terms ≡ a
 
-pub account_is : (k : Catalogue) (l : Ledger) (a : Running) → account_in k l ≡ Some a → IsRunning k l a
+pub account_is : (k : Catalogue) (l : Ledger) (a : DisbursedLoan) → account_in k l ≡ Some a → IsRunning k l a
 account_is k l a h = step (disbursed_on l.loan.stage) (terms_in k l.loan.product) refl refl h
   where
     step : (d : Option ℕ) (t : Option Terms) → disbursed_on l.loan.stage ≡ d → terms_in k l.loan.product ≡ t
@@ -62,7 +63,7 @@ day_of_stage today Rejected d h i = absurd (cc)
 charge_within : (k : Catalogue) (n : ℕ) → IsSoundCatalogue k → IfSome (charge_in k n) IsChargeWithinLimits
 charge_within k n s = found (item_numbered k.charges n) refl
   where
-    found : (o : Option Charge) → item_numbered k.charges n ≡ o → IfSome (option_map (charge_def n) o)
+    found : (o : Option ListedCharge) → item_numbered k.charges n ≡ o → IfSome (option_map (charge_def n) o)
         IsChargeWithinLimits
     found None e = tt
     found (Some c) e = let is : IsSoundCharge c =
@@ -89,7 +90,8 @@ pub limits_of : (k : Catalogue) (n principal periods : ℕ) (t : Terms) → IsSo
     → lends (product_in k n) principal periods ≡ true → terms_in k n ≡ Some t → IsLoanWithinLimits t principal periods
 limits_of k n principal periods t s h e = found (item_numbered k.products n) refl h e
   where
-    found : (o : Option Offer) → item_numbered k.products n ≡ o → lends (option_map (product_of n) o) principal periods
+    found : (o : Option ListedProduct) → item_numbered k.products n ≡ o
+        → lends (option_map (product_of n) o) principal periods
         ≡ true → option_map (λ (p : Product). terms_of (charge_in k) p.members) (option_map (product_of n) o) ≡ Some t
         → IsLoanWithinLimits t principal periods
     found None is h e = absurd (cc)
@@ -122,13 +124,13 @@ entered_at k staffed clients l day e s =
     entered_of k.day staffed l.loan.periods (disbursed_on l.loan.stage) day l.entries e s.entries
 
 -- the account of a sound loan
-pub account_sound : (k : Catalogue) (staffed : Caller → Bool) (clients : List (List ℕ)) (l : Ledger) (a : Running)
-    → IsSoundCatalogue k → IsSoundLoan k staffed clients l → account_in k l ≡ Some a → IsSoundAccount a
+pub account_sound : (k : Catalogue) (staffed : Caller → Bool) (clients : List (List ℕ)) (l : Ledger) (a : DisbursedLoan)
+    → IsSoundCatalogue k → IsSoundLoan k staffed clients l → account_in k l ≡ Some a → IsSoundDisbursed a
 account_sound k staffed clients l a c s h =
     let is : IsRunning k l a = account_is k l a h in
     let early = day_of_stage k.day l.loan.stage is.day is.day_is s.stage in
     let late = c.day in
-    subst IsSoundAccount is.account_is (record {
+    subst IsSoundDisbursed is.account_is (record {
       limits = limits_of k l.loan.product l.loan.principal l.loan.periods is.terms c s.product is.terms_is;
       day = omega (arith, early, late);
       entries = (entered_at k staffed clients l is.day is.day_is s).lawful;
@@ -136,12 +138,12 @@ account_sound k staffed clients l a c s h =
 
 -- a loan that is disbursed has its account
 pub account_there : (k : Catalogue) (l : Ledger) (day : ℕ) → disbursed_on l.loan.stage ≡ Some day
-    → lends (product_in k l.loan.product) l.loan.principal l.loan.periods ≡ true → (a : Running)
+    → lends (product_in k l.loan.product) l.loan.principal l.loan.periods ≡ true → (a : DisbursedLoan)
     × (account_in k l ≡ Some a)
 account_there k l day e h = found (product_in k l.loan.product) refl h
   where
     found : (o : Option Product) → product_in k l.loan.product ≡ o → lends o l.loan.principal l.loan.periods ≡ true
-        → (a : Running) × (account_in k l ≡ Some a)
+        → (a : DisbursedLoan) × (account_in k l ≡ Some a)
     found None is h = absurd (cc)
     found (Some p) is h =
         let t = terms_of (charge_in k) p.members in (
@@ -168,14 +170,15 @@ days_by today staffed (e ∷ es) a zero below = a.0.day
 days_by today staffed (e ∷ es) a (suc i) below = days_by today staffed es a.1 i (omega (arith, below))
 
 -- a fresh schedule has something outstanding
-row_open : (i : Instalment) → 1 ≤ i.principal → is_open (row_of i) ≡ true
+row_open : (i : FreshInstalment) → 1 ≤ i.principal → is_open (row_of i) ≡ true
 row_open i some = let left : 0 < row_outstanding (row_of i) =
     omega (arith, some) in lt-ltb 0 (row_outstanding (row_of i)) left
 
-any_open : (schedule : List Instalment) → 1 ≤ total_principal schedule → list_any is_open (map row_of schedule) ≡ true
+any_open : (schedule : List FreshInstalment) → 1 ≤ total_principal schedule → list_any is_open (map row_of schedule)
+    ≡ true
 any_open [] some = absurd (omega (arith, some))
 any_open (i ∷ is) some =
-    let whole = sum_by-append (λ (x : Instalment). x.principal) (i ∷ []) is in
+    let whole = sum_by-append (λ (x : FreshInstalment). x.principal) (i ∷ []) is in
     elim (cases_lt 0 i.principal) [
       | inl here ↦ ap (λ b. b || list_any is_open (map row_of is)) (row_open i here)
       | inr none ↦ or_true (is_open (row_of i)) (list_any is_open (map row_of is))
@@ -189,7 +192,7 @@ fresh_open terms principal n day limits =
     let some = limits.some_principal in
     any_open (fresh_schedule terms principal n day) (omega (arith, sum, some))
 
-pub status_first : (a : Running) → IsSoundAccount a → a.entries ≡ [] → status_of_loan a ≡ 300
+pub status_first : (a : DisbursedLoan) → IsSoundDisbursed a → a.entries ≡ [] → status_of_loan a ≡ 300
 status_first a s e =
     let left = fresh_open a.terms a.principal a.periods a.day s.limits in
     ap (λ (es : List Entry). status_of es (state_of (orders_of a) (schedule_of a) es)) e

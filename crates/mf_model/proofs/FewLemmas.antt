@@ -8,8 +8,8 @@ use Rattle.mf_base.specs.declared.fault.Fault.{Fault}
 use Rattle.mf_base.specs.declared.fault.Fault.TheVariants.{F2, F3}
 use Rattle.mf_office.specs.declared.caller.Caller.{Caller}
 use Rattle.mf_office.specs.Tree.{is_at_or_below}
-use Rattle.mf_account.specs.Loan.{Loan as Running, status_of_loan}
-use Rattle.mf_arrears.specs.Line.{Line}
+use Rattle.mf_account.specs.Loan.{DisbursedLoan, status_of_loan}
+use Rattle.mf_arrears.specs.Line.{OfficeLine}
 use Rattle.mf_model.specs.declared.reply.Reply.{Reply}
 use Rattle.mf_model.specs.declared.reply.Reply.TheVariants.{ArrearsShown}
 use Rattle.mf_model.specs.declared.request.Request.TheVariants.{SeenArrears}
@@ -21,7 +21,7 @@ use Rattle.mf_model.specs.Sound.{IsSound, IsSoundOffice, is_staff}
 use Rattle.mf_model.specs.Tree.{Above, Ascending, offices_where, parent_of}
 
 -- a loan counts once at most
-active_once : (today : ℕ) (o : Option Running) → length (if_active today o) ≤ 1
+active_once : (today : ℕ) (o : Option DisbursedLoan) → length (if_active today o) ≤ 1
 active_once today None = omega arith
 active_once today (Some a) =
     elim (status_of_loan a == 300) as (λ (b : Bool). length (cond b (aged_loan today a ∷ []) []) ≤ 1) [
@@ -46,13 +46,14 @@ module _ (k : Catalogue) (staffed : Caller → Bool) where
 
   -- the lines of some of the offices
   lines_few : (p : ℕ → Bool) (fs : List Office) → AllByRecursion (IsSoundOffice k staffed) fs
-      → sum_by (λ (l : Line). l.loans) (map (arrears_line k) (offices_where p fs)) ≤ length fs * 999999
+      → sum_by (λ (l : OfficeLine). l.loans) (map (arrears_line k) (offices_where p fs)) ≤ length fs * 999999
   lines_few p [] all = omega arith
   lines_few p (o ∷ fs) all =
       let first = line_few o all.0 in
       let rest = lines_few p fs all.1 in
-      let whole = sum_by-cons (λ (l : Line). l.loans) (arrears_line k o) (map (arrears_line k) (offices_where p fs)) in
-      elim (p o.number) as (λ (b : Bool). sum_by (λ (l : Line). l.loans)
+      let whole = sum_by-cons (λ (l : OfficeLine). l.loans) (arrears_line k o)
+      (map (arrears_line k) (offices_where p fs)) in
+      elim (p o.number) as (λ (b : Bool). sum_by (λ (l : OfficeLine). l.loans)
       (map (arrears_line k) (cond b (o ∷ offices_where p fs) (offices_where p fs))) ≤ suc (length fs) * 999999) [
         | true ↦ omega (arith, first, rest, whole)
         | false ↦ omega (arith, rest)
@@ -73,7 +74,8 @@ module _ (k : Catalogue) (staffed : Caller → Bool) where
       let some = all.0.number.0 in
       omega (arith, rest, some)
 
-pub arrears_few : (o : ℕ) (i : Institution) → IsSound i → sum_by (λ (l : Line). l.loans) (arrears_seen o i) ≤ 10 ^ 10
+pub arrears_few : (o : ℕ) (i : Institution) → IsSound i → sum_by (λ (l : OfficeLine). l.loans) (arrears_seen o i)
+    ≤ 10 ^ 10
 arrears_few o i sound =
     let lines = lines_few i.catalogue (is_staff i.offices) (λ (x : ℕ). is_at_or_below (parent_of i.offices) x o)
     i.offices sound.each in
@@ -81,25 +83,26 @@ arrears_few o i sound =
     omega (arith, lines, offices)
 
 -- so are those that a caller is told
-abbrev shown : List Line → Result Reply Fault
+abbrev shown : List OfficeLine → Result Reply Fault
 shown lines = Ok (ArrearsShown lines)
 
-few_permitted : (c : Caller) (i : Institution) (lines : List Line) (staff : Option Staff) → IsSound i
+few_permitted : (c : Caller) (i : Institution) (lines : List OfficeLine) (staff : Option Staff) → IsSound i
     → reply_in (where_permitted c SeenArrears (On_all_seen list_arrears) staff i) ≡ Ok (ArrearsShown lines)
-    → sum_by (λ (l : Line). l.loans) lines ≤ 10 ^ 10
+    → sum_by (λ (l : OfficeLine). l.loans) lines ≤ 10 ^ 10
 few_permitted c i lines None sound e = absurd (let never : reply_in (Err F2) ≡ Ok (ArrearsShown lines) = e in cc)
 few_permitted c i lines (Some staff) sound e = go (meets (need SeenArrears) staff.role c.office) e
   where
     go : (b : Bool) → reply_in (cond b (carried_out c (On_all_seen list_arrears) i) (Err F3)) ≡ Ok (ArrearsShown lines)
-        → sum_by (λ (l : Line). l.loans) lines ≤ 10 ^ 10
+        → sum_by (λ (l : OfficeLine). l.loans) lines ≤ 10 ^ 10
     go true told =
         let both : shown (arrears_seen c.office i) ≡ shown lines = told in
         let same : arrears_seen c.office i ≡ lines = cc in
-        subst (λ (ls : List Line). sum_by (λ (l : Line). l.loans) ls ≤ 10 ^ 10) same (arrears_few c.office i sound)
+        subst (λ (ls : List OfficeLine). sum_by (λ (l : OfficeLine). l.loans) ls ≤ 10 ^ 10) same
+        (arrears_few c.office i sound)
     go false told = absurd (let never : reply_in (Err F3) ≡ Ok (ArrearsShown lines) = told in cc)
 
-pub told_few : (caller : Option Caller) (i : Institution) (lines : List Line) → IsSound i
+pub told_few : (caller : Option Caller) (i : Institution) (lines : List OfficeLine) → IsSound i
     → reply (record { caller = caller; request = SeenArrears }) i ≡ Ok (ArrearsShown lines)
-    → sum_by (λ (l : Line). l.loans) lines ≤ 10 ^ 10
+    → sum_by (λ (l : OfficeLine). l.loans) lines ≤ 10 ^ 10
 told_few None i lines sound e = absurd (let never : reply_in (Err F2) ≡ Ok (ArrearsShown lines) = e in cc)
 told_few (Some c) i lines sound e = few_permitted c i lines (staff_at i c) sound e

@@ -18,7 +18,8 @@ use Rattle.mf_model.specs.declared.loan.Stage.{Stage}
 use Rattle.mf_model.specs.declared.loan.Stage.TheVariants.{Submitted, Approved, Disbursed, Withdrawn, Rejected}
 use Rattle.mf_model.specs.Stages.{disbursed_on}
 use Rattle.mf_model.specs.Accounts.{terms_in}
-use Rattle.mf_model.specs.Institution.{Catalogue, Charge, Offer, Office, Rows, Ledger, item_numbered, with_numbered}
+use Rattle.mf_model.specs.Institution.{Catalogue, ListedCharge, ListedProduct, Office, Rows, Ledger, item_numbered}
+use Rattle.mf_model.specs.Institution.{with_numbered}
 use Rattle.mf_model.specs.Institution.{charge_def, product_of, charge_in, product_in}
 use Rattle.mf_model.specs.Sound.{IsSoundLoan, IsStageBy, IsEntryBy, AreEntriesBy, IsSoundRows, IsSoundOffice}
 use Rattle.mf_model.specs.Sound.{IsSoundOffer, lends}
@@ -139,11 +140,11 @@ consistent_grows a b p grows h =
     (kind_grows a b Overdue p.overdue_charge grows (and_right (is_of_kind a Instalment p.instalment_charge) _ later))))
 
 -- a charge keeps its number when another is added
-pub charge_stays : (charges : List Charge) (c : Charge) (n : ℕ) (d : ChargeDef) → option_map (charge_def n)
+pub charge_stays : (charges : List ListedCharge) (c : ListedCharge) (n : ℕ) (d : ChargeDef) → option_map (charge_def n)
     (item_numbered charges n) ≡ Some d → option_map (charge_def n) (item_numbered (charges ++ c ∷ []) n) ≡ Some d
 charge_stays charges c n d h = found (item_numbered charges n) refl h
   where
-    found : (o : Option Charge) → item_numbered charges n ≡ o → option_map (charge_def n) o ≡ Some d
+    found : (o : Option ListedCharge) → item_numbered charges n ≡ o → option_map (charge_def n) o ≡ Some d
         → option_map (charge_def n) (item_numbered (charges ++ c ∷ []) n) ≡ Some d
     found None e h = absurd (cc)
     found (Some x) e h = ap (option_map (charge_def n)) (numbered_push charges c n x e) ∙ h
@@ -220,8 +221,9 @@ abbrev members_lend : ℕ → ℕ → Option ProductMembers → Bool
 members_lend principal periods None = false
 members_lend principal periods (Some p) = allows p principal periods
 
-pub lends_by_members : (n m principal periods : ℕ) (a b : Option Offer) → option_map (λ (p : Offer). p.members) a
-    ≡ option_map (λ (p : Offer). p.members) b → lends (option_map (product_of n) a) principal periods
+pub lends_by_members : (n m principal periods : ℕ) (a b : Option ListedProduct)
+    → option_map (λ (p : ListedProduct). p.members) a
+    ≡ option_map (λ (p : ListedProduct). p.members) b → lends (option_map (product_of n) a) principal periods
     ≡ lends (option_map (product_of m) b) principal periods
 lends_by_members n m principal periods None None e = refl
 lends_by_members n m principal periods None (Some q) e = absurd (cc)
@@ -320,48 +322,51 @@ terms_same a b p grows h =
       overdue = c;
     }) three
 
-pub members_give : (charges : ℕ → Option ChargeDef) (n : ℕ) (o : Option Offer)
+pub members_give : (charges : ℕ → Option ChargeDef) (n : ℕ) (o : Option ListedProduct)
     → option_map (λ (p : Product). terms_of charges p.members) (option_map (product_of n) o)
-    ≡ option_map (terms_of charges) (option_map (λ (p : Offer). p.members) o)
+    ≡ option_map (terms_of charges) (option_map (λ (p : ListedProduct). p.members) o)
 members_give charges n None = refl
 members_give charges n (Some p) = refl
 
 -- one more product
-pub terms_push : (k : Catalogue) (p : Offer) (n : ℕ) (t : Terms) → terms_in k n ≡ Some t
+pub terms_push : (k : Catalogue) (p : ListedProduct) (n : ℕ) (t : Terms) → terms_in k n ≡ Some t
     → terms_in (record k { products = k.products ++ p ∷ [] }) n ≡ Some t
 terms_push k p n t h = found (item_numbered k.products n) refl h
   where
-    found : (o : Option Offer) → item_numbered k.products n ≡ o
+    found : (o : Option ListedProduct) → item_numbered k.products n ≡ o
         → option_map (λ (q : Product). terms_of (charge_in k) q.members) (option_map (product_of n) o) ≡ Some t
         → option_map (λ (q : Product). terms_of (charge_in k) q.members) (option_map (product_of n)
         (item_numbered (k.products ++ p ∷ []) n)) ≡ Some t
     found None e h = absurd (cc)
-    found (Some q) e h = ap (λ (o : Option Offer). option_map (λ (r : Product). terms_of (charge_in k) r.members)
+    found (Some q) e h = ap (λ (o : Option ListedProduct). option_map
+        (λ (r : Product). terms_of (charge_in k) r.members)
         (option_map (product_of n) o)) (numbered_push k.products p n q e) ∙ h
 
 -- other products with the same members
-pub terms_with : (k : Catalogue) (products : List Offer) (n : ℕ) (t : Terms) → option_map (λ (p : Offer). p.members)
-    (item_numbered products n) ≡ option_map (λ (p : Offer). p.members) (item_numbered k.products n) → terms_in k n
+pub terms_with : (k : Catalogue) (products : List ListedProduct) (n : ℕ) (t : Terms)
+    → option_map (λ (p : ListedProduct). p.members)
+    (item_numbered products n) ≡ option_map (λ (p : ListedProduct). p.members) (item_numbered k.products n)
+    → terms_in k n
     ≡ Some t → terms_in (record k { products = products }) n ≡ Some t
 terms_with k products n t same h =
     members_give (charge_in k) n (item_numbered products n) ∙ ap (option_map (terms_of (charge_in k))) same
     ∙ sym (members_give (charge_in k) n (item_numbered k.products n)) ∙ h
 
 -- one more charge, where the products are sound
-pub terms_charge : (k : Catalogue) (c : Charge) (n : ℕ) (t : Terms) → AllByRecursion (IsSoundOffer (charge_in k))
+pub terms_charge : (k : Catalogue) (c : ListedCharge) (n : ℕ) (t : Terms) → AllByRecursion (IsSoundOffer (charge_in k))
     k.products → terms_in k n ≡ Some t → terms_in (record k { charges = k.charges ++ c ∷ [] }) n ≡ Some t
 terms_charge k c n t s h = found (item_numbered k.products n) refl h
   where
     l : Catalogue
     l = record k { charges = k.charges ++ c ∷ [] }
 
-    found : (o : Option Offer) → item_numbered k.products n ≡ o
+    found : (o : Option ListedProduct) → item_numbered k.products n ≡ o
         → option_map (λ (q : Product). terms_of (charge_in k) q.members) (option_map (product_of n) o) ≡ Some t
         → option_map (λ (q : Product). terms_of (charge_in l) q.members) (option_map (product_of n)
         (item_numbered k.products n)) ≡ Some t
     found None e h = absurd (cc)
     found (Some q) e h =
-        ap (λ (o : Option Offer). option_map (λ (r : Product). terms_of (charge_in l) r.members)
+        ap (λ (o : Option ListedProduct). option_map (λ (r : Product). terms_of (charge_in l) r.members)
         (option_map (product_of n) o)) e
         ∙ ap Some (terms_same (charge_in k) (charge_in l) q.members (λ m d. charge_stays k.charges c m d)
         (all_at (IsSoundOffer (charge_in k)) k.products n q s e).consistent)

@@ -10,7 +10,7 @@ use Rattle.mf_model.specs.Institution.{item_numbered}
 use Rattle.mf_model.specs.Tree.{is_there, Fits}
 use Rattle.mf_catalog.specs.declared.terms.Terms.{Terms}
 use Rattle.mf_model.specs.Accounts.{terms_in}
-use Rattle.mf_account.specs.Loan.{Loan as Running, IsSound as IsSoundAccount, status_of_loan}
+use Rattle.mf_account.specs.Loan.{DisbursedLoan, IsSoundDisbursed, status_of_loan}
 use Rattle.mf_model.specs.Stages.{disbursed_on, stage_number}
 use Rattle.mf_model.specs.Store.{rows_of, rows_at, ledger_at, account_of, use_at}
 use Rattle.std.proofs.lemmas.Bool.{cases_eq}
@@ -54,7 +54,7 @@ terms_last [] i s r n t h = h
 terms_last (l ∷ ls) i s r n t h =
     terms_last ls (next l i) (next_sound l i s r.0) r.1 n t ((next_grows l i s r.0).terms n t h)
 
-pub account_last : (ls : List Line) (i : Institution) → IsSound i → AreInRange ls → (l : Ledger) (a : Running)
+pub account_last : (ls : List Line) (i : Institution) → IsSound i → AreInRange ls → (l : Ledger) (a : DisbursedLoan)
     → account_in i.catalogue l ≡ Some a → account_in (last ls i).catalogue l ≡ Some a
 account_last ls i s r l a h =
     let is : IsRunning i.catalogue l a = account_is i.catalogue l a h in
@@ -131,17 +131,17 @@ loan_of i loan l s h = at (office_at loan.office i.offices) refl h
         let is = (found_sound i.catalogue (is_staff i.offices) loan.office i.offices f s.each e).rows in
         all_at (IsSoundLoan i.catalogue (is_staff i.offices) f.rows.clients) f.rows.loans loan.number l is.loans h
 
-pub account_of_loan : (i : Institution) (loan : Account) (a : Running) → IsSound i
-    → account_of i.catalogue (ledger_at loan i) ≡ Some a → IsSoundAccount a
+pub account_of_loan : (i : Institution) (loan : Account) (a : DisbursedLoan) → IsSound i
+    → account_of i.catalogue (ledger_at loan i) ≡ Some a → IsSoundDisbursed a
 account_of_loan i loan a s h = at (ledger_at loan i) refl h
   where
-    at : (o : Option Ledger) → ledger_at loan i ≡ o → account_of i.catalogue o ≡ Some a → IsSoundAccount a
+    at : (o : Option Ledger) → ledger_at loan i ≡ o → account_of i.catalogue o ≡ Some a → IsSoundDisbursed a
     at None e h = absurd (cc)
     at (Some l) e h = account_sound i.catalogue (is_staff i.offices) (rows_at loan.office i).clients l a s.catalogue
         (loan_of i loan l s e) h
 
 pub loan_has_account : (i : Institution) (loan : Account) (l : Ledger) (day : ℕ) → IsSound i → ledger_at loan i ≡ Some l
-    → disbursed_on l.loan.stage ≡ Some day → (a : Running) × (account_of i.catalogue (ledger_at loan i) ≡ Some a)
+    → disbursed_on l.loan.stage ≡ Some day → (a : DisbursedLoan) × (account_of i.catalogue (ledger_at loan i) ≡ Some a)
 loan_has_account i loan l day s e d =
     let there = account_there i.catalogue l day d (loan_of i loan l s e).product in
     (there.0, ap (account_of i.catalogue) e ∙ there.1)
@@ -154,6 +154,6 @@ first_status i loan l day s e d none =
     let a = there.0 in
     let has : account_of i.catalogue (ledger_at loan i) ≡ Some there.0 = ap (account_of i.catalogue) e ∙ there.1 in
     let same : there.0.entries ≡ l.entries =
-    ap (λ (x : Running). x.entries) (sym (account_is i.catalogue l there.0 there.1).account_is) in
+    ap (λ (x : DisbursedLoan). x.entries) (sym (account_is i.catalogue l there.0 there.1).account_is) in
     ap (of_account (stage_number l.loan.stage) status_of_loan) there.1
     ∙ status_first there.0 (account_of_loan i loan there.0 s has) (same ∙ none)

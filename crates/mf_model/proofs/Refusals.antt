@@ -11,11 +11,11 @@ use Rattle.mf_catalog.specs.declared.product.Product.{Product}
 use Rattle.mf_catalog.specs.declared.product.ProductMembers.{ProductMembers}
 use Rattle.mf_catalog.specs.Product.{charges_there, is_consistent, allows, lending}
 use Rattle.mf_account.specs.declared.entry.Entry.{Entry}
-use Rattle.mf_account.specs.Loan.{Loan as Running, state_of_loan, status_of_loan}
+use Rattle.mf_account.specs.Loan.{DisbursedLoan, state_of_loan, status_of_loan}
 use Rattle.mf_account.specs.declared.entry.Kind.TheVariants.{Fee}
 use Rattle.mf_account.specs.Kinds.{is_seal}
 use Rattle.mf_account.specs.Standing.{entry_at}
-use Rattle.mf_account.specs.Refusals.{is_sealed, admits, is_out_of_order, is_there as is_there_among, is_forbidden}
+use Rattle.mf_account.specs.Refusals.{is_sealed, admits, is_out_of_order, is_instalment_number, is_forbidden}
 use Rattle.mf_account.specs.Refusals.{is_out_of_limits, refusal_of, reversal_refused}
 use Rattle.mf_model.specs.declared.loan.Stage.{Stage}
 use Rattle.mf_model.specs.declared.reply.Reply.{Reply}
@@ -128,7 +128,7 @@ refused_or : (b : Bool) (fault : Fault) (rest : Option Fault) → IsRuled fault 
 refused_or true fault rest h k = h
 refused_or false fault rest h k = k
 
-refusal_ruled : (a : Running) (e : Entry) (today : ℕ) → IsRuledRefusal (refusal_of a e today)
+refusal_ruled : (a : DisbursedLoan) (e : Entry) (today : ℕ) → IsRuledRefusal (refusal_of a e today)
 refusal_ruled a e today =
     refused_or (is_sealed a.entries) F11 _ tt
     (refused_or (not (admits e.kind (status_of_loan a))) F9 _ tt
@@ -137,13 +137,13 @@ refusal_ruled a e today =
     (refused_or (is_out_of_limits e.kind e.amount) F8 _ tt
     (refused_or (nat_le 9999 (length a.entries)) F18 None tt tt)))))
 
-fee_ruled : (due : ℕ) (a : Running) → IsRuledRefusal (fee_first due a)
+fee_ruled : (due : ℕ) (a : DisbursedLoan) → IsRuledRefusal (fee_first due a)
 fee_ruled due a = refused_or (is_sealed a.entries) F11 _ tt (refused_or (not (admits Fee (status_of_loan a))) F9 _ tt
     (refused_or (nat_lt due a.day) F10 None tt tt))
 
 reversal_ruled : (es : List Entry) (seq : ℕ) → IsRuledRefusal (reversal_refused es seq)
 reversal_ruled es seq =
-    refused_or (not (is_there_among (length es) seq)) F12 _ tt
+    refused_or (not (is_instalment_number (length es) seq)) F12 _ tt
     (refused_or (entry_at es (seq - 1)).reversed F13 _ tt
     (refused_or (is_sealed es && not (is_seal (entry_at es (seq - 1)).kind)) F11 None tt tt))
 
@@ -157,13 +157,14 @@ first_ruled : (first next : Option Fault) → IsRuledRefusal first → IsRuledRe
 first_ruled None next h k = k
 first_ruled (Some fault) next h k = h
 
-enter_ruled : (first : Running → Option Fault) (make : ℕ → Running → Entry) (k : Catalogue) (o : Option Running)
-    → ((a : Running) → IsRuledRefusal (first a)) → Ruled (enter first make k o)
+enter_ruled : (first : DisbursedLoan → Option Fault) (make : ℕ → DisbursedLoan → Entry) (k : Catalogue)
+    (o : Option DisbursedLoan)
+    → ((a : DisbursedLoan) → IsRuledRefusal (first a)) → Ruled (enter first make k o)
 enter_ruled first make k None h = tt
 enter_ruled first make k (Some a) h = unless_ruled (fault_or (first a) (refusal_of a (make k.day a) k.day)) _ _
     (first_ruled (first a) _ (h a) (refusal_ruled a (make k.day a) k.day))
 
-reverse_ruled : (seq : ℕ) (o : Option Running) → Ruled (reverse seq o)
+reverse_ruled : (seq : ℕ) (o : Option DisbursedLoan) → Ruled (reverse seq o)
 reverse_ruled seq None = tt
 reverse_ruled seq (Some a) = unless_ruled (reversal_refused a.entries seq) _ _ (reversal_ruled a.entries seq)
 

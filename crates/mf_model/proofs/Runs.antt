@@ -11,7 +11,8 @@ use Rattle.mf_model.specs.declared.reply.Reply.{Reply}
 use Rattle.mf_model.specs.Institution.{Institution, Change, after, after_maybe}
 use Rattle.mf_model.specs.Tree.{view, touches, IsTree}
 use Rattle.mf_model.specs.Desk.{plan, outcome, reply_in, change_in, reply, effect}
-use Rattle.mf_model.specs.Run.{Line, change_of, answer, next, answers, last, is_of, is_by, from_office, from_caller}
+use Rattle.mf_model.specs.Run.{Line, change_of_line, answer, next, answers, last, is_of, is_by, from_office}
+use Rattle.mf_model.specs.Run.{from_caller}
 use Rattle.mf_model.specs.Run.{replies_to, is_touched, Touch, touching_list, play_one, play, play_replies, given_up}
 use Rattle.mf_model.specs.Run.{but_given_up, NoneGivenUp, Alike}
 use Rattle.mf_model.specs.Store.{left_by, left_after}
@@ -22,29 +23,29 @@ kept_change : (b : Bool) (c : Option Change) (change : Change) → cond b None c
 kept_change true c change h = absurd (cc)
 kept_change false c change h = h
 
-pub known_of : (l : Line) (i : Institution) (change : Change) → IsTree i.offices → change_of l i ≡ Some change
+pub known_of : (l : Line) (i : Institution) (change : Change) → IsTree i.offices → change_of_line l i ≡ Some change
     → KnownLine l.call.caller (plan l.call.request) i change
 known_of l i change t h = known_line l.call.caller l.call.request (plan l.call.request) i change t refl
     (kept_change l.given_up (change_in (outcome l.call i)) change h)
 
 pub IsTree_next : (l : Line) (i : Institution) → IsTree i.offices → IsTree (next l i).offices
-IsTree_next l i t = step (change_of l i) refl
+IsTree_next l i t = step (change_of_line l i) refl
   where
-    step : (c : Option Change) → change_of l i ≡ c → IsTree (after_maybe c i).offices
+    step : (c : Option Change) → change_of_line l i ≡ c → IsTree (after_maybe c i).offices
     step None e = t
     step (Some change) e = IsTree_after change i t (known_of l i change t e).fits
 
 -- an entry of the touching list takes the view along, and any other line leaves it
 pub view_next : (o : ℕ) (l : Line) (i : Institution) → IsTree i.offices → (b : Bool)
-    → (from_office o l.call || is_touched o i (change_of l i)) ≡ b → view o (next l i)
-    ≡ cond b (play_one (record { call = l.call; accepted = is_some (change_of l i) }) (view o i)) (view o i)
-view_next o l i t b is = step (change_of l i) refl b is
+    → (from_office o l.call || is_touched o i (change_of_line l i)) ≡ b → view o (next l i)
+    ≡ cond b (play_one (record { call = l.call; accepted = is_some (change_of_line l i) }) (view o i)) (view o i)
+view_next o l i t b is = step (change_of_line l i) refl b is
   where
     none : (b : Bool) → view o i ≡ cond b (view o i) (view o i)
     none true = refl
     none false = refl
 
-    goes : (change : Change) → change_of l i ≡ Some change → (own now : Bool) → from_office o l.call ≡ own
+    goes : (change : Change) → change_of_line l i ≡ Some change → (own now : Bool) → from_office o l.call ≡ own
         → touches o i change ≡ now → (b : Bool) → (own || now) ≡ b → view o (after change i)
         ≡ cond b (after_maybe (effect l.call (view o i)) (view o i)) (view o i)
     goes change e own true oe te b is =
@@ -64,7 +65,7 @@ view_next o l i t b is = step (change_of l i) refl b is
         view_after o change i t k.fits ∙ ap (λ c. cond c (after change (view o i)) (view o i)) te
         ∙ ap (λ c. cond c (after_maybe (effect l.call (view o i)) (view o i)) (view o i)) is
 
-    step : (c : Option Change) → change_of l i ≡ c → (b : Bool) → (from_office o l.call || is_touched o i c) ≡ b
+    step : (c : Option Change) → change_of_line l i ≡ c → (b : Bool) → (from_office o l.call || is_touched o i c) ≡ b
         → view o (after_maybe c i) ≡ cond b (play_one (record { call = l.call; accepted = is_some c }) (view o i))
         (view o i)
     step None e b is = none b
@@ -75,14 +76,15 @@ pub isolated_view : (o : ℕ) (ls : List Line) (i : Institution) → IsTree i.of
     ≡ play (touching_list o ls i) (view o i)
 isolated_view o [] i t = refl
 isolated_view o (l ∷ ls) i t = isolated_view o ls (next l i) (IsTree_next l i t)
-    ∙ step (from_office o l.call || is_touched o i (change_of l i)) refl
+    ∙ step (from_office o l.call || is_touched o i (change_of_line l i)) refl
   where
     this : Touch
-    this = record { call = l.call; accepted = is_some (change_of l i) }
+    this = record { call = l.call; accepted = is_some (change_of_line l i) }
 
-    step : (b : Bool) → (from_office o l.call || is_touched o i (change_of l i)) ≡ b
+    step : (b : Bool) → (from_office o l.call || is_touched o i (change_of_line l i)) ≡ b
         → play (touching_list o ls (next l i)) (view o (next l i))
-        ≡ play (cond b (record { call = l.call; accepted = is_some (change_of l i) } ∷ touching_list o ls (next l i))
+        ≡ play (cond b (record { call = l.call; accepted = is_some (change_of_line l i) }
+        ∷ touching_list o ls (next l i))
         (touching_list o ls (next l i))) (view o i)
     step true is = ap (play (touching_list o ls (next l i))) (view_next o l i t true is)
     step false is = ap (play (touching_list o ls (next l i))) (view_next o l i t false is)
@@ -105,13 +107,13 @@ listed_where_own own now e = ap (λ b. b || now) e
 replies_step : (o : ℕ) (meant : Call → Bool) (l : Line) (ls : List Line) (i : Institution) → IsTree i.offices
     → (meant l.call ≡ true → from_office o l.call ≡ true) → replies_to meant ls (answers ls (next l i))
     ≡ but_given_up (given_up meant ls) (play_replies meant (touching_list o ls (next l i)) (view o (next l i)))
-    → (own listed : Bool) → meant l.call ≡ own → (from_office o l.call || is_touched o i (change_of l i)) ≡ listed
+    → (own listed : Bool) → meant l.call ≡ own → (from_office o l.call || is_touched o i (change_of_line l i)) ≡ listed
     → cond own (answer l i ∷ replies_to meant ls (answers ls (next l i))) (replies_to meant ls (answers ls (next l i)))
     ≡ but_given_up (cond own (l.given_up ∷ given_up meant ls) (given_up meant ls))
-    (play_replies meant (cond listed (record { call = l.call; accepted = is_some (change_of l i) }
+    (play_replies meant (cond listed (record { call = l.call; accepted = is_some (change_of_line l i) }
     ∷ touching_list o ls (next l i)) (touching_list o ls (next l i))) (view o i))
 replies_step o meant l ls i t from rest true true me le =
-    let this : Touch = record { call = l.call; accepted = is_some (change_of l i) } in
+    let this : Touch = record { call = l.call; accepted = is_some (change_of_line l i) } in
     let ts = touching_list o ls (next l i) in
     let moved : view o (next l i) ≡ play_one this (view o i) = view_next o l i t true le in
     ap (λ r. r ∷ replies_to meant ls (answers ls (next l i))) (own_reply o l i t (from me))
@@ -120,10 +122,10 @@ replies_step o meant l ls i t from rest true true me le =
     ∙ sym (ap (λ b. but_given_up (l.given_up ∷ given_up meant ls) (cond b (reply l.call (view o i)
     ∷ play_replies meant ts (play_one this (view o i))) (play_replies meant ts (play_one this (view o i))))) me)
 replies_step o meant l ls i t from rest true false me le =
-    absurd (let both : (from_office o l.call || is_touched o i (change_of l i)) ≡ true = listed_where_own
-    (from_office o l.call) (is_touched o i (change_of l i)) (from me) in cc)
+    absurd (let both : (from_office o l.call || is_touched o i (change_of_line l i)) ≡ true = listed_where_own
+    (from_office o l.call) (is_touched o i (change_of_line l i)) (from me) in cc)
 replies_step o meant l ls i t from rest false true me le =
-    let this : Touch = record { call = l.call; accepted = is_some (change_of l i) } in
+    let this : Touch = record { call = l.call; accepted = is_some (change_of_line l i) } in
     let ts = touching_list o ls (next l i) in
     let moved : view o (next l i) ≡ play_one this (view o i) = view_next o l i t true le in
     rest ∙ ap (λ v. but_given_up (given_up meant ls) (play_replies meant ts v)) moved
@@ -139,7 +141,8 @@ pub isolated_replies : (o : ℕ) (meant : Call → Bool) → AreFrom o meant →
     (play_replies meant (touching_list o ls i) (view o i))
 isolated_replies o meant from [] i t = refl
 isolated_replies o meant from (l ∷ ls) i t = replies_step o meant l ls i t (from l.call) (isolated_replies o meant from
-    ls (next l i) (IsTree_next l i t)) (meant l.call) (from_office o l.call || is_touched o i (change_of l i)) refl refl
+    ls (next l i) (IsTree_next l i t)) (meant l.call) (from_office o l.call || is_touched o i (change_of_line l i)) refl
+    refl
 
 pub office_from : (o : ℕ) → AreFrom o (from_office o)
 office_from o call h = h

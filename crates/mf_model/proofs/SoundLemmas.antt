@@ -41,8 +41,9 @@ use Rattle.mf_model.specs.declared.reply.LoanReply.TheVariants.{Reversed}
 use Rattle.mf_model.specs.declared.reply.Reply.{Reply}
 use Rattle.mf_model.specs.declared.reply.Reply.TheVariants.{StaffMade, ClientMade, ClientShown, DayShown, DaySet}
 use Rattle.mf_model.specs.declared.reply.Reply.TheVariants.{ChargeMade, ChargeShown, ProductMade, ProductShown}
-use Rattle.mf_model.specs.declared.reply.Reply.TheVariants.{ProductRetired, LoanMade, Loan as LoanTold, LoansShown}
-use Rattle.mf_model.specs.Institution.{Institution, Catalogue, Charge, Offer, Office, Rows, Staff, Ledger, no_rows}
+use Rattle.mf_model.specs.declared.reply.Reply.TheVariants.{ProductRetired, LoanMade, Loan, LoansShown}
+use Rattle.mf_model.specs.Institution.{Institution, Catalogue, ListedCharge, ListedProduct, Office, Rows, Staff, Ledger}
+use Rattle.mf_model.specs.Institution.{no_rows}
 use Rattle.mf_model.specs.Institution.{product_of, charge_in, product_in, office_at, with_rows, with_office, new_office}
 use Rattle.mf_model.specs.Institution.{Change, Catalogue_becomes, Rows_become, Office_added, after, after_maybe}
 use Rattle.mf_model.specs.Institution.{newly_made, item_numbered, with_numbered}
@@ -53,9 +54,9 @@ use Rattle.mf_catalog.specs.declared.product.Product.{Product}
 use Rattle.mf_catalog.specs.declared.product.ProductMembers.{ProductMembers}
 use Rattle.mf_alloc.specs.declared.row.Portion.TheVariants.{Principal}
 use Rattle.mf_account.specs.declared.entry.Entry.{Entry}
-use Rattle.mf_account.specs.Loan.{Loan as Running, AreEntries, IsSound as IsSoundAccount}
+use Rattle.mf_account.specs.Loan.{DisbursedLoan, AreEntries, IsSoundDisbursed}
 use Rattle.mf_account.specs.Kinds.{is_seal}
-use Rattle.mf_account.specs.Refusals.{refusal_of, reversal_refused, is_sealed, is_there as is_there_among, HasForm}
+use Rattle.mf_account.specs.Refusals.{refusal_of, reversal_refused, is_sealed, is_instalment_number, HasForm}
 use Rattle.mf_account.specs.Refusals.{IsOffered}
 use Rattle.mf_account.specs.Standing.{entry_at, with_mark}
 use Rattle.mf_account.proofs.SoundLemmas.{sound-entered, sound-reversed}
@@ -456,16 +457,17 @@ step_sound step k s rows n l told change was h =
         })
 
 -- an account takes an entry: its loan has it, and is sound
-entered_sound : (k : Catalogue) (s : Caller → Bool) (clients : List (List ℕ)) (l : Ledger) (a : Running) (e : Entry)
+entered_sound : (k : Catalogue) (s : Caller → Bool) (clients : List (List ℕ)) (l : Ledger) (a : DisbursedLoan)
+    (e : Entry)
     → IsSoundCatalogue k → IsSoundLoan k s clients l → account_in k l ≡ Some a → IsOffered a e k.day
     → refusal_of a e k.day ≡ None → IsEntryBy k.day s e → IsSoundLoan k s clients (with_new_entry e l)
 entered_sound k s clients l a e c was h offered none by =
     let is : IsRunning k l a = account_is k l a h in
-    let sound : IsSoundAccount a = account_sound k s clients l a c was h in
-    let taken : IsSoundAccount (record a { entries = a.entries ++ e ∷ [] }) =
+    let sound : IsSoundDisbursed a = account_sound k s clients l a c was h in
+    let taken : IsSoundDisbursed (record a { entries = a.entries ++ e ∷ [] }) =
     sound-entered a e k.day sound offered (admitted a e k.day sound none) in
     let lawful : AreEntries l.loan.periods is.day (l.entries ++ e ∷ []) =
-    subst (λ (x : Running). AreEntries x.periods x.day (x.entries ++ e ∷ [])) (sym is.account_is) taken.entries in
+    subst (λ (x : DisbursedLoan). AreEntries x.periods x.day (x.entries ++ e ∷ [])) (sym is.account_is) taken.entries in
     let all : AreEntered k.day s l.loan.periods is.day (l.entries ++ e ∷ []) = record {
       lawful = lawful;
       each = all_push (IsEntryBy k.day s) l.entries e (entered_at k s clients l is.day is.day_is was).each by;
@@ -478,7 +480,8 @@ entered_sound k s clients l a e c was h offered none by =
     }
 
 -- what is asked of an entry that is offered holds of the next one of an account, where its columns are its kind's
-next_offered : (k : Catalogue) (s : Caller → Bool) (clients : List (List ℕ)) (l : Ledger) (a : Running) (e : Entry)
+next_offered : (k : Catalogue) (s : Caller → Bool) (clients : List (List ℕ)) (l : Ledger) (a : DisbursedLoan)
+    (e : Entry)
     → e.seq ≡ length a.entries + 1 → e.reversed ≡ false → HasForm e.kind k.day e → IsSoundLoan k s clients l
     → account_in k l ≡ Some a → IsOffered a e k.day
 next_offered k s clients l a e next stands form was h =
@@ -486,14 +489,15 @@ next_offered k s clients l a e next stands form was h =
     record {
       next = next;
       stands = stands;
-      disbursed = subst (λ (x : Running). x.day ≤ k.day) is.account_is (day_of_stage k.day l.loan.stage is.day is.day_is
+      disbursed = subst (λ (x : DisbursedLoan). x.day ≤ k.day) is.account_is
+          (day_of_stage k.day l.loan.stage is.day is.day_is
           was.stage);
-      latest = subst (λ (x : Running). (i : ℕ) → i < length x.entries → (entry_at x.entries i).day ≤ k.day)
+      latest = subst (λ (x : DisbursedLoan). (i : ℕ) → i < length x.entries → (entry_at x.entries i).day ≤ k.day)
           is.account_is (days_by k.day s l.entries (entered_at k s clients l is.day is.day_is was).each);
       form = form;
     }
 
-pub repayment_offered : (k : Catalogue) (s : Caller → Bool) (clients : List (List ℕ)) (l : Ledger) (a : Running)
+pub repayment_offered : (k : Catalogue) (s : Caller → Bool) (clients : List (List ℕ)) (l : Ledger) (a : DisbursedLoan)
     (asked : Repayment) (staff : Caller) → IsRepayment asked → IsSoundLoan k s clients l → account_in k l ≡ Some a
     → IsOffered a (repayment asked staff a) k.day
 repayment_offered k s clients l a asked staff r =
@@ -505,12 +509,12 @@ never_principal Fees = λ is. cc
 never_principal Interest = λ is. cc
 
 -- a posting is the next entry, stands, and has its kind's columns
-pub record IsNext (a : Running) (today : ℕ) (e : Entry) : Type 0 where
+pub record IsNext (a : DisbursedLoan) (today : ℕ) (e : Entry) : Type 0 where
   pub next : e.seq ≡ length a.entries + 1
   pub stands : e.reversed ≡ false
   pub form : HasForm e.kind today e
 
-pub posting_is_next : (asked : Posting) (staff : Caller) (today : ℕ) (a : Running)
+pub posting_is_next : (asked : Posting) (staff : Caller) (today : ℕ) (a : DisbursedLoan)
     → IsNext a today (posting asked staff today a)
 posting_is_next (Penalty instalment) staff today a = record { next = refl; stands = refl; form = (refl, refl, refl) }
 posting_is_next (Waiver instalment portion) staff today a =
@@ -519,7 +523,7 @@ posting_is_next WriteOff staff today a = record { next = refl; stands = refl; fo
 posting_is_next Refund staff today a = record { next = refl; stands = refl; form = (refl, refl, refl, refl, refl) }
 
 -- a posting counts from the business day, and carries no receipt
-posting_by : (asked : Posting) (staff : Caller) (today : ℕ) (s : Caller → Bool) (a : Running) → s staff ≡ true
+posting_by : (asked : Posting) (staff : Caller) (today : ℕ) (s : Caller → Bool) (a : DisbursedLoan) → s staff ≡ true
     → IsEntryBy today s (posting asked staff today a) × ((posting asked staff today a).receipt ≡ None)
 posting_by (Penalty instalment) staff today s a there =
     (record { day = omega arith; staff = there; receipt = tt }, refl)
@@ -528,7 +532,8 @@ posting_by (Waiver instalment portion) staff today s a there =
 posting_by WriteOff staff today s a there = (record { day = omega arith; staff = there; receipt = tt }, refl)
 posting_by Refund staff today s a there = (record { day = omega arith; staff = there; receipt = tt }, refl)
 
-in_order : (a : Running) (asked : Repayment) (staff : Caller) (today : ℕ) → refusal_of a (repayment asked staff a) today
+in_order : (a : DisbursedLoan) (asked : Repayment) (staff : Caller) (today : ℕ)
+    → refusal_of a (repayment asked staff a) today
     ≡ None → asked.day ≤ today
 in_order a asked staff today h =
     let order : (nat_lt asked.day a.day || nat_lt today asked.day) ≡ false =
@@ -536,7 +541,7 @@ in_order a asked staff today h =
     grind (arith, nat_tests)
 
 -- an entry that its account may take
-record IsMade (k : Catalogue) (s : Caller → Bool) (rows : Rows) (a : Running) (e : Entry) : Type 0 where
+record IsMade (k : Catalogue) (s : Caller → Bool) (rows : Rows) (a : DisbursedLoan) (e : Entry) : Type 0 where
   offered : IsOffered a e k.day
   by : IsEntryBy k.day s e
   free : used_before e.receipt (uses_from 1 rows.loans) ≡ None
@@ -553,14 +558,15 @@ unless_fault_ok None tell told becomes change h =
     (refl, changed tell told becomes change (ok_of (success tell (Some becomes)) (success told (Some change)) h))
 
 -- an entry that is made leaves its loan sound
-enter_sound : (first : Running → Option Fault) (make : ℕ → Running → Entry) (k : Catalogue) (s : Caller → Bool)
+enter_sound : (first : DisbursedLoan → Option Fault) (make : ℕ → DisbursedLoan → Entry) (k : Catalogue)
+    (s : Caller → Bool)
     (rows : Rows) (n : ℕ) (l : Ledger) (told : LoanReply) (change : LedgerChange) → IsSoundCatalogue k
-    → IsLoanOf k s rows l → ((a : Running) → account_in k l ≡ Some a → refusal_of a (make k.day a) k.day ≡ None
+    → IsLoanOf k s rows l → ((a : DisbursedLoan) → account_in k l ≡ Some a → refusal_of a (make k.day a) k.day ≡ None
     → IsMade k s rows a (make k.day a)) → enter first make k (account_in k l) ≡ Ok (told, Some change)
     → KeepsLoan k s rows n l change
 enter_sound first make k s rows n l told change catalogue was made h = at (account_in k l) refl h
   where
-    at : (o : Option Running) → account_in k l ≡ o → enter first make k o ≡ Ok (told, Some change)
+    at : (o : Option DisbursedLoan) → account_in k l ≡ o → enter first make k o ≡ Ok (told, Some change)
         → KeepsLoan k s rows n l change
     at None is h = absurd (cc)
     at (Some a) is h =
@@ -589,7 +595,7 @@ unless_known_ok n asked (Some u) next told change h = absurd (never (repeated_se
         not_changed (Repeated seq) told change (ok_of (success (Repeated seq) None) (success told (Some change)) h)
 
 repayment_made : (asked : Repayment) (c : Caller) (k : Catalogue) (s : Caller → Bool) (rows : Rows) (l : Ledger)
-    (a : Running) → s c ≡ true → IsRepayment asked → IsLoanOf k s rows l
+    (a : DisbursedLoan) → s c ≡ true → IsRepayment asked → IsLoanOf k s rows l
     → used_before asked.receipt (uses_from 1 rows.loans) ≡ None → account_in k l ≡ Some a
     → refusal_of a (repayment asked c a) k.day ≡ None → IsMade k s rows a (repayment asked c a)
 repayment_made asked c k s rows l a there r was free is none = record {
@@ -599,7 +605,7 @@ repayment_made asked c k s rows l a there r was free is none = record {
 }
 
 fee_made : (charge : ChargeDef) (due : ℕ) (c : Caller) (k : Catalogue) (s : Caller → Bool) (rows : Rows) (l : Ledger)
-    (a : Running) → s c ≡ true → IsLoanOf k s rows l → account_in k l ≡ Some a
+    (a : DisbursedLoan) → s c ≡ true → IsLoanOf k s rows l → account_in k l ≡ Some a
     → IsMade k s rows a (fee charge due c k.day a)
 fee_made charge due c k s rows l a there was is = record {
   offered = next_offered k s rows.clients l a (fee charge due c k.day a) refl refl (refl, refl, refl) was.sound is;
@@ -608,7 +614,7 @@ fee_made charge due c k s rows l a there was is = record {
 }
 
 posting_made : (asked : Posting) (c : Caller) (k : Catalogue) (s : Caller → Bool) (rows : Rows) (l : Ledger)
-    (a : Running) → s c ≡ true → IsLoanOf k s rows l → account_in k l ≡ Some a
+    (a : DisbursedLoan) → s c ≡ true → IsLoanOf k s rows l → account_in k l ≡ Some a
     → IsMade k s rows a (posting asked c k.day a)
 posting_made asked c k s rows l a there was is =
     let by = posting_by asked c k.day s a there in
@@ -631,7 +637,7 @@ entry_by_marked : (today : ℕ) (s : Caller → Bool) (e : Entry) → IsEntryBy 
 entry_by_marked today s e by = record { day = by.day; staff = by.staff; receipt = by.receipt }
 
 -- an entry that may be reversed is there
-there_among : (n seq : ℕ) → is_there_among n seq ≡ true → seq - 1 < n
+there_among : (n seq : ℕ) → is_instalment_number n seq ≡ true → seq - 1 < n
 there_among n seq h =
     let first : nat_le 1 seq ≡ true = and_left (nat_le 1 seq) (nat_le seq n) h in
     let last : nat_le seq n ≡ true = and_right (nat_le 1 seq) (nat_le seq n) h in
@@ -640,9 +646,9 @@ there_among n seq h =
     omega (arith, some, most)
 
 reversible : (es : List Entry) (seq : ℕ) → reversal_refused es seq ≡ None → seq - 1 < length es
-reversible es seq h = either (is_there_among (length es) seq) refl h
+reversible es seq h = either (is_instalment_number (length es) seq) refl h
   where
-    either : (b : Bool) → is_there_among (length es) seq ≡ b → cond (not b) (Some F12)
+    either : (b : Bool) → is_instalment_number (length es) seq ≡ b → cond (not b) (Some F12)
         (cond (entry_at es (seq - 1)).reversed (Some F13)
         (cond (is_sealed es && not (is_seal (entry_at es (seq - 1)).kind)) (Some F11) None)) ≡ None
         → seq - 1 < length es
@@ -650,15 +656,16 @@ reversible es seq h = either (is_there_among (length es) seq) refl h
     either true is h = there_among (length es) seq is
 
 -- a reversal leaves its loan sound
-reversed_sound : (seq : ℕ) (k : Catalogue) (s : Caller → Bool) (clients : List (List ℕ)) (l : Ledger) (a : Running)
+reversed_sound : (seq : ℕ) (k : Catalogue) (s : Caller → Bool) (clients : List (List ℕ)) (l : Ledger)
+    (a : DisbursedLoan)
     → IsSoundCatalogue k → IsSoundLoan k s clients l → account_in k l ≡ Some a → reversal_refused a.entries seq ≡ None
     → IsSoundLoan k s clients (with_reversal seq l)
 reversed_sound seq k s clients l a c was h none =
     let is : IsRunning k l a = account_is k l a h in
-    let sound : IsSoundAccount a = account_sound k s clients l a c was h in
-    let without : IsSoundAccount (record a { entries = with_mark a.entries (seq - 1) true }) =
+    let sound : IsSoundDisbursed a = account_sound k s clients l a c was h in
+    let without : IsSoundDisbursed (record a { entries = with_mark a.entries (seq - 1) true }) =
     sound-reversed a (seq - 1) sound (reversible a.entries seq none) in
-    let lawful : AreEntries l.loan.periods is.day (with_mark l.entries (seq - 1) true) = subst (λ (x : Running).
+    let lawful : AreEntries l.loan.periods is.day (with_mark l.entries (seq - 1) true) = subst (λ (x : DisbursedLoan).
     AreEntries x.periods x.day (with_mark x.entries (seq - 1) true)) (sym is.account_is) without.entries in
     let all : AreEntered k.day s l.loan.periods is.day (with_mark l.entries (seq - 1) true) = record {
       lawful = lawful;
@@ -681,7 +688,7 @@ reverse_sound seq k s rows n l told change catalogue was h = at (account_in k l)
     uses : uses_from 1 (with_numbered n (with_reversal seq) rows.loans) ≡ uses_from 1 rows.loans
     uses = uses_with n 1 (with_reversal seq) rows.loans (λ x m. uses_marked m (seq - 1) x.entries)
 
-    at : (o : Option Running) → account_in k l ≡ o → reverse seq o ≡ Ok (told, Some change)
+    at : (o : Option DisbursedLoan) → account_in k l ≡ o → reverse seq o ≡ Ok (told, Some change)
         → KeepsLoan k s rows n l change
     at None is h = absurd (cc)
     at (Some a) is h =
@@ -758,11 +765,11 @@ loan_keeps account asked c r k staffed catalogue there_is f reply new s h =
         → o ≡ Ok (told, Some change) → KeepsLoan k staffed f.rows account.number l change) → of_loan account f.rows o
         ≡ Ok (reply, Some new) → AreRowsAfter k staffed f.rows new
     become l is (Err e) by h = absurd (cc)
-    become l is (Ok (told, None)) by h = absurd (not_changed (LoanTold account told) reply new
-        (ok_of (success (LoanTold account told) None) (success reply (Some new)) h))
+    become l is (Ok (told, None)) by h = absurd (not_changed (Loan account told) reply new
+        (ok_of (success (Loan account told) None) (success reply (Some new)) h))
     become l is (Ok (told, Some change)) by h =
         let rows = loan_changed account.number change f.rows in
-        let same : rows ≡ new = changed (LoanTold account told) reply rows new (ok_of (success (LoanTold account told)
+        let same : rows ≡ new = changed (Loan account told) reply rows new (ok_of (success (Loan account told)
         (Some rows)) (success reply (Some new)) h) in
         subst (AreRowsAfter k staffed f.rows) same (changed_rows account.number change k staffed f.rows l is
         (by told change refl) s)
@@ -774,7 +781,8 @@ same_lends k l same d terms = record {
   day = d;
   terms = terms;
   products = λ n principal periods h.
-      ap (λ (ps : List Offer). lends (option_map (product_of n) (item_numbered ps n)) principal periods) (sym same) ∙ h;
+      ap (λ (ps : List ListedProduct). lends (option_map (product_of n) (item_numbered ps n)) principal periods)
+      (sym same) ∙ h;
 }
 
 day_shown_keeps : KeepsCatalogue show_day
@@ -798,7 +806,7 @@ day_sound day d k reply l s h =
       same_lends k (day_set day k) refl later (λ n t given. given),
     )
 
-offer_stays : (k : Catalogue) (c : Charge) (p : Offer) → IsSoundOffer (charge_in k) p
+offer_stays : (k : Catalogue) (c : ListedCharge) (p : ListedProduct) → IsSoundOffer (charge_in k) p
     → IsSoundOffer (charge_in (charge_added c k)) p
 offer_stays k c p s = record {
   members = s.members;
@@ -806,7 +814,7 @@ offer_stays k c p s = record {
       (charge_in (charge_added c k)) p.members (λ n d. charge_stays k.charges c n d) s.consistent;
 }
 
-charge_sound : (c : Charge) → IsSoundCharge c → KeepsCatalogue (add_charge c)
+charge_sound : (c : ListedCharge) → IsSoundCharge c → KeepsCatalogue (add_charge c)
 charge_sound c n k reply l s h =
     let made = with_value_ok (next_of (length k.charges) 999) (λ (m : ℕ). (ChargeMade m, Some (charge_added c k)))
     (reply, Some l) h in
@@ -834,15 +842,16 @@ product_shown_keeps n k reply l s h =
     (reply, Some l) h in
     absurd (not_changed _ reply l shown.1)
 
-product_stays : (products : List Offer) (p : Offer) (n principal periods : ℕ)
+product_stays : (products : List ListedProduct) (p : ListedProduct) (n principal periods : ℕ)
     → lends (option_map (product_of n) (item_numbered products n)) principal periods ≡ true
     → lends (option_map (product_of n) (item_numbered (products ++ p ∷ []) n)) principal periods ≡ true
 product_stays products p n principal periods h = found (item_numbered products n) refl h
   where
-    found : (o : Option Offer) → item_numbered products n ≡ o → lends (option_map (product_of n) o) principal periods
+    found : (o : Option ListedProduct) → item_numbered products n ≡ o
+        → lends (option_map (product_of n) o) principal periods
         ≡ true → lends (option_map (product_of n) (item_numbered (products ++ p ∷ []) n)) principal periods ≡ true
     found None e h = absurd (cc)
-    found (Some q) e h = ap (λ (o : Option Offer). lends (option_map (product_of n) o) principal periods)
+    found (Some q) e h = ap (λ (o : Option ListedProduct). lends (option_map (product_of n) o) principal periods)
         (numbered_push products p n q e) ∙ h
 
 product_sound : (members : ProductMembers) → AreMembers members → KeepsCatalogue (add_product members)
@@ -869,7 +878,7 @@ product_sound members n k reply l s h =
       },
     )
 
-retired_stays : (charges : ℕ → Option ChargeDef) (p : Offer) → IsSoundOffer charges p
+retired_stays : (charges : ℕ → Option ChargeDef) (p : ListedProduct) → IsSoundOffer charges p
     → IsSoundOffer charges (record p { retired = true })
 retired_stays charges p s = record { members = s.members; consistent = s.consistent }
 
@@ -880,24 +889,28 @@ retire_sound n k reply l s h =
     there.2 in
     let same : product_retired n k ≡ l = changed (ProductRetired n) reply (product_retired n k) l
     (ok_of (success (ProductRetired n) (Some (product_retired n k))) (success reply (Some l)) retired) in
-    let retire = λ (p : Offer). record p { retired = true } in
+    let retire = λ (p : ListedProduct). record p { retired = true } in
     subst (λ (x : Catalogue). IsSoundCatalogue x × Grows k x) same (
       record {
         day = s.day;
         charge_limit = s.charge_limit;
         charges = s.charges;
-        product_limit = rw (length_with n (λ (p : Offer). record p { retired = true }) k.products) s.product_limit;
-        products = all_with (IsSoundOffer (charge_in k)) n (λ (p : Offer). record p { retired = true }) k.products
+        product_limit = rw (length_with n (λ (p : ListedProduct). record p { retired = true }) k.products)
+            s.product_limit;
+        products = all_with (IsSoundOffer (charge_in k)) n (λ (p : ListedProduct). record p { retired = true })
+            k.products
             (retired_stays (charge_in k)) s.products;
       },
       record {
         day = omega arith;
         products = λ m principal periods lent. lends_by_members m m principal periods
             (item_numbered (product_retired n k).products m) (item_numbered k.products m)
-            (numbered_with (λ (p : Offer). p.members) n (λ (p : Offer). record p { retired = true }) k.products
+            (numbered_with (λ (p : ListedProduct). p.members) n (λ (p : ListedProduct). record p { retired = true })
+            k.products
             (λ p. refl) m) ∙ lent;
-        terms = λ m t. terms_with k (product_retired n k).products m t (numbered_with (λ (p : Offer). p.members) n
-            (λ (p : Offer). record p { retired = true }) k.products (λ p. refl) m);
+        terms = λ m t. terms_with k (product_retired n k).products m t
+            (numbered_with (λ (p : ListedProduct). p.members) n
+            (λ (p : ListedProduct). record p { retired = true }) k.products (λ p. refl) m);
       },
     )
 

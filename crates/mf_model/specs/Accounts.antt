@@ -7,7 +7,7 @@ use Rattle.mf_catalog.specs.Product.{terms_of}
 use Rattle.mf_account.specs.declared.balances.Balances.{Balances}
 use Rattle.mf_account.specs.declared.entry.Entry.{Entry}
 use Rattle.mf_account.specs.Balance.{balances_of}
-use Rattle.mf_account.specs.Loan.{Loan as Running, status_of_loan}
+use Rattle.mf_account.specs.Loan.{DisbursedLoan, status_of_loan}
 use Rattle.mf_statement.specs.declared.lines.EntryLine.{EntryLine}
 use Rattle.mf_statement.specs.declared.lines.InstalmentLine.{InstalmentLine}
 use Rattle.mf_statement.specs.Lines.{instalments_of, entries_of}
@@ -21,7 +21,7 @@ abbrev pub terms_in : Catalogue → ℕ → Option Terms
 terms_in k product = option_map (λ (p : Product). terms_of (charge_in k) p.members) (product_in k product)
 
 -- a disbursed loan, with what its account is worked out from
-abbrev pub running_loan : Loan → List Entry → ℕ → Terms → Running
+abbrev pub running_loan : Loan → List Entry → ℕ → Terms → DisbursedLoan
 running_loan loan entries day terms = record {
   terms = terms;
   principal = loan.principal;
@@ -31,16 +31,16 @@ running_loan loan entries day terms = record {
 }
 
 -- a loan's account, where it is disbursed and its terms are there
-abbrev pub running_from : Loan → List Entry → Option ℕ → Option Terms → Option Running
+abbrev pub running_from : Loan → List Entry → Option ℕ → Option Terms → Option DisbursedLoan
 running_from loan entries None terms = None
 running_from loan entries (Some day) terms = option_map (running_loan loan entries day) terms
 
 -- the account of a loan: the replay of its entries over the terms of its product; none before it is disbursed
-abbrev pub account_in : Catalogue → Ledger → Option Running
+abbrev pub account_in : Catalogue → Ledger → Option DisbursedLoan
 account_in k l = running_from l.loan l.entries (disbursed_on l.loan.stage) (terms_in k l.loan.product)
 
 -- what is read off an account, where there is one
-abbrev pub of_account : {A : Type 0} → A → (Running → A) → Option Running → A
+abbrev pub of_account : {A : Type 0} → A → (DisbursedLoan → A) → Option DisbursedLoan → A
 of_account none read None = none
 of_account none read (Some a) = read a
 

@@ -9,7 +9,7 @@ use Rattle.mf_model.specs.declared.request.CatalogueRequest.TheVariants as asked
 use Rattle.mf_model.specs.declared.reply.Reply.{Reply}
 use Rattle.mf_model.specs.declared.reply.Reply.TheVariants.{DayShown, DaySet, ChargeMade, ChargeShown, ProductMade}
 use Rattle.mf_model.specs.declared.reply.Reply.TheVariants.{ProductShown, ProductRetired}
-use Rattle.mf_model.specs.Institution.{Catalogue, Charge, with_numbered, charge_in, product_in}
+use Rattle.mf_model.specs.Institution.{Catalogue, ListedCharge, with_numbered, charge_in, product_in}
 use Rattle.mf_model.specs.Outcomes.{next_of, with_value, with_found, where_found}
 
 -- the business day
@@ -25,11 +25,11 @@ abbrev pub set_day : ℕ → Catalogue → Result (Reply × Option Catalogue) Fa
 set_day day k = cond (nat_lt k.day day) (Ok (DaySet day, Some (day_set day k))) (Err F17)
 
 -- the catalogue with one more charge
-abbrev pub charge_added : Charge → Catalogue → Catalogue
+abbrev pub charge_added : ListedCharge → Catalogue → Catalogue
 charge_added charge k = record k { charges = k.charges ++ charge ∷ [] }
 
 -- a new charge, of at most 999
-abbrev pub add_charge : Charge → Catalogue → Result (Reply × Option Catalogue) Fault
+abbrev pub add_charge : ListedCharge → Catalogue → Result (Reply × Option Catalogue) Fault
 add_charge charge k = with_value (next_of (length k.charges) 999) (λ n. (ChargeMade n, Some (charge_added charge k)))
 
 -- a charge

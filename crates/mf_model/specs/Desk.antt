@@ -24,7 +24,7 @@ use Rattle.mf_model.specs.declared.request.Request.TheVariants as request
 use Rattle.mf_model.specs.declared.reply.Reply.{Reply}
 use Rattle.mf_model.specs.declared.reply.Reply.TheVariants.{OfficeMade}
 use Rattle.mf_model.specs.Institution.{Institution, Catalogue, Office, Rows, Staff, Change, Catalogue_becomes}
-use Rattle.mf_model.specs.Institution.{Rows_become, Office_added, office_at, staff_in}
+use Rattle.mf_model.specs.Institution.{Rows_become, Office_added, office_at, staff_member}
 use Rattle.mf_model.specs.Tree.{parent_of, seen_office, seen_by, is_there}
 use Rattle.mf_model.specs.Stages.{step_need}
 use Rattle.mf_model.specs.Catalogue.{on_catalogue}
@@ -32,7 +32,7 @@ use Rattle.mf_model.specs.Arrears.{list_arrears}
 use Rattle.mf_model.specs.Offices.{list_offices, add_staff, add_client, show_client}
 use Rattle.mf_model.specs.Loans.{on_loan, in_loan, submit, list_loans}
 pub use Rattle.mf_model.specs.Needs.{Need, A_teller, An_officer, A_manager, The_head}
-pub use Rattle.mf_model.specs.Offices.{line_of, staff_added, client_added}
+pub use Rattle.mf_model.specs.Offices.{office_shown, staff_added, client_added}
 pub use Rattle.mf_model.specs.Loans.{loan_added, loan_staged, loan_entered}
 
 -- what a request looks at and changes, once its caller may send it: the catalogue; one office, and the catalogue beside
@@ -172,7 +172,7 @@ carried_out c (On_new_office number parent name) i = add_office c.office number 
 
 -- the caller's row
 abbrev pub staff_at : Institution → Caller → Option Staff
-staff_at i c = staff_in i.offices c
+staff_at i c = staff_member i.offices c
 
 -- what comes of a request where its caller is known and may send it
 abbrev pub where_permitted : Caller → Request → Plan → Option Staff → Institution → Outcome

@@ -14,14 +14,14 @@ use Rattle.mf_account.specs.declared.entry.Entry.{Entry}
 use Rattle.mf_model.specs.declared.loan.Loan.{Loan}
 
 -- a charge of the catalogue
-pub record Charge : Type 0 where
+pub record ListedCharge : Type 0 where
   pub name : List ℕ
   pub kind : ChargeKind
   pub calc : Calc
   pub value : ℕ
 
 -- a product of the catalogue; a retired one lends no more
-pub record Offer : Type 0 where
+pub record ListedProduct : Type 0 where
   pub members : ProductMembers
   pub retired : Bool
 
@@ -29,8 +29,8 @@ pub record Offer : Type 0 where
 pub record Catalogue : Type 0 where
   -- the business day
   pub day : ℕ
-  pub charges : List Charge
-  pub products : List Offer
+  pub charges : List ListedCharge
+  pub products : List ListedProduct
 
 -- a member of staff of an office
 pub record Staff : Type 0 where
@@ -76,11 +76,11 @@ with_numbered n change [] = []
 with_numbered n change (x ∷ xs) = cond (n == 1) (change x ∷ xs) (x ∷ with_numbered (n - 1) change xs)
 
 -- a charge and its number
-abbrev pub charge_def : ℕ → Charge → ChargeDef
+abbrev pub charge_def : ℕ → ListedCharge → ChargeDef
 charge_def n c = record { number = n; name = c.name; kind = c.kind; calc = c.calc; value = c.value }
 
 -- a product and its number
-abbrev pub product_of : ℕ → Offer → Product
+abbrev pub product_of : ℕ → ListedProduct → Product
 product_of n p = record { number = n; members = p.members; retired = p.retired }
 
 -- the charge of this number
@@ -97,8 +97,8 @@ office_at x [] = None
 office_at x (f ∷ fs) = cond (f.number == x) (Some f) (office_at x fs)
 
 -- a member of staff, in whatever office
-abbrev pub staff_in : List Office → Caller → Option Staff
-staff_in fs c = elim (office_at c.office fs) [ None ↦ None | Some f ↦ item_numbered f.rows.staff c.staff ]
+abbrev pub staff_member : List Office → Caller → Option Staff
+staff_member fs c = elim (office_at c.office fs) [ None ↦ None | Some f ↦ item_numbered f.rows.staff c.staff ]
 
 -- the offices, where office x has these rows
 abbrev pub with_rows : ℕ → Rows → List Office → List Office

@@ -8,7 +8,7 @@ use Rattle.mf_catalog.specs.Product.{lending}
 use Rattle.mf_office.specs.declared.account.Account.{Account}
 use Rattle.mf_office.specs.declared.caller.Caller.{Caller}
 use Rattle.mf_account.specs.declared.entry.Entry.{Entry}
-use Rattle.mf_account.specs.Loan.{Loan as Running}
+use Rattle.mf_account.specs.Loan.{DisbursedLoan}
 use Rattle.mf_account.specs.Standing.{with_mark}
 use Rattle.mf_account.specs.Refusals.{refusal_of, reversal_refused}
 use Rattle.mf_account.specs.Charges.{fee_refused}
@@ -65,22 +65,22 @@ fault_or None next = next
 
 -- One entry more, made on the business day for the account that there is. F9 where the loan is not disbursed, then what
 -- refuses it beforehand, then what its account refuses.
-abbrev pub enter : (Running → Option Fault) → (ℕ → Running → Entry) → Catalogue → Option Running
+abbrev pub enter : (DisbursedLoan → Option Fault) → (ℕ → DisbursedLoan → Entry) → Catalogue → Option DisbursedLoan
     → Result (LoanReply × Option LedgerChange) Fault
 enter first make k None = Err F9
 enter first make k (Some a) = let e = make k.day a in unless_fault (fault_or (first a) (refusal_of a e k.day))
     (Entered e.seq) (with_new_entry e)
 
 -- nothing refuses an entry before its account does
-abbrev pub none_first : Running → Option Fault
+abbrev pub none_first : DisbursedLoan → Option Fault
 none_first a = None
 
 -- a fee may fall due too early
-abbrev pub fee_first : ℕ → Running → Option Fault
+abbrev pub fee_first : ℕ → DisbursedLoan → Option Fault
 fee_first due a = fee_refused a due
 
 -- an entry counts no more, where its account lets it go; F9 where the loan is not disbursed
-abbrev pub reverse : ℕ → Option Running → Result (LoanReply × Option LedgerChange) Fault
+abbrev pub reverse : ℕ → Option DisbursedLoan → Result (LoanReply × Option LedgerChange) Fault
 reverse seq None = Err F9
 reverse seq (Some a) = unless_fault (reversal_refused a.entries seq) (Reversed seq) (with_reversal seq)
 

@@ -2,19 +2,19 @@
 use Rattle.std.specs.Prelude.{ℕ, List, [], ◌∷◌, ◌++◌, map, length, Option, Some, None, Result, Ok}
 use Rattle.mf_base.specs.declared.fault.Fault.{Fault}
 use Rattle.mf_office.specs.declared.staff.Role.{Role}
-use Rattle.mf_office.specs.declared.office.Office.{Office as OfficeLine}
+use Rattle.mf_office.specs.declared.office.Office.{Office as OfficeShown}
 use Rattle.mf_model.specs.declared.reply.Reply.{Reply}
 use Rattle.mf_model.specs.declared.reply.Reply.TheVariants.{Offices, StaffMade, ClientMade, ClientShown}
 use Rattle.mf_model.specs.Institution.{Catalogue, Office, Rows, item_numbered}
 use Rattle.mf_model.specs.Outcomes.{next_of, with_value, with_found}
 
 -- an office as a reply shows it
-abbrev pub line_of : Office → OfficeLine
-line_of f = record { number = f.number; parent = f.parent; name = f.name }
+abbrev pub office_shown : Office → OfficeShown
+office_shown f = record { number = f.number; parent = f.parent; name = f.name }
 
 -- the offices that the caller sees, by number
 abbrev pub list_offices : Catalogue → List Office → Result Reply Fault
-list_offices k fs = Ok (Offices (map line_of fs))
+list_offices k fs = Ok (Offices (map office_shown fs))
 
 -- the rows with one more member of staff
 abbrev pub staff_added : List ℕ → Role → Rows → Rows

@@ -16,8 +16,8 @@ pub record Line : Type 0 where
   pub given_up : Bool
 
 -- the change that the line makes, if it is accepted and not given up
-abbrev pub change_of : Line → Institution → Option Change
-change_of l i = cond l.given_up None (change_in (outcome l.call i))
+abbrev pub change_of_line : Line → Institution → Option Change
+change_of_line l i = cond l.given_up None (change_in (outcome l.call i))
 
 -- what the line is answered
 abbrev pub answer : Line → Institution → Result Reply Fault
@@ -25,7 +25,7 @@ answer l i = cond l.given_up (Err F20) (reply l.call i)
 
 -- the institution after the line
 abbrev pub next : Line → Institution → Institution
-next l i = after_maybe (change_of l i) i
+next l i = after_maybe (change_of_line l i) i
 
 -- the replies to the lines, in order
 abbrev pub answers : List Line → Institution → List (Result Reply Fault)
@@ -75,8 +75,8 @@ pub record Touch : Type 0 where
 abbrev pub touching_list : ℕ → List Line → Institution → List Touch
 touching_list o [] i = []
 touching_list o (l ∷ ls) i =
-    cond (from_office o l.call || is_touched o i (change_of l i))
-    (record { call = l.call; accepted = is_some (change_of l i) } ∷ touching_list o ls (next l i))
+    cond (from_office o l.call || is_touched o i (change_of_line l i))
+    (record { call = l.call; accepted = is_some (change_of_line l i) } ∷ touching_list o ls (next l i))
     (touching_list o ls (next l i))
 
 -- a view after an entry of the touching list: the change is read off the view

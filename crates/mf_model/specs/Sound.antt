@@ -32,7 +32,8 @@ use Rattle.mf_model.specs.declared.request.LoanRequest.TheVariants.{Show, ShowIn
 use Rattle.mf_model.specs.declared.request.LoanRequest.TheVariants.{ChargeFee, Post, Reverse}
 use Rattle.mf_model.specs.declared.request.Posting.{Posting}
 use Rattle.mf_model.specs.declared.request.Posting.TheVariants.{Penalty, Waiver, WriteOff, Refund}
-use Rattle.mf_model.specs.Institution.{Institution, Catalogue, Charge, Offer, Staff, Rows, Office, Ledger, staff_in}
+use Rattle.mf_model.specs.Institution.{Institution, Catalogue, ListedCharge, ListedProduct, Staff, Rows, Office, Ledger}
+use Rattle.mf_model.specs.Institution.{staff_member}
 use Rattle.mf_model.specs.Institution.{item_numbered, charge_in, product_in}
 use Rattle.mf_model.specs.Stages.{disbursed_on, IsStepInRange}
 use Rattle.mf_account.specs.Receipts.{IsReceipt}
@@ -57,7 +58,7 @@ pub record IsValue (calc : Calc) (value : ℕ) : Type 0 where
   pub most : value ≤ greatest_value calc
 
 -- a charge with a name, within the limits
-pub record IsSoundCharge (c : Charge) : Type 0 where
+pub record IsSoundCharge (c : ListedCharge) : Type 0 where
   pub name : IsName c.name
   pub value : IsValue c.calc c.value
 
@@ -67,7 +68,7 @@ pub record AreMembers (p : ProductMembers) : Type 0 where
   pub limits : AreMembersWithinLimits p
 
 -- a product is consistent, and names charges that are there and of the right kinds
-pub record IsSoundOffer (charges : ℕ → Option ChargeDef) (p : Offer) : Type 0 where
+pub record IsSoundOffer (charges : ℕ → Option ChargeDef) (p : ListedProduct) : Type 0 where
   pub members : AreMembers p.members
   pub consistent : is_consistent charges p.members ≡ true
 
@@ -86,7 +87,7 @@ lends (Some p) principal periods = allows p.members principal periods
 
 -- there is such a member of staff, in whatever office
 abbrev pub is_staff : List Office → Caller → Bool
-is_staff fs c = is_some (staff_in fs c)
+is_staff fs c = is_some (staff_member fs c)
 
 -- the day of approval is not after that of disbursement, and neither is after the business day
 abbrev pub IsStageBy : ℕ → Stage → Type 0

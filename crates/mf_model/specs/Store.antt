@@ -17,8 +17,8 @@ use Rattle.mf_statement.specs.declared.lines.InstalmentLine.{InstalmentLine}
 use Rattle.mf_model.specs.declared.store.CatalogueCounts.{CatalogueCounts}
 use Rattle.mf_model.specs.declared.store.Counts.{Counts}
 use Rattle.mf_account.specs.declared.entry.Entry.{Entry}
-use Rattle.mf_account.specs.Change.{Account as Kept, IsChange, IsReplayed, account_by_replay}
-use Rattle.mf_account.specs.Loan.{Loan as Running}
+use Rattle.mf_account.specs.Change.{KeptAccount, IsChange, IsReplayed, account_by_replay}
+use Rattle.mf_account.specs.Loan.{DisbursedLoan}
 use Rattle.mf_account.specs.Refusals.{reversal_refused}
 use Rattle.mf_account.specs.Standing.{with_mark}
 use Rattle.mf_model.specs.Institution.{Institution, Catalogue, Office, Rows, Staff, Ledger, Change, Catalogue_becomes}
@@ -71,20 +71,20 @@ abbrev pub loan_at : Account → Institution → Option Loan
 loan_at loan i = option_map (λ (l : Ledger). l.loan) (ledger_at loan i)
 
 -- the account of a loan that is there
-abbrev pub account_of : Catalogue → Option Ledger → Option Running
+abbrev pub account_of : Catalogue → Option Ledger → Option DisbursedLoan
 account_of k None = None
 account_of k (Some l) = account_in k l
 
 -- the account of a loan; none where it is not there or not disbursed
-abbrev pub account_at : Account → Institution → Option Kept
+abbrev pub account_at : Account → Institution → Option KeptAccount
 account_at loan i = option_map account_by_replay (account_of i.catalogue (ledger_at loan i))
 
 -- a loan with its account, where it is disbursed
-abbrev pub with_account : Catalogue → Ledger → Loan × Option Kept
+abbrev pub with_account : Catalogue → Ledger → Loan × Option KeptAccount
 with_account k l = (l.loan, option_map account_by_replay (account_in k l))
 
 -- a loan of an office, with its account where it is disbursed
-abbrev pub loan_with_account_at : Account → Institution → Option (Loan × Option Kept)
+abbrev pub loan_with_account_at : Account → Institution → Option (Loan × Option KeptAccount)
 loan_with_account_at loan i = option_map (with_account i.catalogue) (ledger_at loan i)
 
 -- a loan of an office, as it is shown
@@ -139,9 +139,9 @@ pub record OneReversed (seq : ℕ) (entries after : List Entry) : Type 0 where
 
 -- An account that a commit hands on is that of the loan before it but for its entries, which become these; what it
 -- keeps is what a replay gives, and it tells what changed.
-pub record IsHandedOn (loan : Account) (becomes : List Entry → List Entry → Type 0) (account : Kept)
+pub record IsHandedOn (loan : Account) (becomes : List Entry → List Entry → Type 0) (account : KeptAccount)
     (i : Institution) : Type 0 where
-  pub before : Running
+  pub before : DisbursedLoan
   pub there : account_of i.catalogue (ledger_at loan i) ≡ Some before
   pub entries : becomes before.entries account.loan.entries
   pub others : account.loan ≡ record before { entries = account.loan.entries }

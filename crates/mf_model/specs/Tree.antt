@@ -56,7 +56,7 @@ pub record IsTree (fs : List Office) : Type 0 where
   pub all_below : (x : ℕ) → is_there fs x ≡ true → is_at_or_below (parent_of fs) x 1 ≡ true
 
 -- a new office that the tree has room for: its number is free, its parent is there and is not six deep
-pub record HasRoom (number parent : ℕ) (fs : List Office) : Type 0 where
+pub record HasRoomForOffice (number parent : ℕ) (fs : List Office) : Type 0 where
   pub free : is_there fs number ≡ false
   pub parent_there : is_there fs parent ≡ true
   pub room : is_within 4 (parent_of fs) parent 1 ≡ true
@@ -65,4 +65,4 @@ pub record HasRoom (number parent : ℕ) (fs : List Office) : Type 0 where
 abbrev pub Fits : Change → List Office → Type 0
 Fits (Catalogue_becomes catalogue) fs = Unit {0}
 Fits (Rows_become x rows) fs = Unit {0}
-Fits (Office_added number parent name) fs = HasRoom number parent fs
+Fits (Office_added number parent name) fs = HasRoomForOffice number parent fs

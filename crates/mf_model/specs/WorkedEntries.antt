@@ -13,7 +13,7 @@ use Rattle.mf_alloc.specs.declared.row.Share.{Share}
 use Rattle.mf_account.specs.declared.entry.Entry.{Entry}
 use Rattle.mf_account.specs.declared.entry.Kind.{Kind}
 use Rattle.mf_account.specs.declared.entry.Kind.TheVariants as kind
-use Rattle.mf_statement.specs.WorkedRows.{line_told}
+use Rattle.mf_statement.specs.WorkedRows.{january, february, march, share, line_told}
 use Rattle.mf_model.specs.declared.loan.Statement.{Statement}
 use Rattle.mf_model.specs.declared.reply.Reply.{Reply}
 use Rattle.mf_model.specs.declared.reply.Reply.TheVariants.{ChargeMade}
@@ -27,13 +27,13 @@ use Rattle.mf_model.specs.declared.request.Request.TheVariants.{Catalogue, Loan}
 use Rattle.mf_model.specs.declared.waivable.Waivable.TheVariants.{Interest}
 use Rattle.mf_model.specs.Accounts.{no_sums}
 use Rattle.mf_model.specs.Run.{Line}
-use Rattle.mf_model.specs.WorkedRows.{staff, account, row, usual}
-use Rattle.mf_model.specs.WorkedAccounts.{january, february, march, start_by, common_start, repayment_row, not_repaid}
-use Rattle.mf_model.specs.WorkedAccounts.{show_row, stands_at, sums, share, repayment_line, sent_with, loan_reply}
+use Rattle.mf_model.specs.WorkedRows.{caller, account, row, usual}
+use Rattle.mf_model.specs.WorkedAccounts.{start_by, common_start, repayment_row, not_repaid}
+use Rattle.mf_model.specs.WorkedAccounts.{show_row, stands_at, sums, repayment_line, sent_with, loan_reply}
 
 -- something asked of the first loan, and what it is answered
 abbrev pub first_loan_row : LoanRequest → Result Reply Fault → Line × Result Reply Fault
-first_loan_row what reply = row (staff 1 1) (Loan (account 1 1) what) reply
+first_loan_row what reply = row (caller 1 1) (Loan (account 1 1) what) reply
 
 -- an entry that is made under a number, and one that is refused
 abbrev pub posting_row : Posting → ℕ → Line × Result Reply Fault
@@ -61,7 +61,7 @@ not_taken_back seq fault = first_loan_row (Reverse seq) (Err fault)
 
 -- a due-date charge of 500 cents
 abbrev pub visit : Line × Result Reply Fault
-visit = row (staff 1 1) (Catalogue (AddCharge (codes "Visit") DueDate Flat 500)) (Ok (ChargeMade 1))
+visit = row (caller 1 1) (Catalogue (AddCharge (codes "Visit") DueDate Flat 500)) (Ok (ChargeMade 1))
 
 -- an entry of the business day
 abbrev pub entry_now : Kind → ℕ → ℕ → Portion → ℕ → Entry
@@ -121,10 +121,10 @@ fees_by_day = common_start ++ (
     ∷ fee_row february 1
     ∷ fee_row (february + 1) 2
     ∷ fee_row (march + 45) 3
-    ∷ row (staff 1 1) (Catalogue (AddCharge (codes "Late") Overdue Flat 500)) (Ok (ChargeMade 2))
+    ∷ row (caller 1 1) (Catalogue (AddCharge (codes "Late") Overdue Flat 500)) (Ok (ChargeMade 2))
     ∷ not_charged 2 march F8
     ∷ not_charged 2 (january - 1) F10
-    ∷ row (staff 1 1) (Catalogue (AddCharge (codes "Speck") DueDate OfInterest 1)) (Ok (ChargeMade 3))
+    ∷ row (caller 1 1) (Catalogue (AddCharge (codes "Speck") DueDate OfInterest 1)) (Ok (ChargeMade 3))
     ∷ not_charged 3 march F8
     ∷ show_row ShowEntries (Entries (
     line_told (entry_now kind.Fee 1 1 portion.Fee 500) 500 []
@@ -157,7 +157,7 @@ waiving = common_start ++ (
 -- the common start with an overdue charge of 10 percent, under a strategy; the charge is entered first
 abbrev pub overdue_start : StrategyName → List (Line × Result Reply Fault)
 overdue_start strategy =
-    row (staff 1 1) (Catalogue (AddCharge (codes "Late") Overdue OfBoth 1000)) (Ok (ChargeMade 1))
+    row (caller 1 1) (Catalogue (AddCharge (codes "Late") Overdue OfBoth 1000)) (Ok (ChargeMade 1))
     ∷ start_by (record (usual None) { strategy = strategy; overdue_charge = Some 1 })
 
 -- a penalty on the first instalment, of which one stands at most, and what a repayment then fills

@@ -2,7 +2,7 @@
 
 ghost use Rattle.std.specs.Prelude.{◌≡◌, ◌≢◌, ◌≤◌, ◌^◌, ℕ, List, [], ◌∷◌, ◌++◌, Option, Some, Ok, Err, map, true};
 ghost use Rattle.std.specs.Prelude.{sum_by};
-ghost use Rattle.mf_arrears.specs.Line.{Line as ArrearsLine};
+ghost use Rattle.mf_arrears.specs.Line.{OfficeLine};
 ghost use Rattle.mf_model.specs.Arrears.{arrears_seen};
 ghost use Rattle.mf_office.specs.declared.account.Account.{Account};
 ghost use Rattle.mf_office.specs.declared.caller.Caller.{Caller};
@@ -12,10 +12,10 @@ ghost use Rattle.mf_model.specs.Tree.{IsTree, view, is_there, parent_of};
 ghost use Rattle.mf_model.specs.Desk.{effect, outcome, change_in, meets, need, reply, staff_at};
 ghost use Rattle.mf_model.specs.Unseen.{Asked, IsUnseen, asked_of, call_from};
 ghost use Rattle.mf_model.specs.Sound.{IsSound, IsInRange, AreInRange};
-ghost use Rattle.mf_model.specs.WorkedRows.{first_day, branches, chain, lending, first_of_2024, catalogue_day};
+ghost use Rattle.mf_model.specs.WorkedRows.{first_day, branches, chain, lending_lines, first_of_2024, catalogue_day};
 ghost use Rattle.mf_model.specs.WorkedRows.{deciding};
 ghost use Rattle.mf_model.specs.WorkedAccounts.{january, repaying, schedule_shown, back_dated, overpaying};
-ghost use Rattle.mf_model.specs.WorkedAccounts.{principal_first, out_of_order, disbursing, receipts};
+ghost use Rattle.mf_model.specs.WorkedAccounts.{principal_first, out_of_order, disbursing, receipt_lines};
 ghost use Rattle.mf_model.specs.WorkedEntries.{fee_paid_before, fees_by_day, waiving, penalties_first};
 ghost use Rattle.mf_model.specs.WorkedEntries.{principal_before, interest_before, penalty_taken_back, reversing};
 ghost use Rattle.mf_model.specs.WorkedEntries.{refunding, writing_off, receipt_of_a_reversed_entry};
@@ -34,7 +34,7 @@ ghost use Rattle.mf_model.specs.declared.reply.Reply.TheVariants.{ArrearsShown};
 ghost use Rattle.mf_model.specs.Receipts.{Use, first_use, uses_from, repeated_seq};
 ghost use Rattle.mf_model.specs.Loans.{on_loan, repeat_of};
 ghost use Rattle.mf_catalog.specs.declared.terms.Terms.{Terms};
-ghost use Rattle.mf_account.specs.Loan.{Loan as Running, IsSound as IsSoundAccount};
+ghost use Rattle.mf_account.specs.Loan.{DisbursedLoan, IsSoundDisbursed};
 ghost use Rattle.mf_model.specs.Stages.{disbursed_on};
 ghost use Rattle.mf_model.specs.Accounts.{terms_in, account_in, status_in};
 
@@ -165,7 +165,7 @@ pub fn what_was_lent_stands()
         →
         terms_in i.catalogue product ≡ Some terms → terms_in (last lines i).catalogue product ≡ Some terms }
     ensures account { (i : Institution) (lines : List Line) → IsSound i → AreInRange lines → (ledger : Ledger)
-        (account : Running) →
+        (account : DisbursedLoan) →
         account_in i.catalogue ledger ≡ Some account → account_in (last lines i).catalogue ledger ≡ Some account }
 {}
 
@@ -174,10 +174,11 @@ pub fn what_was_lent_stands()
 pub fn accounts_can_be_replayed()
     ensures there { (i : Institution) (loan : Account) (ledger : Ledger) (day : ℕ) → IsSound i → ledger_at loan i
         ≡ Some ledger →
-        disbursed_on ledger.loan.stage ≡ Some day → (account : Running) × (account_of i.catalogue (ledger_at loan i)
+        disbursed_on ledger.loan.stage ≡ Some day → (account : DisbursedLoan)
+        × (account_of i.catalogue (ledger_at loan i)
         ≡ Some account) }
-    ensures sound { (i : Institution) (loan : Account) (account : Running) → IsSound i
-        → account_of i.catalogue (ledger_at loan i) ≡ Some account → IsSoundAccount account }
+    ensures sound { (i : Institution) (loan : Account) (account : DisbursedLoan) → IsSound i
+        → account_of i.catalogue (ledger_at loan i) ≡ Some account → IsSoundDisbursed account }
     ensures first { (i : Institution) (loan : Account) (ledger : Ledger) (day : ℕ) → IsSound i → ledger_at loan i
         ≡ Some ledger →
         disbursed_on ledger.loan.stage ≡ Some day → ledger.entries ≡ [] → status_in i.catalogue ledger ≡ 300 }
@@ -202,7 +203,8 @@ pub fn worked_rows()
     ensures branches { (day : ℕ) → answers (map (λ row. row.0) branches) (newly_made day)
         ≡ map (λ row. row.1) branches }
     ensures chain { (day : ℕ) → answers (map (λ row. row.0) chain) (newly_made day) ≡ map (λ row. row.1) chain }
-    ensures lending { (day : ℕ) → answers (map (λ row. row.0) lending) (newly_made day) ≡ map (λ row. row.1) lending }
+    ensures lending { (day : ℕ) → answers (map (λ row. row.0) lending_lines) (newly_made day)
+        ≡ map (λ row. row.1) lending_lines }
     ensures catalogue_day { answers (map (λ row. row.0) catalogue_day) (newly_made first_of_2024)
         ≡ map (λ row. row.1) catalogue_day }
     ensures deciding { answers (map (λ row. row.0) deciding) (newly_made first_of_2024) ≡ map (λ row. row.1) deciding }
@@ -220,7 +222,8 @@ pub fn worked_accounts()
     ensures out_of_order { answers (map (λ row. row.0) out_of_order) (newly_made january)
         ≡ map (λ row. row.1) out_of_order }
     ensures disbursing { answers (map (λ row. row.0) disbursing) (newly_made january) ≡ map (λ row. row.1) disbursing }
-    ensures receipts { answers (map (λ row. row.0) receipts) (newly_made january) ≡ map (λ row. row.1) receipts }
+    ensures receipts { answers (map (λ row. row.0) receipt_lines) (newly_made january)
+        ≡ map (λ row. row.1) receipt_lines }
 {}
 
 /// What is answered of loans with fees, penalties, waivers, write-offs, refunds and reversals, worked out line by line.
@@ -257,11 +260,11 @@ pub fn worked_arrears()
 /// The lines of arrears that an office sees of a sound institution, and that a caller is told, have at most 10^10 loans
 /// in all, so that a report can sum them.
 pub fn arrears_can_be_summed()
-    ensures seen { (o : ℕ) (i : Institution) → IsSound i → sum_by (λ (line : ArrearsLine). line.loans)
+    ensures seen { (o : ℕ) (i : Institution) → IsSound i → sum_by (λ (line : OfficeLine). line.loans)
         (arrears_seen o i) ≤ 10 ^ 10 }
-    ensures told { (caller : Option Caller) (i : Institution) (lines : List ArrearsLine) → IsSound i →
+    ensures told { (caller : Option Caller) (i : Institution) (lines : List OfficeLine) → IsSound i →
         reply (record { caller = caller; request = SeenArrears }) i ≡ Ok (ArrearsShown lines)
-        → sum_by (λ (line : ArrearsLine). line.loans) lines ≤ 10 ^ 10 }
+        → sum_by (λ (line : OfficeLine). line.loans) lines ≤ 10 ^ 10 }
 {}
 
 /// The offices of a sound institution are a tree as the keys of offices know it.

@@ -37,7 +37,7 @@ pub trait InstitutionStore {
     ghost use Rattle.mf_office.specs.Tree.{is_within};
     ghost use Rattle.mf_model.specs.Institution.{Institution, charge_in, product_in};
     ghost use Rattle.mf_model.specs.Tree.{parent_of, seen_by, seen_office, is_there};
-    ghost use Rattle.mf_model.specs.Desk.{line_of};
+    ghost use Rattle.mf_model.specs.Desk.{office_shown};
     ghost use Rattle.mf_model.specs.Arrears.{arrears_seen};
     ghost use Rattle.mf_model.specs.Sound.{IsSound};
     ghost use Rattle.mf_model.specs.Store.{Reads, Commits, role_of, counts_at, client_at, catalogue_counts, loan_at};
@@ -128,7 +128,7 @@ pub trait InstitutionStore {
 
     /// The offices at or below one, by number.
     fn offices(&mut self, alloc: Global, to: OfficeNo) -> Result<OfficeList, Fault>
-        ensures { Reads stands clean leaves (λ i. map line_of (seen_by to i.offices)) self.old self.new result };
+        ensures { Reads stands clean leaves (λ i. map office_shown (seen_by to i.offices)) self.old self.new result };
 
     /// The active loans of each office at or below one, on the business day: a line an office, by number.
     fn office_lines(&mut self, alloc: Global, to: OfficeNo) -> Result<ArrearsList, Fault>

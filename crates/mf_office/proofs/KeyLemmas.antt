@@ -3,7 +3,7 @@ use Rattle.std.proofs.Common.{◌≡◌, ℕ, zero, suc, ◌^◌, ◌<◌, Bool,
 use Rattle.std.proofs.Common.{refl, sym, ap, ◌∙◌, subst, arith, append_assoc}
 use Rattle.std.specs.Prelude.{◌==◌, ◌||◌, decimal}
 use Rattle.std.proofs.lemmas.Bool.Decides.{nat_tests}
-use Rattle.mf_office.specs.Tree.{IsTreeOf, IsTree, Place, is_there, parent_of, is_within, is_at_or_below}
+use Rattle.mf_office.specs.Tree.{IsTreeOf, AreOneTree, Place, is_among, parent_among, is_within, is_at_or_below}
 use Rattle.mf_office.specs.Keys.{key_under, head_key, child_key, key_within, key_of, with_last_raised, is_in_range}
 use Rattle.mf_office.specs.Keys.{EndsWithDot}
 use Rattle.mf_office.proofs.TextLemmas.{ends_with_dot, starts_with, same_text, raised_is, range_is, last_part, parts}
@@ -159,13 +159,13 @@ key_of-child there parents t x p here e =
     (reaches there parents p t (t.parents_there x p here e)))
 
 pub range_of_tree : (low high key : List ℕ) (r : Bool) → r ≡ is_in_range low high key → (places : List Place)
-    → IsTree places → (x y : ℕ) → is_there places x ≡ true → is_there places y ≡ true
-    → low ≡ key_of (parent_of places) y → high ≡ with_last_raised (key_of (parent_of places) y)
-    → key ≡ key_of (parent_of places) x → r ≡ is_at_or_below (parent_of places) x y
+    → AreOneTree places → (x y : ℕ) → is_among places x ≡ true → is_among places y ≡ true
+    → low ≡ key_of (parent_among places) y → high ≡ with_last_raised (key_of (parent_among places) y)
+    → key ≡ key_of (parent_among places) x → r ≡ is_at_or_below (parent_among places) x y
 range_of_tree low high key r v places t x y xt yt l h k =
-    let same : is_in_range low high key ≡ is_in_range (key_of (parent_of places) y)
-    (with_last_raised (key_of (parent_of places) y)) (key_of (parent_of places) x) = cc in
-    v ∙ same ∙ range_below (is_there places) (parent_of places) t.tree x y xt yt
+    let same : is_in_range low high key ≡ is_in_range (key_of (parent_among places) y)
+    (with_last_raised (key_of (parent_among places) y)) (key_of (parent_among places) x) = cc in
+    v ∙ same ∙ range_below (is_among places) (parent_among places) t.tree x y xt yt
 
 pub key_of-ends : (parents : ℕ → Option ℕ) (x : ℕ) → EndsWithDot (key_of parents x)
 unfolding key_of

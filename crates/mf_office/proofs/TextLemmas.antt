@@ -9,7 +9,7 @@ use Rattle.std.proofs.lemmas.Cmp.{same_from_slice_cmp}
 use Rattle.std.proofs.lemmas.Grind.{common_steps}
 use Rattle.std.specs.Ordering.{nat_cmp, is_lt, is_le}
 use Rattle.std.specs.Cmp.Lexicographic.{slice_cmp}
-use Rattle.mf_office.specs.Keys.{with_last_raised, is_before, is_in_range, EndsWithDot}
+use Rattle.mf_office.specs.Keys.{with_last_raised, is_before_by_bytes, is_in_range, EndsWithDot}
 
 abbrev pub starts_with : List ℕ → List ℕ → Bool
 starts_with [] text = true
@@ -27,7 +27,7 @@ raised_is [] = refl
 raised_is (c ∷ []) = refl
 raised_is (c ∷ d ∷ cs) = ap (λ x. c ∷ x) (raised_is (d ∷ cs))
 
-nothing_before : (text : List ℕ) → is_before text [] ≡ false
+nothing_before : (text : List ℕ) → is_before_by_bytes text [] ≡ false
 nothing_before [] = refl
 nothing_before (c ∷ cs) = refl
 
@@ -135,19 +135,19 @@ decimal_is n h = decimal_by_steps Numeral one more n h
     }
 
 -- the order of bytes, as the code's `<` and `<=` answer it
-pub before_is : (a b : List ℕ) (o : Ordering) → o ≡ slice_cmp nat_cmp a b → is_lt o ≡ is_before a b
-before_is = same_from_slice_cmp nat_cmp is_lt is_before refl (λ _ _. refl) (λ _ _. refl)
+pub before_is : (a b : List ℕ) (o : Ordering) → o ≡ slice_cmp nat_cmp a b → is_lt o ≡ is_before_by_bytes a b
+before_is = same_from_slice_cmp nat_cmp is_lt is_before_by_bytes refl (λ _ _. refl) (λ _ _. refl)
     (λ x y xs ys o h. grind (arith, nat_tests))
 
-pub not_after_is : (a b : List ℕ) (o : Ordering) → o ≡ slice_cmp nat_cmp a b → is_le o ≡ not (is_before b a)
-not_after_is = same_from_slice_cmp nat_cmp is_le (λ a b. not (is_before b a)) refl (λ _ _. refl) (λ _ _. refl)
+pub not_after_is : (a b : List ℕ) (o : Ordering) → o ≡ slice_cmp nat_cmp a b → is_le o ≡ not (is_before_by_bytes b a)
+not_after_is = same_from_slice_cmp nat_cmp is_le (λ a b. not (is_before_by_bytes b a)) refl (λ _ _. refl) (λ _ _. refl)
     (λ x y xs ys o h. grind (arith, nat_tests))
 
 pub in_range_is : (low high text : List ℕ) (from below : Bool) → from ≡ is_le (slice_cmp nat_cmp low text)
     → below ≡ is_lt (slice_cmp nat_cmp text high) → (from && below) ≡ is_in_range low high text
 in_range_is low high text from below f b =
-    let f' : from ≡ not (is_before text low) = f ∙ not_after_is low text (slice_cmp nat_cmp low text) refl in
-    let b' : below ≡ is_before text high = b ∙ before_is text high (slice_cmp nat_cmp text high) refl in
+    let f' : from ≡ not (is_before_by_bytes text low) = f ∙ not_after_is low text (slice_cmp nat_cmp low text) refl in
+    let b' : below ≡ is_before_by_bytes text high = b ∙ before_is text high (slice_cmp nat_cmp text high) refl in
     cc
 
 pub not_from : (low high text : List ℕ) (from : Bool) → from ≡ is_le (slice_cmp nat_cmp low text) → from ≡ false

@@ -21,7 +21,7 @@ use Rattle.std.proofs.lemmas.Str.Parse.{digit_from_value}
 use Rattle.std.proofs.lemmas.Str.{digit_value_digit}
 use Rattle.mf_base.specs.Digits.{number_of_digits}
 use Rattle.mf_base.proofs.DigitsLemmas.{own as digits_own, digits_test}
-use Rattle.mf_office.specs.Numbers.{IsNumberUpTo, is_number_up_to, number_up_to}
+use Rattle.mf_office.specs.Numbers.{IsNumberUpTo, is_number_up_to}
 use Rattle.mf_office.specs.Written.{zero_padded, number_written}
 
 own : IsNumeralModel (AllDigits 10) (digits_value 10)
@@ -34,9 +34,6 @@ pub record IsWriting (text_of : ℕ → List ℕ) (limit : ℕ) : Type 0 where
 
 in_range_test : (limit n : ℕ) → IsNumberUpTo limit n → is_number_up_to limit n ≡ true
 in_range_test limit n r = let low = r.0 in let high = r.1 in grind (arith, nat_tests)
-
-pub number_up_to-in_range : (limit n : ℕ) → IsNumberUpTo limit n → number_up_to limit n ≡ Some n
-number_up_to-in_range limit n r = ap (λ b. if b then Some n else None) (in_range_test limit n r)
 
 -- what is read was written
 pub written_is : (text_of : ℕ → List ℕ) (limit : ℕ) (text : List ℕ) (n : ℕ) → number_written text_of limit text ≡ Some n
@@ -207,11 +204,6 @@ padded_other width text few other =
     sym (written_none (zero_padded width) (10 ^ width - 1) text
     (λ n r e. other (subst (AllDigits 10) (sym e) ((zero_padded_writing width (10 ^ width - 1) (omega arith)).digits n
     r))))
-
-pub zero_written : (text_of : ℕ → List ℕ) (limit : ℕ) (text : List ℕ) → digits_value 10 text ≡ 0
-    → number_written text_of limit text ≡ None
-zero_written text_of limit text e = ap (λ (v : ℕ). if (is_number_up_to limit v && bytes_eq text (text_of v)) then Some v
-    else None) e
 
 pub padded_number_is : (width : ℕ) (text : List ℕ) (v : ℕ) → 1 ≤ width → width ≤ 6 → length text ≡ width
     → AllDigits 10 text → v ≡ digits_value 10 text → v ≢ 0 → Some v ≡ number_written (zero_padded width)

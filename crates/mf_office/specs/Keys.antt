@@ -51,12 +51,12 @@ with_last_raised (c ∷ []) = 47 ∷ []
 with_last_raised (c ∷ d ∷ cs) = c ∷ with_last_raised (d ∷ cs)
 
 -- a stands before b, by bytes
-abbrev pub is_before : List ℕ → List ℕ → Bool
-is_before [] [] = false
-is_before [] (b ∷ bs) = true
-is_before (a ∷ rest) [] = false
-is_before (a ∷ rest) (b ∷ bs) = nat_lt a b || ((a == b) && is_before rest bs)
+abbrev pub is_before_by_bytes : List ℕ → List ℕ → Bool
+is_before_by_bytes [] [] = false
+is_before_by_bytes [] (b ∷ bs) = true
+is_before_by_bytes (a ∷ rest) [] = false
+is_before_by_bytes (a ∷ rest) (b ∷ bs) = nat_lt a b || ((a == b) && is_before_by_bytes rest bs)
 
 -- low ≤ text < high
 abbrev pub is_in_range : List ℕ → List ℕ → List ℕ → Bool
-is_in_range low high text = not (is_before text low) && is_before text high
+is_in_range low high text = not (is_before_by_bytes text low) && is_before_by_bytes text high

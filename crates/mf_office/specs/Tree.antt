@@ -48,24 +48,24 @@ pub record Place : Type 0 where
   pub parent : Option ℕ
 
 -- the parent of office x, if x is there and has one
-abbrev pub parent_of : List Place → ℕ → Option ℕ
-parent_of [] x = None
-parent_of (place ∷ places) x = cond (place.number == x) place.parent (parent_of places x)
+abbrev pub parent_among : List Place → ℕ → Option ℕ
+parent_among [] x = None
+parent_among (place ∷ places) x = cond (place.number == x) place.parent (parent_among places x)
 
 -- an office with this number is among the places
-abbrev pub is_there : List Place → ℕ → Bool
-is_there [] x = false
-is_there (place ∷ places) x = (place.number == x) || is_there places x
+abbrev pub is_among : List Place → ℕ → Bool
+is_among [] x = false
+is_among (place ∷ places) x = (place.number == x) || is_among places x
 
 -- no number stands twice
 abbrev pub EachNumberOnce : List Place → Type 0
 EachNumberOnce [] = Unit {0}
-EachNumberOnce (place ∷ places) = (is_there places place.number ≡ false) × EachNumberOnce places
+EachNumberOnce (place ∷ places) = (is_among places place.number ≡ false) × EachNumberOnce places
 
 -- a list of offices that is one tree from office 1, at most six deep
-pub record IsTree (places : List Place) : Type 0 where
+pub record AreOneTree (places : List Place) : Type 0 where
   pub once : EachNumberOnce places
-  pub tree : IsTreeOf (is_there places) (parent_of places)
+  pub tree : IsTreeOf (is_among places) (parent_among places)
 
 -- the head, 2 and 20 under it, and 5 under 2
 abbrev pub small_tree : List Place

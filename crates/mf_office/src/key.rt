@@ -3,7 +3,7 @@
 ghost use Rattle.std.specs.Prelude.{◌≡◌, ℕ, List, true, string_bytes, IfOk, IsOkUnless, SomeIff};
 ghost use Rattle.mf_office.specs.Keys.{key_depth, head_key, child_key, with_last_raised, is_in_range, key_of};
 ghost use Rattle.mf_office.specs.Keys.{EndsWithDot};
-ghost use Rattle.mf_office.specs.Tree.{Place, IsTree, is_there, parent_of, is_at_or_below};
+ghost use Rattle.mf_office.specs.Tree.{Place, AreOneTree, is_among, parent_among, is_at_or_below};
 
 use crate::office::OfficeNo;
 use mf_base::Fault;
@@ -119,11 +119,12 @@ impl Key {
 /// For the keys of a tree's offices, and the ends of the range of y's key, that is so exactly where x is at or below y.
 pub fn in_range(low: &str, high: &str, key: &str) -> bool
     ensures value { result ≡ is_in_range low.now high.now key.now }
-    ensures subtree { (places : List Place) → IsTree places → (x y : ℕ) → is_there places x ≡ true → is_there places y
+    ensures subtree { (places : List Place) → AreOneTree places → (x y : ℕ) → is_among places x ≡ true
+        → is_among places y
         ≡ true →
-        low.now ≡ key_of (parent_of places) y → high.now ≡ with_last_raised (key_of (parent_of places) y)
-        → key.now ≡ key_of (parent_of places) x →
-        result ≡ is_at_or_below (parent_of places) x y }
+        low.now ≡ key_of (parent_among places) y → high.now ≡ with_last_raised (key_of (parent_among places) y)
+        → key.now ≡ key_of (parent_among places) x →
+        result ≡ is_at_or_below (parent_among places) x y }
 {
     low <= key && key < high
 }

@@ -1,8 +1,8 @@
 //! Laws of the tree of offices and its keys. Each function does nothing: its contract is the law.
 
 ghost use Rattle.std.specs.Prelude.{◌≡◌, ◌↔◌, ℕ, ◌≤◌, ◌==◌, ◌||◌, Bool, true, false, List, Option, Some, None, codes};
-ghost use Rattle.mf_office.specs.Tree.{IsTree, IsTreeOf, AddsOffice, IsAtOrBelow, is_within, is_at_or_below};
-ghost use Rattle.mf_office.specs.Tree.{option_any, parent_of, small_tree};
+ghost use Rattle.mf_office.specs.Tree.{AreOneTree, IsTreeOf, AddsOffice, IsAtOrBelow, is_within, is_at_or_below};
+ghost use Rattle.mf_office.specs.Tree.{option_any, parent_among, small_tree};
 ghost use Rattle.mf_office.specs.Written.{caller_text, account_text};
 ghost use Rattle.mf_office.specs.Texts.{caller_of, account_of};
 ghost use Rattle.mf_office.specs.Keys.{GrowsByParents, key_of, key_depth, head_key, child_key, with_last_raised};
@@ -78,18 +78,20 @@ pub fn tree_by_its_keys()
 
 /// An office with number 2 under the head, 20 beside it, and 5 under 2.
 pub fn worked_rows()
-    ensures tree { IsTree small_tree }
-    ensures head { (key_of (parent_of small_tree) 1 ≡ codes ".") × (with_last_raised (codes ".") ≡ codes "/") }
-    ensures keys { (key_of (parent_of small_tree) 2 ≡ codes ".2.") × (key_of (parent_of small_tree) 20 ≡ codes ".20.")
-        × (key_of (parent_of small_tree) 5 ≡ codes ".2.5.") }
+    ensures tree { AreOneTree small_tree }
+    ensures head { (key_of (parent_among small_tree) 1 ≡ codes ".") × (with_last_raised (codes ".") ≡ codes "/") }
+    ensures keys { (key_of (parent_among small_tree) 2 ≡ codes ".2.")
+        × (key_of (parent_among small_tree) 20 ≡ codes ".20.")
+        × (key_of (parent_among small_tree) 5 ≡ codes ".2.5.") }
     ensures range { with_last_raised (codes ".2.") ≡ codes ".2/" }
     ensures below { is_in_range (codes ".2.") (codes ".2/") (codes ".2.5.") ≡ true }
     ensures beside { is_in_range (codes ".2.") (codes ".2/") (codes ".20.") ≡ false }
     ensures above { is_in_range (codes ".2.") (codes ".2/") (codes ".") ≡ false }
     ensures all { (is_in_range (codes ".") (codes "/") (codes ".20.") ≡ true)
         × (is_in_range (codes ".") (codes "/") (codes ".") ≡ true) }
-    ensures by_parents { (is_at_or_below (parent_of small_tree) 5 2 ≡ true)
-        × (is_at_or_below (parent_of small_tree) 20 2 ≡ false) × (is_at_or_below (parent_of small_tree) 20 1 ≡ true) }
+    ensures by_parents { (is_at_or_below (parent_among small_tree) 5 2 ≡ true)
+        × (is_at_or_below (parent_among small_tree) 20 2 ≡ false)
+        × (is_at_or_below (parent_among small_tree) 20 1 ≡ true) }
     ensures caller { (caller_text 7 3 ≡ codes "7/3")
         × (caller_of (codes "7/3") ≡ Some (record { office = 7; staff = 3 })) }
     ensures no_caller { (caller_of (codes "01/1") ≡ None) × (caller_of (codes "0/1") ≡ None)

@@ -14,13 +14,13 @@ use Rattle.mf_catalog.specs.declared.terms.Method.{Method}
 use Rattle.mf_catalog.specs.declared.terms.Method.TheVariants.{Flat, EqualPrincipal, Fixed}
 use Rattle.mf_catalog.specs.Limits.{AreTermsWithinLimits, longest_step}
 use Rattle.mf_schedule.specs.Fixed.{interest_on, next_balance, balance_after}
-use Rattle.mf_schedule.specs.declared.instalment.Instalment.{Instalment}
+use Rattle.mf_schedule.specs.declared.instalment.FreshInstalment.{FreshInstalment}
 use Rattle.mf_catalog.specs.Charge.{amount_of_any}
 use Rattle.mf_schedule.specs.Fresh.{IsLoanWithinLimits, due_day_of, fresh_schedule, scheduled_interest, instalment_of}
 use Rattle.mf_schedule.specs.Fresh.{total_interest, total_principal}
 use Rattle.mf_schedule.specs.Plan.{days_by, days_of, period_interest, flat_interest, equal_principal, equal_balance}
 use Rattle.mf_schedule.specs.Plan.{fixed_amount_of, fixed_balance, fixed_principal, principal_by, principal_of}
-use Rattle.mf_schedule.specs.Plan.{balance_by, balance_of, interest_by, interest_of}
+use Rattle.mf_schedule.specs.Plan.{balance_by, balance_of, interest_of}
 use Rattle.std.proofs.lemmas.List.FromFn.{map-range_with_len_more, sum_by-map-range_with_len_more}
 use Rattle.mf_schedule.proofs.FixedLemmas.{interest-mono, balance-falls}
 use Rattle.mf_schedule.proofs.GraceLemmas.{after_grace-sum}
@@ -77,38 +77,6 @@ balance_by-le Fixed terms principal n i limits =
 pub balance_of-le : (terms : Terms) (principal n i : ℕ) → IsLoanWithinLimits terms principal n
     → balance_of terms principal n i ≤ principal
 balance_of-le terms principal n i limits = balance_by-le terms.method terms principal n i limits
-
--- the interest of an instalment
-pub interest_by-le : (method : Method) (terms : Terms) (principal n i : ℕ) → IsLoanWithinLimits terms principal n
-    → i ≤ n → interest_by method terms principal n i ≤ 4 * 10 ^ 15
-interest_by-le Flat terms principal n i limits within =
-    omega (
-      arith,
-      flat_interest-le terms principal n limits,
-      split-le (flat_interest terms principal n) n i
-          (omega arith) within,
-    )
-interest_by-le EqualPrincipal terms principal n i limits within =
-    let less : equal_balance terms principal n i ≤ principal =
-    balance_by-le EqualPrincipal terms principal n i limits in
-    let small : equal_balance terms principal n i ≤ 10 ^ 12 = omega (arith, less, limits.most_principal) in
-    omega (
-      arith,
-      interest_on-le terms.rate (days_of terms) (equal_balance terms principal n i) limits.terms_limits.rate
-          (days_of-le terms limits.terms_limits) small,
-    )
-interest_by-le Fixed terms principal n i limits within =
-    let less : fixed_balance terms principal n i ≤ principal = balance_by-le Fixed terms principal n i limits in
-    let small : fixed_balance terms principal n i ≤ 10 ^ 12 = omega (arith, less, limits.most_principal) in
-    omega (
-      arith,
-      interest_on-le terms.rate (days_of terms) (fixed_balance terms principal n i) limits.terms_limits.rate
-          (days_of-le terms limits.terms_limits) small,
-    )
-
-pub interest_of-le : (terms : Terms) (principal n i : ℕ) → IsLoanWithinLimits terms principal n → i ≤ n
-    → interest_of terms principal n i ≤ 4 * 10 ^ 15
-interest_of-le terms principal n i limits within = interest_by-le terms.method terms principal n i limits within
 
 -- an equal part comes off the balance
 equal-step : (terms : Terms) (principal n i : ℕ) → IsLoanWithinLimits terms principal n → 1 ≤ i → i ≤ n
@@ -230,7 +198,7 @@ principal_of-sum terms principal n limits =
     omega (arith, last, parts_and_balance terms principal n n limits (omega arith))
 
 -- a sum over mapped rows is a sum of what is read of each
-pub sum_by-over : (f : ℕ → Instalment) (g : Instalment → ℕ) (k : ℕ) → sum_by g (map f (range_with_len 1 k))
+pub sum_by-over : (f : ℕ → FreshInstalment) (g : FreshInstalment → ℕ) (k : ℕ) → sum_by g (map f (range_with_len 1 k))
     ≡ sum (map (λ i. g (f i)) (range_with_len 1 k))
 sum_by-over f g zero = refl
 sum_by-over f g (suc k) =
@@ -257,11 +225,11 @@ scheduled-interest-sum terms principal n day limits =
     sum_by-over (instalment_of terms principal n day) (λ row. row.interest) n ∙ after_grace-sum terms.interest_grace
     (interest_of terms principal n) n limits.interest_grace
 
-abbrev row_with : ℕ → ℕ → ℕ → ℕ → Instalment
+abbrev row_with : ℕ → ℕ → ℕ → ℕ → FreshInstalment
 row_with due part interest fees = record { due = due; principal = part; interest = interest; fees = fees }
 
 -- one more row of the schedule
-pub fresh_rows-more : (terms : Terms) (principal n day i : ℕ) (before after : List Instalment)
+pub fresh_rows-more : (terms : Terms) (principal n day i : ℕ) (before after : List FreshInstalment)
     (due part interest fees : ℕ) → 1 ≤ i → before ≡ map (instalment_of terms principal n day) (range_with_len 1 (i - 1))
     → after ≡ before ++ row_with due part interest fees ∷ [] → due ≡ due_day_of terms day i
     → part ≡ principal_of terms principal n i → interest ≡ scheduled_interest terms principal n i
@@ -281,7 +249,7 @@ fresh_rows-more terms principal n day i before after due part interest fees firs
     (scheduled_interest terms principal n i) x) charged in
     let place : i - 1 + 1 ≡ i + 1 - 1 = omega arith in
     pushed
-    ∙ ap (λ (xs : List Instalment). xs ++ row_with due part interest fees ∷ []) made
-    ∙ ap (λ (x : Instalment). map (instalment_of terms principal n day) (range_with_len 1 (i - 1)) ++ x ∷ []) row
+    ∙ ap (λ (xs : List FreshInstalment). xs ++ row_with due part interest fees ∷ []) made
+    ∙ ap (λ (x : FreshInstalment). map (instalment_of terms principal n day) (range_with_len 1 (i - 1)) ++ x ∷ []) row
     ∙ sym (map-range_with_len_more (instalment_of terms principal n day) 1 (i - 1) i (omega arith))
     ∙ ap (λ (x : ℕ). map (instalment_of terms principal n day) (range_with_len 1 x)) place

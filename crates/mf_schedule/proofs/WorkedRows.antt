@@ -10,13 +10,13 @@ use Rattle.mf_catalog.specs.declared.charge.ChargeDef.{ChargeDef}
 use Rattle.mf_catalog.specs.declared.charge.Calc.{Calc}
 use Rattle.mf_catalog.specs.declared.charge.Calc.TheVariants.{OfAmount, OfBoth}
 use Rattle.mf_catalog.specs.declared.charge.ChargeKind.{ChargeKind}
-use Rattle.mf_catalog.specs.declared.charge.ChargeKind.TheVariants.{Disbursement as At_disbursement}
-use Rattle.mf_catalog.specs.declared.charge.ChargeKind.TheVariants.{Instalment as With_instalment}
+use Rattle.mf_catalog.specs.declared.charge.ChargeKind.TheVariants.{Disbursement}
+use Rattle.mf_catalog.specs.declared.charge.ChargeKind.TheVariants.{Instalment}
 use Rattle.mf_catalog.specs.declared.terms.Terms.{Terms}
 use Rattle.mf_catalog.specs.declared.terms.Method.{Method}
 use Rattle.mf_catalog.specs.declared.terms.Method.TheVariants.{Flat, EqualPrincipal, Fixed}
 use Rattle.mf_catalog.specs.declared.terms.StrategyName.TheVariants.{MifosStandard}
-use Rattle.mf_schedule.specs.declared.instalment.Instalment.{Instalment}
+use Rattle.mf_schedule.specs.declared.instalment.FreshInstalment.{FreshInstalment}
 use Rattle.mf_schedule.specs.Fixed.{balance_after, least_amount}
 use Rattle.mf_schedule.specs.Plan.{flat_interest, interest_of, principal_of}
 use Rattle.mf_schedule.specs.Fresh.{due_day_of, fee_at_disbursement, fresh_schedule, total_interest}
@@ -44,14 +44,14 @@ monthly method principal_grace interest_grace = plain_terms method Months 1 prin
 abbrev charge_of : ChargeKind → Calc → ℕ → ChargeDef
 charge_of kind calc value = record { number = 1; name = []; kind = kind; calc = calc; value = value }
 
-abbrev principals : List Instalment → List ℕ
-principals rows = map (λ (r : Instalment). r.principal) rows
+abbrev principals : List FreshInstalment → List ℕ
+principals rows = map (λ (r : FreshInstalment). r.principal) rows
 
-abbrev interests : List Instalment → List ℕ
-interests rows = map (λ (r : Instalment). r.interest) rows
+abbrev interests : List FreshInstalment → List ℕ
+interests rows = map (λ (r : FreshInstalment). r.interest) rows
 
-abbrev all_fees : List Instalment → List ℕ
-all_fees rows = map (λ (r : Instalment). r.fees) rows
+abbrev all_fees : List FreshInstalment → List ℕ
+all_fees rows = map (λ (r : FreshInstalment). r.fees) rows
 
 abbrev date : ℕ → ℕ → ℕ → ℕ
 date year month day = day_of (record { year = year; month = month; day = day })
@@ -181,12 +181,12 @@ longest_last = refl
 
 -- one percent of principal and interest with each instalment
 fees : all_fees (fresh_schedule (record (monthly EqualPrincipal 0 0)
-    { instalment = Some (charge_of With_instalment OfBoth 100) }) 100000 3 8796) ≡ 343 ∷ 340 ∷ 337 ∷ []
+    { instalment = Some (charge_of Instalment OfBoth 100) }) 100000 3 8796) ≡ 343 ∷ 340 ∷ 337 ∷ []
 fees = refl
 
 -- one and a half percent at disbursement, of the amount and of both
 abbrev charged : Calc → Terms
-charged calc = record (monthly EqualPrincipal 0 0) { disbursement = Some (charge_of At_disbursement calc 150) }
+charged calc = record (monthly EqualPrincipal 0 0) { disbursement = Some (charge_of Disbursement calc 150) }
 
 fee_on_amount : fee_at_disbursement (charged OfAmount) 100000 (fresh_schedule (charged OfAmount) 100000 3 8796) ≡ 1500
 fee_on_amount = refl

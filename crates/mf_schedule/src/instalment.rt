@@ -4,7 +4,7 @@ use mf_base::Day;
 
 /// One row of a fresh schedule. All amounts are whole cents.
 #[derive(Clone, Copy, PartialEq, Eq)]
-pub struct Instalment {
+pub struct FreshInstalment {
     /// The day on which it falls due.
     pub due: Day,
     /// Its part of the principal.

@@ -8,6 +8,6 @@ mod schedule;
 mod text;
 
 pub use fixed::fixed_amount;
-pub use instalment::Instalment;
+pub use instalment::FreshInstalment;
 pub use schedule::{disbursement_fee, fresh};
 pub use text::schedule_text;

@@ -10,7 +10,7 @@ ghost use Rattle.mf_catalog.specs.Limits.{greatest_amount, most_periods, most_we
 ghost use Rattle.mf_catalog.specs.Limits.{IsChargeWithinLimits};
 ghost use Rattle.mf_catalog.specs.Charge.{amount_of_any};
 
-use crate::instalment::Instalment;
+use crate::instalment::FreshInstalment;
 use crate::plan::Plan;
 use mf_base::{Day, Fault};
 use mf_catalog::{ChargeDef, Terms, charge_amount};
@@ -51,7 +51,7 @@ pub fn fresh(
     principal: u64,
     n: u32,
     day: Day,
-) -> Result<Vec<Instalment>, Fault>
+) -> Result<Vec<FreshInstalment>, Fault>
     requires limits { IsLoanWithinLimits terms.now principal n }
     requires day { day ≤ last_entered_day }
     ensures rows { IfOk result (λ rows. rows.items ≡ fresh_schedule terms.now principal n day) }
@@ -78,7 +78,7 @@ pub fn fresh(
         } else {
             mem::replace(&mut held, 0)
         };
-        rows.push(Instalment {
+        rows.push(FreshInstalment {
             due: due_day(terms, day, i),
             principal: part,
             interest,
@@ -89,7 +89,7 @@ pub fn fresh(
 }
 
 /// The charge that is taken at disbursement: on the principal, and on the interest of all instalments.
-pub fn disbursement_fee(terms: &Terms, principal: u64, rows: &[Instalment]) -> u64
+pub fn disbursement_fee(terms: &Terms, principal: u64, rows: &[FreshInstalment]) -> u64
     requires limits { AreTermsWithinLimits terms.now }
     requires principal { principal ≤ greatest_amount }
     requires interest { total_interest rows.now < 2 ^ 62 }

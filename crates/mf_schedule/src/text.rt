@@ -2,9 +2,9 @@
 
 ghost use Rattle.std.specs.Prelude.{◌≡◌, ◌+◌, ◌<◌, ◌^◌, ◌++◌, IfOk, IsOkUnless, OnOk};
 ghost use Rattle.std.specs.String.{string_bytes};
-ghost use Rattle.mf_schedule.specs.ScheduleText.{amounts_text, row_line, schedule_text as text_of_schedule};
+ghost use Rattle.mf_schedule.specs.ScheduleText.{amounts_text, row_line, schedule_text};
 
-use crate::instalment::Instalment;
+use crate::instalment::FreshInstalment;
 use mf_base::{Fault, money_text, push_right};
 use std::alloc::Global;
 
@@ -27,7 +27,12 @@ fn push_amounts(
 }
 
 /// Writes the line of an instalment.
-fn push_row(alloc: Global, text: &mut String, number: usize, row: Instalment) -> Result<(), Fault>
+fn push_row(
+    alloc: Global,
+    text: &mut String,
+    number: usize,
+    row: FreshInstalment,
+) -> Result<(), Fault>
     ensures ok { OnOk result (string_bytes text.new ≡ string_bytes text.old ++ row_line number row) }
     ensures err { IsOkUnless result Fault.F20 }
 {
@@ -41,8 +46,8 @@ fn push_row(alloc: Global, text: &mut String, number: usize, row: Instalment) ->
 /// and a last line of their sums. Amounts are money texts; fees are not shown.
 ///
 /// The only error is F20, out of memory.
-pub fn schedule_text(alloc: Global, rows: &[Instalment]) -> Result<String, Fault>
-    ensures ok { IfOk result (λ text. string_bytes text ≡ text_of_schedule rows.now) }
+pub fn schedule_text(alloc: Global, rows: &[FreshInstalment]) -> Result<String, Fault>
+    ensures ok { IfOk result (λ text. string_bytes text ≡ schedule_text rows.now) }
     ensures err { IsOkUnless result Fault.F20 }
 {
     let mut text = String::new(alloc);

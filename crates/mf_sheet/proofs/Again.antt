@@ -12,7 +12,7 @@ use Rattle.mf_base.specs.declared.fault.Fault.TheVariants.{F2, F4, F9, F10, F11,
 use Rattle.mf_office.specs.declared.caller.Caller.{Caller}
 use Rattle.mf_office.specs.Tree.{is_at_or_below}
 use Rattle.mf_account.specs.declared.entry.Entry.{Entry}
-use Rattle.mf_account.specs.Loan.{Loan as Running, status_of_loan}
+use Rattle.mf_account.specs.Loan.{DisbursedLoan, status_of_loan}
 use Rattle.mf_account.specs.Refusals.{is_standing_seal, is_sealed, refusal_of}
 use Rattle.mf_model.specs.Institution.{Institution, Catalogue, Office, Ledger, Rows, Staff, office_at, with_rows}
 use Rattle.mf_model.specs.Institution.{item_numbered, with_numbered, after, Rows_become}
@@ -67,10 +67,10 @@ fault_by : Bool → Bool → Bool → Bool → Option Fault
 fault_by sealed active late full =
     cond sealed (Some F11) (cond (not active) (Some F9) (cond late (Some F10) (cond full (Some F18) None)))
 
-abbrev is_late : SheetRepayment → Running → ℕ → Bool
+abbrev is_late : SheetRepayment → DisbursedLoan → ℕ → Bool
 is_late r a day = nat_lt r.day a.day || nat_lt day r.day
 
-fault_is : (c : Caller) (r : SheetRepayment) (a : Running) (day : ℕ) → refusal_of a (entry_of c r a) day
+fault_is : (c : Caller) (r : SheetRepayment) (a : DisbursedLoan) (day : ℕ) → refusal_of a (entry_of c r a) day
     ≡ fault_by (is_sealed a.entries) (status_of_loan a == 300) (is_late r a day) (nat_le 9999 (length a.entries))
 unfolding fault_by
 fault_is c r a day = refl
@@ -117,18 +117,19 @@ sealed_after es e none unsealed =
     list_any-append is_standing_seal es (e ∷ []) ∙ ap (λ b. b || (is_standing_seal e || false)) unsealed
     ∙ ap (λ b. b || false) none
 
-abbrev with_entry : Entry → Running → Running
+abbrev with_entry : Entry → DisbursedLoan → DisbursedLoan
 with_entry e a = record a { entries = a.entries ++ e ∷ [] }
 
-account_after : (k : Catalogue) (l : Ledger) (a : Running) (e : Entry) → account_in k l ≡ Some a
+account_after : (k : Catalogue) (l : Ledger) (a : DisbursedLoan) (e : Entry) → account_in k l ≡ Some a
     → account_in k (with_new_entry e l) ≡ Some (with_entry e a)
 account_after k l a e h =
     let is : IsRunning k l a = account_is k l a h in
     ap (λ day. running_from l.loan (l.entries ++ e ∷ []) day (terms_in k l.loan.product)) is.day_is
     ∙ ap (running_from l.loan (l.entries ++ e ∷ []) (Some is.day)) is.terms_is
-    ∙ ap (λ (x : Running). Some (with_entry e x)) is.account_is
+    ∙ ap (λ (x : DisbursedLoan). Some (with_entry e x)) is.account_is
 
-module _ (c d : Caller) (r q : SheetRepayment) (a : Running) (day : ℕ) (allowed : refusal_of a (entry_of d q a) day
+module _ (c d : Caller) (r q : SheetRepayment) (a : DisbursedLoan) (day : ℕ)
+    (allowed : refusal_of a (entry_of d q a) day
     ≡ None) (refused : as_entry (refusal_of a (entry_of c r a) day) ≢ Entered) where
   its_account : Accepts (is_sealed a.entries) (status_of_loan a == 300) (is_late q a day)
       (nat_le 9999 (length a.entries))
@@ -156,7 +157,7 @@ module _ (c d : Caller) (r q : SheetRepayment) (a : Running) (day : ℕ) (allowe
   pub refused_after : IsToldAgain (as_entry (refusal_of a (entry_of c r a) day))
       (as_entry (refusal_of (with_entry (entry_of d q a) a) (entry_of c r (with_entry (entry_of d q a) a)) day))
   refused_after =
-      let b : Running = with_entry (entry_of d q a) a in
+      let b : DisbursedLoan = with_entry (entry_of d q a) a in
       let now : refusal_of b (entry_of c r b) day ≡ fault_by false (status_of_loan b == 300) true
       (nat_le 9999 (length b.entries)) =
       fault_is c r b day
@@ -192,7 +193,7 @@ the_same n e =
     ∙ ap (λ b. cond b (Ok e.seq) (Err F15)) (eq-eqb e.day e.day refl)
 
 -- One repayment was entered in an office. What another of the office was told before and is told now.
-module _ (d : Caller) (q : SheetRepayment) (k : Catalogue) (f : Office) (l : Ledger) (a : Running)
+module _ (d : Caller) (q : SheetRepayment) (k : Catalogue) (f : Office) (l : Ledger) (a : DisbursedLoan)
     (free : first_use q.receipt (uses_from 1 f.rows.loans) ≡ None) (there : item_numbered f.rows.loans q.loan.number
     ≡ Some l)
     (has : account_in k l ≡ Some a) (allowed : refusal_of a (entry_of d q a) k.day ≡ None) where

@@ -4,7 +4,7 @@ use Rattle.mf_base.specs.declared.fault.Fault.{Fault}
 use Rattle.mf_base.specs.declared.fault.Fault.TheVariants.{F2, F4, F9}
 use Rattle.mf_office.specs.declared.caller.Caller.{Caller}
 use Rattle.mf_account.specs.declared.entry.Entry.{Entry}
-use Rattle.mf_account.specs.Loan.{Loan as Running}
+use Rattle.mf_account.specs.Loan.{DisbursedLoan}
 use Rattle.mf_account.specs.Refusals.{refusal_of}
 use Rattle.mf_model.specs.declared.request.Repayment.{Repayment}
 use Rattle.mf_model.specs.declared.request.LoanRequest.TheVariants as asks
@@ -31,12 +31,12 @@ abbrev pub asked : SheetRepayment → Repayment
 asked r = record { amount = r.amount; day = r.day; receipt = Some r.receipt }
 
 -- the entry that it would be
-abbrev pub entry_of : Caller → SheetRepayment → Running → Entry
+abbrev pub entry_of : Caller → SheetRepayment → DisbursedLoan → Entry
 entry_of c r a = repayment (asked r) c a
 
 -- what a repayment is told by the account, by the receipts and the loans of its office, by the office and by whoever
 -- sends it
-abbrev pub account_fault : Caller → SheetRepayment → ℕ → Option Running → Option Fault
+abbrev pub account_fault : Caller → SheetRepayment → ℕ → Option DisbursedLoan → Option Fault
 account_fault c r day None = Some F9
 account_fault c r day (Some a) = refusal_of a (entry_of c r a) day
 
@@ -73,7 +73,7 @@ pub record Entering (c : Caller) (r : SheetRepayment) (i : Institution) : Type 0
   pub staff : Staff
   pub office : Office
   pub ledger : Ledger
-  pub account : Running
+  pub account : DisbursedLoan
   pub known : staff_at i c ≡ Some staff
   pub seen : seen_office c.office r.loan.office i ≡ Some office
   pub free : first_use r.receipt (uses_from 1 office.rows.loans) ≡ None
@@ -107,7 +107,8 @@ module _ (c : Caller) (r : SheetRepayment) (i : Institution) (P : Outcome → Sh
   module _ (s : Staff) (known : staff_at i c ≡ Some s) (f : Office) (seen : seen_office c.office r.loan.office i
       ≡ Some f) where
     at_account : (l : Ledger) → item_numbered f.rows.loans r.loan.number ≡ Some l
-        → first_use r.receipt (uses_from 1 f.rows.loans) ≡ None → (o : Option Running) → account_in i.catalogue l ≡ o
+        → first_use r.receipt (uses_from 1 f.rows.loans) ≡ None → (o : Option DisbursedLoan) → account_in i.catalogue l
+        ≡ o
         → P (of_office r.loan.office (of_loan r.loan f.rows (enter none_first (λ today. repayment (asked r) c)
         i.catalogue o))) (as_entry (account_fault c r i.catalogue.day o))
     at_account l there free None e = refused F9

@@ -32,7 +32,7 @@ fn request_of(line: SheetLine) -> Request
 }
 
 /// The result that a success is reported as.
-fn told(reply: &Reply) -> SheetResult
+fn result_of(reply: &Reply) -> SheetResult
     ensures { result ≡ result_of_success reply.now }
 {
     match reply {
@@ -64,7 +64,7 @@ fn result_of_line<S: InstitutionStore>(
         |reply: &Reply| -> Result<SheetResult, Fault>
             ensures ok { IfOk result (λ s. s ≡ result_of_success reply.now) }
             ensures err { IfErr result (λ f. f ≡ Fault.F20) }
-        { Ok(told(reply)) },
+        { Ok(result_of(reply)) },
     )
 }
 

@@ -3,7 +3,7 @@
 ghost use Rattle.std.specs.Prelude.{◌≡◌, ◌≢◌, ◌<◌, ◌≤◌, ℕ, List, Option, IfOk, IfErr, OnOk, length, take, true, false};
 ghost use Rattle.std.specs.Io.KnownBytes.{Appends};
 ghost use Rattle.mf_base.specs.declared.fault.Cause.TheVariants as cause;
-ghost use Rattle.mf_sheet_lines.specs.Results.{heading as heading_text, record_text};
+ghost use Rattle.mf_sheet_lines.specs.Results.{heading, record_text};
 ghost use Rattle.mf_sheet_lines.specs.Sheets.{longest, sheet_rows_of};
 ghost use Rattle.mf_sheet.specs.Runs.{AnswersFields, RunsRows, AnswersEach};
 ghost use Rattle.mf_wire_lines.specs.Streams.{stream_of};
@@ -67,7 +67,7 @@ fn collect_rows<S: InstitutionStore, W: Sink>(
     rows: Vec<SheetRow>,
     sink: &mut W,
 ) -> Result<(), StreamFault>
-    ensures ends { (before : Option (List ℕ)) → Appends before (W.written sink.old) heading_text →
+    ensures ends { (before : Option (List ℕ)) → Appends before (W.written sink.old) heading →
         Ends (AnswersEach (AnswersFields S.InstitutionStore caller.now)) store.old store.new (record {
           rows = rows.items;
           sink = record (stream_of W.written W.faults sink.old sink.new) { before = before };

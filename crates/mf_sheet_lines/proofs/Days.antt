@@ -9,7 +9,7 @@ use Rattle.std.specs.Int.{IsInRange}
 use Rattle.std.proofs.lemmas.Bool.{and_parts, le-leb, leb-true}
 use Rattle.std.proofs.lemmas.Slice.Eq.{bytes_eq-Decides}
 use Rattle.std.proofs.lemmas.Str.{digit_value_digit}
-use Rattle.mf_base.specs.Calendar.{Date, IsDate, date_of, day_of, month_length}
+use Rattle.mf_base.specs.Calendar.{CalendarDate, IsDate, date_of, day_of, month_length}
 use Rattle.mf_base.specs.DayText.{date_text, day_text, last_entered_day, two_digits}
 use Rattle.mf_base.proofs.CalendarLemmas.{month_length_bounds, day_of-date_of, IsDate-date_of}
 use Rattle.mf_base.proofs.DayTextLemmas.{date_text-day, day_text-is, entered_year-date_of, last_entered_year}
@@ -32,14 +32,15 @@ four n small =
       digit (n % 100 % 10) (omega arith),
     ) (omega arith)
 
-date_same : (a b : Date) → a.year ≡ b.year → a.month ≡ b.month → a.day ≡ b.day → a ≡ b
+date_same : (a b : CalendarDate) → a.year ≡ b.year → a.month ≡ b.month → a.day ≡ b.day → a ≡ b
 date_same a b year month day = (λ i. record { year = year i; month = month i; day = day i })
 
 -- the digits of a date's text write it
-date_in-text : (date : Date) → date.year < 10_000 → date.month < 100 → date.day < 100 → date_in (date_text date) ≡ date
+date_in-text : (date : CalendarDate) → date.year < 10_000 → date.month < 100 → date.day < 100 → date_in (date_text date)
+    ≡ date
 date_in-text date year month day = date_same _ date (four date.year year) (two date.month month) (two date.day day)
 
-entered : (date : Date) → IsDate date → date.year < 2100 → is_entered date ≡ true
+entered : (date : CalendarDate) → IsDate date → date.year < 2100 → is_entered date ≡ true
 entered date is year =
     rw (
       le-leb 2000 date.year is.year,
@@ -50,7 +51,7 @@ entered date is year =
       le-leb date.day (month_length date.year date.month) is.last_day,
     ) refl
 
-is_entered_date : (date : Date) → is_entered date ≡ true → IsDate date × (date.year < 2100)
+is_entered_date : (date : CalendarDate) → is_entered date ≡ true → IsDate date × (date.year < 2100)
 is_entered_date date is =
     let days = and_parts _ _ is in
     let first = and_parts _ _ days.0 in
@@ -79,7 +80,7 @@ is_read text day last is =
     let same : date_in text ≡ date = ap date_in written ∙ date_in-text date (omega arith)
     (omega (arith, there.last_month)) (omega (arith, there.last_day, bounds)) in
     let equal : bytes_eq text (date_text date) ≡ true = (bytes_eq-Decides text (date_text date)).1 written in
-    let family : Date → Type 0 = λ d. cond (is_entered d && bytes_eq text (date_text d)) (Some (day_of d)) None
+    let family : CalendarDate → Type 0 = λ d. cond (is_entered d && bytes_eq text (date_text d)) (Some (day_of d)) None
     ≡ Some day in
     subst family (sym same) (rw (entered date there year, equal) (ap Some (day_of-date_of day)))
 

@@ -1,6 +1,6 @@
 -- Whatever the fields of a line are, what it asks for lies in range.
 use Rattle.std.proofs.Common.{◌≡◌, ℕ, ◌≤◌, nat_le, Bool, true, false, cond, List, Option, Some, None, refl}
-use Rattle.std.specs.Prelude.{◌==◌, IfSome, if◌then◌else◌}
+use Rattle.std.specs.Prelude.{◌==◌, IfSome}
 use Rattle.std.specs.List.{before_first, after_first}
 use Rattle.std.specs.Option.{option_map, option_and_then}
 use Rattle.std.proofs.lemmas.Bool.{leb-true}
@@ -15,7 +15,7 @@ use Rattle.mf_office.proofs.WrittenLemmas.{written_is}
 use Rattle.mf_sheet_lines.specs.declared.line.SheetRepayment.{SheetRepayment}
 use Rattle.mf_sheet_lines.specs.Fields.{without_blanks, receipt_written, day_written, cents_written, at_least_one}
 use Rattle.mf_sheet_lines.specs.Fields.{amount_written}
-use Rattle.mf_sheet_lines.specs.Lines.{Columns, four_columns_of, repayment_of, repayment_in, repay_or_bad}
+use Rattle.mf_sheet_lines.specs.Lines.{LineFields, four_columns_of, repayment_of, repayment_in, repay_or_bad}
 use Rattle.mf_sheet_lines.specs.Lines.{sheet_line_of}
 use Rattle.mf_sheet_lines.specs.Lines.{IsRepaymentInRange, IsLineInRange}
 use Rattle.mf_sheet_lines.proofs.Amounts.{cents_range}
@@ -90,7 +90,7 @@ line_in_range fields = among (four_columns_of fields)
     told None h = tt
     told (Some r) h = h
 
-    among : (o : Option Columns) → IsLineInRange (repay_or_bad (option_and_then repayment_in o))
+    among : (o : Option LineFields) → IsLineInRange (repay_or_bad (option_and_then repayment_in o))
     among None = tt
     among (Some c) =
         told (repayment_in c) (repayment_range (without_blanks c.receipt) (without_blanks c.loan)

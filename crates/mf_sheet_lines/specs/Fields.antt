@@ -6,7 +6,7 @@ use Rattle.std.specs.List.{prefix_len, suffix_len}
 use Rattle.std.specs.Str.{bytes_eq}
 use Rattle.std.specs.Str.Parse.{digits_value}
 use Rattle.mf_account.specs.Receipts.{is_receipt}
-use Rattle.mf_base.specs.Calendar.{Date, day_of, month_length}
+use Rattle.mf_base.specs.Calendar.{CalendarDate, day_of, month_length}
 use Rattle.mf_base.specs.DayText.{date_text}
 use Rattle.mf_base.specs.Money.{money_limit}
 
@@ -27,7 +27,7 @@ abbrev pub receipt_written : List ℕ → Option (List ℕ)
 receipt_written text = cond (is_receipt text) (Some text) None
 
 -- the date that the digits of YYYY-MM-DD write
-abbrev pub date_in : List ℕ → Date
+abbrev pub date_in : List ℕ → CalendarDate
 date_in text = record {
   year = digits_value 10 (take 4 text);
   month = digits_value 10 (take 2 (drop 5 text));
@@ -35,7 +35,7 @@ date_in text = record {
 }
 
 -- the calendar has this date, of one of the years 2000 to 2099
-abbrev pub is_entered : Date → Bool
+abbrev pub is_entered : CalendarDate → Bool
 is_entered date =
     nat_le 2000 date.year && nat_le date.year 2099 && nat_le 1 date.month && nat_le date.month 12
     && nat_le 1 date.day && nat_le date.day (month_length date.year date.month)

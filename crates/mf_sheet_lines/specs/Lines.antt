@@ -12,14 +12,14 @@ use Rattle.mf_sheet_lines.specs.declared.line.SheetRepayment.{SheetRepayment}
 use Rattle.mf_sheet_lines.specs.Fields.{without_blanks, receipt_written, day_written, amount_written}
 
 -- the fields of a line, by their columns
-pub record Columns : Type 0 where
+pub record LineFields : Type 0 where
   pub receipt : List ℕ
   pub loan : List ℕ
   pub date : List ℕ
   pub amount : List ℕ
 
 -- the fields of a record that has four
-abbrev pub four_columns_of : List (List ℕ) → Option Columns
+abbrev pub four_columns_of : List (List ℕ) → Option LineFields
 four_columns_of (receipt ∷ loan ∷ date ∷ amount ∷ []) =
     Some (record { receipt = receipt; loan = loan; date = date; amount = amount })
 four_columns_of _ = None
@@ -32,7 +32,7 @@ repayment_of receipt loan date amount =
     (amount_written amount)) (day_written date)) (account_of loan)) (receipt_written receipt)
 
 -- the repayment that four fields write; spaces and tabs round a field don't count
-abbrev pub repayment_in : Columns → Option SheetRepayment
+abbrev pub repayment_in : LineFields → Option SheetRepayment
 repayment_in c = repayment_of (without_blanks c.receipt) (without_blanks c.loan) (without_blanks c.date)
     (without_blanks c.amount)
 
@@ -63,7 +63,7 @@ abbrev pub is_column_name : List ℕ → List ℕ → Bool
 is_column_name name field = str_eq_ignore_ascii_case (without_blanks field) name
 
 -- a record of the names of the columns
-abbrev pub are_names : Columns → Bool
+abbrev pub are_names : LineFields → Bool
 are_names c = is_column_name (codes "receipt") c.receipt && is_column_name (codes "loan") c.loan
     && is_column_name (codes "date") c.date
     && is_column_name (codes "amount") c.amount

@@ -5,7 +5,7 @@ ghost use Rattle.std.specs.List.{prefix_len, suffix_len};
 ghost use Rattle.mf_account.specs.Receipts.{IsReceipt};
 ghost use Rattle.mf_base.specs.DayText.{last_entered_day};
 ghost use Rattle.mf_base.specs.Money.{money_limit};
-ghost use Rattle.mf_sheet_lines.specs.Fields.{is_blank as is_blank_byte, without_blanks as trimmed_field};
+ghost use Rattle.mf_sheet_lines.specs.Fields.{is_blank, without_blanks};
 ghost use Rattle.mf_sheet_lines.specs.Fields.{receipt_written};
 ghost use Rattle.mf_sheet_lines.specs.Fields.{day_written, cents_written, amount_written};
 
@@ -13,14 +13,14 @@ use mf_account::is_receipt;
 use mf_base::{Day, parse_money};
 
 fn is_blank(byte: u8) -> bool
-    ensures { result ≡ is_blank_byte byte }
+    ensures { result ≡ is_blank byte }
 {
     byte == b' ' || byte == b'\t'
 }
 
 /// How many spaces and tabs a text begins with.
 fn blanks_at_front(text: &[u8]) -> usize
-    ensures count { result ≡ prefix_len is_blank_byte text.now }
+    ensures count { result ≡ prefix_len is_blank text.now }
     ensures bound { result ≤ length text.now }
 {
     text.iter().take_while(|byte| is_blank(**byte)).count()
@@ -28,7 +28,7 @@ fn blanks_at_front(text: &[u8]) -> usize
 
 /// How many spaces and tabs a text ends with.
 fn blanks_at_end(text: &[u8]) -> usize
-    ensures count { result ≡ suffix_len is_blank_byte text.now }
+    ensures count { result ≡ suffix_len is_blank text.now }
     ensures bound { result ≤ length text.now }
 {
     text.iter()
@@ -39,7 +39,7 @@ fn blanks_at_end(text: &[u8]) -> usize
 
 /// A field without the spaces and tabs round it.
 pub fn without_blanks(field: &[u8]) -> &[u8]
-    ensures { result.now ≡ trimmed_field field.now }
+    ensures { result.now ≡ without_blanks field.now }
 {
     let rest = &field[blanks_at_front(field)..];
     &rest[..rest.len() - blanks_at_end(rest)]

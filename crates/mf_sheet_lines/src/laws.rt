@@ -47,11 +47,24 @@ pub fn worked_sheets()
       day = 8825;
       amount = 20000;
     }) ∷ [] }
-    ensures sheet { lines_of (codes
-        "receipt,loan,date,amount\nR-1,0001-000001,2024-02-29,200\nR-2,0001-000001,2024-03-31,500.00\nR-3,0001-000009,2024-03-31,1.5\n")
-        ≡ SheetLine.Repay (record { receipt = codes "R-1"; loan = record { office = 1; number = 1 }; day = 8825; amount = 20000 })
-        ∷ SheetLine.Repay (record { receipt = codes "R-2"; loan = record { office = 1; number = 1 }; day = 8856; amount = 50000 })
-        ∷ SheetLine.Repay (record { receipt = codes "R-3"; loan = record { office = 1; number = 9 }; day = 8856; amount = 150 }) ∷ [] }
+    ensures sheet { lines_of (codes "receipt,loan,date,amount\nR-1,0001-000001,2024-02-29,200\n"
+        ++ codes "R-2,0001-000001,2024-03-31,500.00\nR-3,0001-000009,2024-03-31,1.5\n")
+        ≡ SheetLine.Repay (record {
+          receipt = codes "R-1";
+          loan = record { office = 1; number = 1 };
+          day = 8825;
+          amount = 20000;
+        }) ∷ SheetLine.Repay (record {
+          receipt = codes "R-2";
+          loan = record { office = 1; number = 1 };
+          day = 8856;
+          amount = 50000;
+        }) ∷ SheetLine.Repay (record {
+          receipt = codes "R-3";
+          loan = record { office = 1; number = 9 };
+          day = 8856;
+          amount = 150;
+        }) ∷ [] }
     ensures bad { lines_of (codes "a,b\na,b,c,d,e\nR-1,0001-000001,2024-02-29,0") ≡ SheetLine.Bad ∷ SheetLine.Bad
         ∷ SheetLine.Bad ∷ [] }
 {}

@@ -4,7 +4,7 @@ ghost use Rattle.std.specs.Prelude.{◌≡◌, ◌==◌, ◌≤◌, ℕ, List, S
 ghost use Rattle.std.specs.Prelude.{option_map};
 ghost use Rattle.csv.specs.Records.{fields_of};
 ghost use Rattle.mf_sheet_lines.specs.Lines.{four_columns_of, sheet_line_of, IsLineInRange, is_column_name};
-ghost use Rattle.mf_sheet_lines.specs.Lines.{names_columns as names_the_columns};
+ghost use Rattle.mf_sheet_lines.specs.Lines.{names_columns};
 
 use crate::fields::{amount, day, receipt, without_blanks};
 use csv::ByteRecord;
@@ -72,7 +72,7 @@ fn is_name(name: &[u8], field: &[u8]) -> bool
 
 /// Whether a record names the columns of a sheet, in any case of ASCII.
 pub fn names_columns(row: &ByteRecord) -> bool
-    ensures { result ≡ names_the_columns (fields_of row.now) }
+    ensures { result ≡ names_columns (fields_of row.now) }
 {
     let Some(fields) = four_fields(row) else {
         return false;

@@ -3,9 +3,9 @@
 ghost use Rattle.std.specs.Prelude.{◌≡◌, ◌≤◌, ◌⊎◌, ◌<◌, ◌++◌, [], ◌∷◌, List, ℕ, Err, IfOk, IfErr, get_or, length, map};
 ghost use Rattle.csv.specs.Records.{fields_of};
 ghost use Rattle.csv.specs.Writing.{default_writer, row_text};
-ghost use Rattle.mf_wire_lines.specs.Replies.{fault_name as name_of_fault};
+ghost use Rattle.mf_wire_lines.specs.Replies.{fault_name};
 ghost use Rattle.mf_sheet_lines.specs.Sheets.{longest, sheet_rows_of};
-ghost use Rattle.mf_sheet_lines.specs.Results.{begun_text, heading as heading_text, records_text, result_text};
+ghost use Rattle.mf_sheet_lines.specs.Results.{begun_text, heading, records_text, result_text};
 
 use crate::sheet::sheet_rows;
 use csv::{ByteRecord, Error, WriterBuilder};
@@ -26,7 +26,7 @@ pub enum SheetResult {
 
 /// The number of a refusal, as a text.
 fn fault_name(fault: Fault) -> &'static str
-    ensures { result.now ≡ name_of_fault fault }
+    ensures { result.now ≡ fault_name fault }
 {
     match fault {
         Fault::F1 => "F1",
@@ -165,7 +165,7 @@ impl BegunRecord {
 
 /// The first record of a sheet of results, which names its columns.
 pub fn heading() -> &'static [u8]
-    ensures { result.now ≡ heading_text }
+    ensures { result.now ≡ heading }
 {
     b"receipt,loan,date,amount,result\n"
 }
@@ -176,7 +176,7 @@ fn text_of_records(
     results: &[SheetResult],
 ) -> Result<Vec<u8>, Fault>
     requires { length results.now ≤ length rows.now }
-    ensures ok { IfOk result (λ text. text.items ≡ heading_text ++ records_text (map fields_of rows.now) results.now) }
+    ensures ok { IfOk result (λ text. text.items ≡ heading ++ records_text (map fields_of rows.now) results.now) }
     ensures err { IfErr result (λ fault. fault ≡ Fault.F20) }
 {
     let mut text = Vec::from_slice(alloc, heading())?;

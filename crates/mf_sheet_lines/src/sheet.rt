@@ -2,7 +2,7 @@
 
 ghost use Rattle.std.specs.Prelude.{◌≡◌, ◌⊎◌, ◌<◌, Err, IfOk, IfErr, length, map};
 ghost use Rattle.csv.specs.Records.{fields_of};
-ghost use Rattle.mf_sheet_lines.specs.Sheets.{longest, below_names as below_the_names, sheet_rows_of};
+ghost use Rattle.mf_sheet_lines.specs.Sheets.{longest, below_names, sheet_rows_of};
 
 use crate::line::{SheetLine, names_columns, read_line};
 use crate::records::records;
@@ -104,7 +104,7 @@ impl Sheet {
 
 /// The records without a first one that names the columns.
 fn below_names(rows: Vec<ByteRecord>) -> Vec<ByteRecord>
-    ensures { map fields_of result.items ≡ below_the_names (map fields_of rows.items) }
+    ensures { map fields_of result.items ≡ below_names (map fields_of rows.items) }
 {
     let mut rows = rows;
     let is_named = match rows.first() {

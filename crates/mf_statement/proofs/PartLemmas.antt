@@ -12,7 +12,7 @@ use Rattle.mf_alloc.specs.declared.row.Share.{Share}
 use Rattle.mf_account.specs.declared.entry.Entry.{Entry}
 use Rattle.mf_account.specs.declared.settled.How.{How}
 use Rattle.mf_account.specs.declared.settled.How.TheVariants.{Paid, Waived, WrittenOff}
-use Rattle.mf_account.specs.declared.settled.Settled.{Settled}
+use Rattle.mf_account.specs.declared.settled.SettledPart.{SettledPart}
 use Rattle.mf_account.specs.Account.{share_of}
 use Rattle.mf_account.specs.Standing.{entry_at}
 use Rattle.mf_account.specs.Told.{settled_amount, IsNumberedTo, AreNumbered}
@@ -21,32 +21,35 @@ use Rattle.mf_statement.specs.declared.lines.EntryLine.{EntryLine}
 use Rattle.mf_statement.specs.Lines.{cleared_by_part, cleared_by, cleared_in, line_among}
 use Rattle.mf_statement.specs.Parts.{no_parts, parts_in, with_part, table, line_with}
 
-abbrev is_of : ℕ → Settled → Bool
+abbrev is_of : ℕ → SettledPart → Bool
 is_of seq s = eqb s.seq seq
 
-abbrev sum_up : List Settled → EntryParts
+abbrev sum_up : List SettledPart → EntryParts
 sum_up own = record { cleared = sum_by cleared_by_part own; shares = map share_of own }
 
-filter-own : (seq : ℕ) (settled : List Settled) (s : Settled) → s.seq ≡ seq → filter (is_of seq) (settled ++ s ∷ [])
+filter-own : (seq : ℕ) (settled : List SettledPart) (s : SettledPart) → s.seq ≡ seq
+    → filter (is_of seq) (settled ++ s ∷ [])
     ≡ filter (is_of seq) settled ++ s ∷ []
 filter-own seq settled s is =
     filter-append (is_of seq) settled (s ∷ [])
-    ∙ ap (λ (x : List Settled). filter (is_of seq) settled ++ x) (cond-true (eqb s.seq seq)
+    ∙ ap (λ (x : List SettledPart). filter (is_of seq) settled ++ x) (cond-true (eqb s.seq seq)
     (s ∷ []) [] (eq-eqb s.seq seq is))
 
-filter-other : (seq : ℕ) (settled : List Settled) (s : Settled) → s.seq ≢ seq → filter (is_of seq) (settled ++ s ∷ [])
+filter-other : (seq : ℕ) (settled : List SettledPart) (s : SettledPart) → s.seq ≢ seq
+    → filter (is_of seq) (settled ++ s ∷ [])
     ≡ filter (is_of seq) settled
 filter-other seq settled s other =
     filter-append (is_of seq) settled (s ∷ [])
-    ∙ ap (λ (x : List Settled). filter (is_of seq) settled ++ x) (cond-false (eqb s.seq seq)
+    ∙ ap (λ (x : List SettledPart). filter (is_of seq) settled ++ x) (cond-false (eqb s.seq seq)
     (s ∷ []) [] (ne_eqb s.seq seq other))
     ∙ append-nil (filter (is_of seq) settled)
 
-map-snoc : (own : List Settled) (s : Settled) → map share_of (own ++ s ∷ []) ≡ map share_of own ++ share_of s ∷ []
+map-snoc : (own : List SettledPart) (s : SettledPart) → map share_of (own ++ s ∷ []) ≡ map share_of own ++ share_of s
+    ∷ []
 map-snoc [] s = refl
 map-snoc (first ∷ own) s = ap (λ (x : List Share). share_of first ∷ x) (map-snoc own s)
 
-sum_up-snoc : (own : List Settled) (s : Settled) → sum_up (own ++ s ∷ []) ≡ with_part (sum_up own) s
+sum_up-snoc : (own : List SettledPart) (s : SettledPart) → sum_up (own ++ s ∷ []) ≡ with_part (sum_up own) s
 sum_up-snoc own s =
     let amount : sum_by cleared_by_part (own ++ s ∷ []) ≡ sum_by cleared_by_part own + cleared_by_part s = let all =
     sum_by-append cleared_by_part own (s ∷ []) in omega (arith, all) in
@@ -54,19 +57,19 @@ sum_up-snoc own s =
     ap (λ (n : ℕ). at n (map share_of (own ++ s ∷ []))) amount
     ∙ ap (at (sum_by cleared_by_part own + cleared_by_part s)) (map-snoc own s)
 
-part-own : (seq : ℕ) (settled : List Settled) (s : Settled) → s.seq ≡ seq → parts_in seq (settled ++ s ∷ [])
+part-own : (seq : ℕ) (settled : List SettledPart) (s : SettledPart) → s.seq ≡ seq → parts_in seq (settled ++ s ∷ [])
     ≡ with_part (parts_in seq settled) s
 part-own seq settled s is = ap sum_up (filter-own seq settled s is) ∙ sum_up-snoc (filter (is_of seq) settled) s
 
-part-other : (seq : ℕ) (settled : List Settled) (s : Settled) → s.seq ≢ seq → parts_in seq (settled ++ s ∷ [])
+part-other : (seq : ℕ) (settled : List SettledPart) (s : SettledPart) → s.seq ≢ seq → parts_in seq (settled ++ s ∷ [])
     ≡ parts_in seq settled
 part-other seq settled s other = ap sum_up (filter-other seq settled s other)
 
 -- the entries from a on
-abbrev table_from : ℕ → ℕ → List Settled → List EntryParts
+abbrev table_from : ℕ → ℕ → List SettledPart → List EntryParts
 table_from a n settled = map (λ seq. parts_in seq settled) (range_with_len a n)
 
-others-same : (a n : ℕ) (settled : List Settled) (s : Settled) → s.seq < a → table_from a n (settled ++ s ∷ [])
+others-same : (a n : ℕ) (settled : List SettledPart) (s : SettledPart) → s.seq < a → table_from a n (settled ++ s ∷ [])
     ≡ table_from a n settled
 others-same a zero settled s below = refl
 others-same a (suc n) settled s below =
@@ -74,7 +77,8 @@ others-same a (suc n) settled s below =
     (part-other a settled s (λ is. absurd (omega arith)))
     ∙ ap (λ (x : List EntryParts). parts_in a settled ∷ x) (others-same (a + 1) n settled s (omega arith))
 
-added-from : (i a n : ℕ) (settled : List Settled) (s : Settled) → a + i ≡ s.seq → i < n → table_from a n (settled ++ s
+added-from : (i a n : ℕ) (settled : List SettledPart) (s : SettledPart) → a + i ≡ s.seq → i < n
+    → table_from a n (settled ++ s
     ∷ []) ≡ set (table_from a n settled) i (with_part (get_or (table_from a n settled) i no_parts) s)
 added-from i a zero settled s at within = absurd (omega arith)
 added-from zero a (suc n) settled s at within =
@@ -87,7 +91,8 @@ added-from (suc i) a (suc n) settled s at within =
     (omega arith))
 
 -- one part more is added to its entry's
-pub table-more : (n i : ℕ) (parts : List Settled) (part : Settled) (default : Settled) (before after : List EntryParts)
+pub table-more : (n i : ℕ) (parts : List SettledPart) (part : SettledPart) (default : SettledPart)
+    (before after : List EntryParts)
     → i < length parts → part ≡ get_or parts i default → IsNumberedTo n part → before ≡ table (take i parts) n
     → after ≡ set before (part.seq - 1) (with_part (get_or before (part.seq - 1) no_parts) part)
     → after ≡ table (take (i + 1) parts) n
@@ -96,8 +101,8 @@ table-more n i parts part default before after within is number so_far step =
     ∙ ap (λ (x : List EntryParts). set x (part.seq - 1) (with_part (get_or x (part.seq - 1) no_parts) part)) so_far
     ∙ sym (added-from (part.seq - 1) 1 n (take i parts) part (omega (arith, number.0))
     (omega (arith, number.0, number.1)))
-    ∙ ap (λ (x : Settled). table (take i parts ++ x ∷ []) n) is
-    ∙ ap (λ (x : List Settled). table x n) (sym (take_more parts i default within))
+    ∙ ap (λ (x : SettledPart). table (take i parts ++ x ∷ []) n) is
+    ∙ ap (λ (x : List SettledPart). table x n) (sym (take_more parts i default within))
 
 -- what is cleared is at most the amounts
 cleared-most : (how : How) (amount : ℕ) → cleared_by how amount ≤ amount
@@ -105,19 +110,20 @@ cleared-most Paid amount = omega arith
 cleared-most Waived amount = omega arith
 cleared-most WrittenOff amount = omega arith
 
-cleared-le : (seq : ℕ) (settled : List Settled) → cleared_in seq settled ≤ settled_amount settled
+cleared-le : (seq : ℕ) (settled : List SettledPart) → cleared_in seq settled ≤ settled_amount settled
 cleared-le seq [] = omega arith
 cleared-le seq (s ∷ settled) =
     let rest = cleared-le seq settled in
     let own = cleared-most s.how s.amount in
-    let all = sum_by-append (λ (x : Settled). x.amount) (s ∷ []) settled in
+    let all = sum_by-append (λ (x : SettledPart). x.amount) (s ∷ []) settled in
     let first = sum_by-append cleared_by_part (s ∷ []) (filter (is_of seq) settled) in
     cond_both (is_of seq s) (s ∷ filter (is_of seq) settled) (filter (is_of seq) settled)
-    (λ (x : List Settled). sum_by cleared_by_part x ≤ settled_amount (s ∷ settled))
+    (λ (x : List SettledPart). sum_by cleared_by_part x ≤ settled_amount (s ∷ settled))
     (λ _. omega (arith, rest, own, all, first)) (λ _. omega (arith, rest, all))
 
 -- so there is room for one part more
-pub part-room : (n i : ℕ) (parts : List Settled) (part default : Settled) (before : List EntryParts) → i < length parts
+pub part-room : (n i : ℕ) (parts : List SettledPart) (part default : SettledPart) (before : List EntryParts)
+    → i < length parts
     → part ≡ get_or parts i default → IsNumberedTo n part → before ≡ table (take i parts) n → settled_amount parts
     < 2 ^ 64 → (get_or before (part.seq - 1) no_parts).cleared + part.amount < 2 ^ 64
 part-room n i parts part default before within is number so_far small =
@@ -127,12 +133,12 @@ part-room n i parts part default before within is number so_far small =
     (omega (arith, number.0, number.1)) (omega (arith, number.0)) in
     let own = ap (λ (x : EntryParts). x.cleared) here in
     let least = cleared-le part.seq (take i parts) in
-    let more = sum_by_more (λ (x : Settled). x.amount) parts i default within in
-    let amount = ap (λ (x : Settled). x.amount) is in
-    let most = sum_by-take-le (λ (x : Settled). x.amount) parts (i + 1) in
+    let more = sum_by_more (λ (x : SettledPart). x.amount) parts i default within in
+    let amount = ap (λ (x : SettledPart). x.amount) is in
+    let most = sum_by-take-le (λ (x : SettledPart). x.amount) parts (i + 1) in
     omega (arith, own, least, more, amount, most, small)
 
-pub length-table : (n : ℕ) (settled : List Settled) → length (table settled n) ≡ n
+pub length-table : (n : ℕ) (settled : List SettledPart) → length (table settled n) ≡ n
 length-table n settled = length-map-range_with_len (λ seq. parts_in seq settled) 1 n
 
 -- one entry more without parts
@@ -145,7 +151,7 @@ none-more n shares items before after none is so_far step =
     ∙ sym (map-range_with_len_more (λ seq. parts_in seq []) 1 n (1 + n) refl)
 
 -- the lines of numbered entries
-lines-from : (a refunded n : ℕ) (settled : List Settled) (entries : List Entry) → length entries ≡ n
+lines-from : (a refunded n : ℕ) (settled : List SettledPart) (entries : List Entry) → length entries ≡ n
     → ((i : ℕ) → i < length entries → (entry_at entries i).seq ≡ i + a) → map (λ (both : Entry × EntryParts). line_with
     refunded both.0 both.1) (zip entries (table_from a n settled)) ≡ map (line_among settled refunded) entries
 lines-from a refunded zero settled [] size numbers = refl
@@ -159,7 +165,7 @@ lines-from a refunded (suc n) settled (e ∷ entries) size numbers =
     (lines-from (a + 1) refunded n settled entries (omega (arith, size)) (λ i within. let next = numbers (suc i)
     (omega arith) in omega (arith, next)))
 
-pub lines-are : (refunded n : ℕ) (settled : List Settled) (entries : List Entry) (parts : List EntryParts)
+pub lines-are : (refunded n : ℕ) (settled : List SettledPart) (entries : List Entry) (parts : List EntryParts)
     (lines : List EntryLine) → length entries ≡ n → AreNumbered entries → parts ≡ table settled n
     → lines ≡ map (λ (both : Entry × EntryParts). line_with refunded both.0 both.1) (zip entries parts)
     → lines ≡ map (line_among settled refunded) entries

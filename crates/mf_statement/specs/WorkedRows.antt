@@ -7,12 +7,13 @@ use Rattle.mf_catalog.specs.declared.terms.StrategyName.{StrategyName}
 use Rattle.mf_catalog.specs.declared.terms.StrategyName.TheVariants.{MifosStandard, PrincipalFirst, InterestFirst}
 use Rattle.mf_catalog.specs.declared.terms.StrategyName.TheVariants.{DueFirst}
 use Rattle.mf_alloc.specs.declared.row.Portion.{Portion}
-use Rattle.mf_alloc.specs.declared.row.Portion.TheVariants.{Penalty as PenaltyPart, Fee as FeePart, Interest, Principal}
+use Rattle.mf_alloc.specs.declared.row.Portion.TheVariants as portion
+use Rattle.mf_alloc.specs.declared.row.Portion.TheVariants.{Interest, Principal}
 use Rattle.mf_alloc.specs.declared.row.Share.{Share}
 use Rattle.mf_account.specs.declared.entry.Entry.{Entry}
 use Rattle.mf_account.specs.declared.entry.Kind.{Kind}
 use Rattle.mf_account.specs.declared.entry.Kind.TheVariants.{Repay, Fee, Penalty, Waive, WriteOff, Refund}
-use Rattle.mf_account.specs.Loan.{Loan}
+use Rattle.mf_account.specs.Loan.{DisbursedLoan}
 use Rattle.mf_statement.specs.declared.lines.EntryLine.{EntryLine}
 use Rattle.mf_statement.specs.declared.lines.InstalmentLine.{InstalmentLine}
 use Rattle.mf_statement.specs.Lines.{instalments_of, entries_of}
@@ -42,7 +43,7 @@ AreDays =
     × (day_of (record { year = 2024; month = 4; day = 30 }) ≡ april)
 
 -- the loan with entries, by a strategy
-abbrev pub loan_by : StrategyName → List Entry → Loan
+abbrev pub loan_by : StrategyName → List Entry → DisbursedLoan
 loan_by strategy entries = record {
   terms = record {
     method = EqualPrincipal;
@@ -62,7 +63,8 @@ loan_by strategy entries = record {
   entries = entries;
 }
 
-abbrev pub loan : List Entry → Loan
+-- the loan with entries, by the first strategy
+abbrev pub loan : List Entry → DisbursedLoan
 loan entries = loan_by MifosStandard entries
 
 -- an entry with its columns
@@ -80,8 +82,8 @@ entry seq kind day amount instalment portion reversed = record {
 }
 
 -- a repayment that stands
-abbrev pub repayment : ℕ → ℕ → ℕ → Entry
-repayment seq day amount = entry seq Repay day amount 0 Principal false
+abbrev pub worked_repayment : ℕ → ℕ → ℕ → Entry
+worked_repayment seq day amount = entry seq Repay day amount 0 Principal false
 
 -- the line of an entry
 abbrev pub line_told : Entry → ℕ → List Share → EntryLine
@@ -105,11 +107,11 @@ instalment number due penalties fees interest principal outstanding = record {
 
 -- two repayments, in the order of their days and the other way round
 abbrev pub first : ℕ → Entry
-first seq = repayment seq february 20000
+first seq = worked_repayment seq february 20000
 
 -- the second repayment, by its number
 abbrev pub second : ℕ → Entry
-second seq = repayment seq march 50000
+second seq = worked_repayment seq march 50000
 
 -- the first repayment's line
 abbrev pub first_told : ℕ → EntryLine
@@ -160,38 +162,39 @@ IsReversalTold =
     ∷ []
 
 -- a fee of 500 on instalment 2, then a repayment of all with an earlier day
-abbrev pub fee : Entry
-fee = entry 1 Fee march 500 2 FeePart false
+abbrev pub worked_fee : Entry
+worked_fee = entry 1 Fee march 500 2 portion.Fee false
 
 -- a repayment of more than all that is owed
 abbrev pub all : Entry
-all = repayment 2 february 102500
+all = worked_repayment 2 february 102500
 
 -- a fee, as it is shown
 abbrev pub IsFeeTold : Type 0
 IsFeeTold =
-    (entries_of (loan (fee ∷ all ∷ []))
-    ≡ line_told fee 500 (share 2 FeePart 500 ∷ [])
+    (entries_of (loan (worked_fee ∷ all ∷ []))
+    ≡ line_told worked_fee 500 (share 2 portion.Fee 500 ∷ [])
     ∷ line_told all 102500 (share 1 Interest 1000 ∷ share 1 Principal 33333 ∷ share 2 Interest 667
     ∷ share 2 Principal 33333 ∷ share 3 Interest 333 ∷ share 3 Principal 33334 ∷ [])
     ∷ [])
-    × (instalments_of (loan (fee ∷ [])) ≡ instalment 1 february 0 0 1000 33333 34333 ∷ instalment 2 march 0 500 667
+    × (instalments_of (loan (worked_fee ∷ [])) ≡ instalment 1 february 0 0 1000 33333 34333 ∷ instalment 2 march 0 500
+    667
     33333 34500 ∷ instalment 3 april 0 0 333 33334 33667 ∷ [])
 
 -- a penalty of 3433 on instalment 1, then a repayment
 abbrev pub penalty : Entry
-penalty = entry 1 Penalty march 3433 1 PenaltyPart false
+penalty = entry 1 Penalty march 3433 1 portion.Penalty false
 
 -- a repayment of less than an instalment
 abbrev pub little : Entry
-little = repayment 2 march 5000
+little = worked_repayment 2 march 5000
 
 -- a penalty, as it is shown
 abbrev pub IsPenaltyTold : Type 0
 IsPenaltyTold =
     (entries_of (loan (penalty ∷ little ∷ []))
     ≡ line_told penalty 3433 []
-    ∷ line_told little 5000 (share 1 PenaltyPart 3433 ∷ share 1 Interest 1000 ∷ share 1 Principal 567 ∷ [])
+    ∷ line_told little 5000 (share 1 portion.Penalty 3433 ∷ share 1 Interest 1000 ∷ share 1 Principal 567 ∷ [])
     ∷ [])
     × (instalments_of (loan (penalty ∷ little ∷ [])) ≡ instalment 1 february 3433 0 1000 33333 32766
     ∷ instalment 2 march 0 0 667 33333 34000 ∷ instalment 3 april 0 0 333 33334 33667 ∷ [])
@@ -201,16 +204,16 @@ abbrev pub waiver : Entry
 waiver = entry 1 Waive march 0 2 Interest false
 
 -- a repayment on a day before
-abbrev pub earlier : Entry
-earlier = repayment 2 february 40000
+abbrev pub earlier_repayment : Entry
+earlier_repayment = worked_repayment 2 february 40000
 
 -- a waiver, as it is shown
 abbrev pub IsWaiverTold : Type 0
 IsWaiverTold =
     (entries_of (loan (waiver ∷ [])) ≡ line_told waiver 667 (share 2 Interest 667 ∷ []) ∷ [])
-    × (entries_of (loan (waiver ∷ earlier ∷ []))
+    × (entries_of (loan (waiver ∷ earlier_repayment ∷ []))
     ≡ line_told waiver 0 []
-    ∷ line_told earlier 40000 (share 1 Interest 1000 ∷ share 1 Principal 33333 ∷ share 2 Interest 667
+    ∷ line_told earlier_repayment 40000 (share 1 Interest 1000 ∷ share 1 Principal 33333 ∷ share 2 Interest 667
     ∷ share 2 Principal 5000 ∷ [])
     ∷ [])
 
@@ -226,7 +229,7 @@ IsWriteOffTold =
 
 -- too much repaid and given back, and the refund reversed
 abbrev pub overpayment : Entry
-overpayment = repayment 1 march 110000
+overpayment = worked_repayment 1 march 110000
 
 -- the line of a repayment of more than all that is owed
 abbrev pub overpayment_told : EntryLine
@@ -248,24 +251,26 @@ IsRefundTold =
 -- a penalty of 3433 and a fee of 500 on instalment 1, then the second repayment, interest before principal, penalties
 -- and fees last: of 50000, 1000 + 33333 + 3433 + 500 = 38266 go to instalment 1, 667 and what is left, 11067, to
 -- instalment 2
-abbrev pub fee_on : ℕ → Entry
-fee_on number = entry 2 Fee march 500 number FeePart false
+abbrev pub fee_on_instalment : ℕ → Entry
+fee_on_instalment number = entry 2 Fee march 500 number portion.Fee false
 
+-- what is told of these three entries, interest before principal
 abbrev pub IsInterestFirstTold : Type 0
 IsInterestFirstTold =
-    entries_of (loan_by InterestFirst (penalty ∷ fee_on 1 ∷ second 3 ∷ []))
+    entries_of (loan_by InterestFirst (penalty ∷ fee_on_instalment 1 ∷ second 3 ∷ []))
     ≡ line_told penalty 3433 []
-    ∷ line_told (fee_on 1) 500 []
+    ∷ line_told (fee_on_instalment 1) 500 []
     ∷ line_told (second 3) 50000
-    (share 1 Interest 1000 ∷ share 1 Principal 33333 ∷ share 1 PenaltyPart 3433 ∷ share 1 FeePart 500
+    (share 1 Interest 1000 ∷ share 1 Principal 33333 ∷ share 1 portion.Penalty 3433 ∷ share 1 portion.Fee 500
     ∷ share 2 Interest 667 ∷ share 2 Principal 11067 ∷ [])
     ∷ []
 
 -- due first: on March 31 instalments 1 and 2 are due, a day before instalment 1 alone. Of 50000, interest is 1000 + 667
 -- on that day, and 33333 + 15000 principal; a day before it is 1000 and 33333, then 667 and 15000
 abbrev pub day_before : Entry
-day_before = repayment 1 8855 50000
+day_before = worked_repayment 1 8855 50000
 
+-- what is told of a repayment on a due day and on the day before, what is due first
 abbrev pub AreDueFirstTold : Type 0
 AreDueFirstTold =
     (entries_of (loan_by DueFirst (second 1 ∷ []))
@@ -278,15 +283,16 @@ AreDueFirstTold =
 -- with a penalty of 3433 on instalment 1 and a fee of 500 on instalment 2: of 80000, what is due takes
 -- 3433 + 500 + (1000 + 667) + (33333 + 33333) = 72266, and of the 7734 that are left instalment 3 gets 333 and 7401
 abbrev pub much : Entry
-much = repayment 3 march 80000
+much = worked_repayment 3 march 80000
 
+-- what is told of a penalty, a fee on the second instalment and that repayment, what is due first
 abbrev pub IsDueFirstTold : Type 0
 IsDueFirstTold =
-    entries_of (loan_by DueFirst (penalty ∷ fee_on 2 ∷ much ∷ []))
+    entries_of (loan_by DueFirst (penalty ∷ fee_on_instalment 2 ∷ much ∷ []))
     ≡ line_told penalty 3433 []
-    ∷ line_told (fee_on 2) 500 []
+    ∷ line_told (fee_on_instalment 2) 500 []
     ∷ line_told much 80000
-    (share 1 PenaltyPart 3433 ∷ share 2 FeePart 500 ∷ share 1 Interest 1000 ∷ share 2 Interest 667
+    (share 1 portion.Penalty 3433 ∷ share 2 portion.Fee 500 ∷ share 1 Interest 1000 ∷ share 2 Interest 667
     ∷ share 1 Principal 33333 ∷ share 2 Principal 33333
     ∷ share 3 Interest 333
     ∷ share 3 Principal 7401

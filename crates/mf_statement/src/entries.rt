@@ -4,12 +4,12 @@ ghost use Rattle.std.specs.Prelude.{◌≡◌, ◌+◌, ◌-◌, ◌<◌, ◌^�
 ghost use Rattle.std.specs.Prelude.{IsOkUnless};
 ghost use Rattle.std.specs.List.{zip};
 ghost use Rattle.mf_account.specs.Told.{settled_amount, IsNumberedTo, AreNumberedTo};
-ghost use Rattle.mf_statement.specs.Lines.{cleared_by_part as cleared_part, amount_told, entries_kept};
+ghost use Rattle.mf_statement.specs.Lines.{cleared_by_part, amount_told, entries_kept};
 ghost use Rattle.mf_statement.specs.Parts.{no_parts, with_part, table, line_with};
 
 use crate::lines::{EntryLine, EntryList};
 use crate::listing::Listing;
-use mf_account::{Entry, How, Kind, LoanAccount, Settled};
+use mf_account::{Entry, How, Kind, LoanAccount, SettledPart};
 use mf_alloc::Share;
 use mf_base::Fault;
 use std::alloc::Global;
@@ -23,8 +23,8 @@ struct EntryParts {
 }
 
 /// What a part waives or writes off.
-fn cleared(part: &Settled) -> u64
-    ensures { result ≡ cleared_part part.now }
+fn cleared_by_part(part: &SettledPart) -> u64
+    ensures { result ≡ cleared_by_part part.now }
 {
     match part.how {
         How::Paid => 0,
@@ -71,7 +71,7 @@ fn without_parts(alloc: Global, count: u32) -> Result<Vec<EntryParts>, Fault>
 }
 
 /// Adds a part to its entry's.
-fn add_part(all: &mut [EntryParts], part: &Settled) -> Result<(), Fault>
+fn add_part(all: &mut [EntryParts], part: &SettledPart) -> Result<(), Fault>
     requires number { IsNumberedTo (length all.old) part.now }
     requires small { (slice_index_or all.old (part.now.seq - 1) no_parts).cleared + part.now.amount < 2 ^ 64 }
     ensures added { OnOk result (all.new ≡ slice_set all.old (part.now.seq - 1)
@@ -79,12 +79,12 @@ fn add_part(all: &mut [EntryParts], part: &Settled) -> Result<(), Fault>
     ensures only { IsOkUnless result Fault.F20 }
 {
     let own = &mut all[(part.seq - 1) as usize];
-    own.cleared += cleared(part);
+    own.cleared += cleared_by_part(part);
     own.shares.push(part.share())
 }
 
 /// Adds parts to their entries', which have none.
-fn add_parts(all: &mut [EntryParts], parts: &[Settled]) -> Result<(), Fault>
+fn add_parts(all: &mut [EntryParts], parts: &[SettledPart]) -> Result<(), Fault>
     requires none { all.old ≡ table [] (length all.old) }
     requires small { settled_amount parts.now < 2 ^ 64 }
     requires numbers { AreNumberedTo (length all.old) parts.now }
@@ -98,7 +98,11 @@ fn add_parts(all: &mut [EntryParts], parts: &[Settled]) -> Result<(), Fault>
 }
 
 /// What the parts of each of so many entries come to, by the entries' numbers.
-fn parts_by_entry(alloc: Global, parts: &[Settled], count: u32) -> Result<Vec<EntryParts>, Fault>
+fn parts_by_entry(
+    alloc: Global,
+    parts: &[SettledPart],
+    count: u32,
+) -> Result<Vec<EntryParts>, Fault>
     requires small { settled_amount parts.now < 2 ^ 64 }
     requires numbers { AreNumberedTo count parts.now }
     ensures each { IfOk result (λ all. all.items ≡ table parts.now count) }

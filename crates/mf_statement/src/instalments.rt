@@ -2,19 +2,19 @@
 
 ghost use Rattle.std.specs.Prelude.{◌≡◌, ◌≢◌, ◌≤◌, ◌<◌, ◌^◌, ◌↔◌, length, None, Some, IsTrue, IfOk, IfSome, IsOkUnless};
 ghost use Rattle.mf_alloc.specs.Sums.{row_outstanding};
-ghost use Rattle.mf_account.specs.Loan.{Loan, IsSound, state_of_loan};
+ghost use Rattle.mf_account.specs.Loan.{DisbursedLoan, IsSoundDisbursed, state_of_loan};
 ghost use Rattle.mf_account.specs.Told.{IsRowSmall, AreRowsSmall};
-ghost use Rattle.mf_statement.specs.Lines.{instalment_line as line_of, instalments_from, instalments_of};
+ghost use Rattle.mf_statement.specs.Lines.{instalment_line, instalments_from, instalments_of};
 
 use crate::lines::{InstalmentLine, InstalmentList};
 use crate::listing::Listing;
 use mf_account::LoanAccount;
-use mf_alloc::{Portion, Row};
+use mf_alloc::{Instalment, Portion};
 use mf_base::Fault;
 use std::alloc::Global;
 
 /// What is outstanding of an instalment over all portions, in whole cents.
-fn outstanding(row: &Row) -> u64
+fn outstanding(row: &Instalment) -> u64
     requires { IsRowSmall row.now }
     ensures { result ≡ row_outstanding row.now }
 {
@@ -25,9 +25,9 @@ fn outstanding(row: &Row) -> u64
 }
 
 /// An instalment as it stands, with its number.
-fn instalment_line(number: u32, row: &Row) -> InstalmentLine
+fn instalment_line(number: u32, row: &Instalment) -> InstalmentLine
     requires { IsRowSmall row.now }
-    ensures { result ≡ line_of number row.now }
+    ensures { result ≡ instalment_line number row.now }
 {
     InstalmentLine {
         number,
@@ -38,7 +38,7 @@ fn instalment_line(number: u32, row: &Row) -> InstalmentLine
 }
 
 /// Instalments as they stand, numbered from 1.
-fn lines_of(alloc: Global, rows: &[Row]) -> Result<Vec<InstalmentLine>, Fault>
+fn lines_of(alloc: Global, rows: &[Instalment]) -> Result<Vec<InstalmentLine>, Fault>
     requires few { length rows.now ≤ 360 }
     requires small { AreRowsSmall rows.now }
     ensures lines { IfOk result (λ lines. lines.items ≡ instalments_from 1 rows.now) }
@@ -52,7 +52,7 @@ fn lines_of(alloc: Global, rows: &[Row]) -> Result<Vec<InstalmentLine>, Fault>
 }
 
 /// Whether what is outstanding of an instalment over all portions is less than 2^64 cents.
-fn is_small(row: &Row) -> bool
+fn is_small(row: &Instalment) -> bool
     ensures { IsTrue result ↔ IsRowSmall row.now }
 {
     let penalty = row.outstanding(Portion::Penalty) as u128;
@@ -63,7 +63,7 @@ fn is_small(row: &Row) -> bool
 }
 
 /// Whether instalments are no more than any loan's, each with less than 2^64 cents outstanding.
-fn are_tellable(rows: &[Row]) -> bool
+fn are_tellable(rows: &[Instalment]) -> bool
     ensures { IsTrue result ↔ ((length rows.now ≤ 360) × AreRowsSmall rows.now) }
 {
     rows.len() <= 360 && rows.iter().all(|row| is_small(row))
@@ -82,11 +82,11 @@ pub fn instalment_lines(alloc: Global, account: &LoanAccount) -> Result<Instalme
 /// 2^64 cents or more are outstanding. The only error is F20, out of memory.
 pub fn instalment_lines_of_rows(
     alloc: Global,
-    rows: &[Row],
+    rows: &[Instalment],
 ) -> Result<Option<InstalmentList>, Fault>
     ensures lines { IfOk result (λ found. IfSome found (λ lines. lines ≡ instalments_from 1 rows.now)) }
     ensures some { length rows.now ≤ 360 → AreRowsSmall rows.now → IfOk result (λ found. found ≢ None) }
-    ensures loan { (loan : Loan) → IsSound loan → rows.now ≡ (state_of_loan loan).rows
+    ensures loan { (loan : DisbursedLoan) → IsSoundDisbursed loan → rows.now ≡ (state_of_loan loan).rows
         → IfOk result (λ found. found ≡ Some (instalments_of loan)) }
     ensures only { IsOkUnless result Fault.F20 }
 {

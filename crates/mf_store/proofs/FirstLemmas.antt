@@ -8,7 +8,7 @@ use Rattle.sqlite_catalog.specs.Listing.{IsSound as IsSoundListing}
 use Rattle.mf_store_sql.specs.Writes.{Serves, AllFit, after_all, Turns, MayHold}
 use Rattle.mf_model.specs.Institution.{newly_made}
 use Rattle.mf_model.specs.Sound.{IsSound}
-use Rattle.mf_store_schema.specs.Writes.{schema_of, Holds, after, Fits}
+use Rattle.mf_store_schema.specs.Writes.{schema_of, Holds, after_write, FitsLists}
 use Rattle.mf_store_schema.specs.declared.writes.StoreWrite.{StoreWrite}
 use Rattle.mf_store_schema.proofs.CallLemmas.{only_faults_shut}
 use Rattle.mf_store_commits.specs.Tabled.{IsTabled, IsUnfounded}
@@ -16,20 +16,20 @@ use Rattle.mf_store_commits.specs.Becoming.{Begins}
 
 module _ {S : Type 0} (g : Ghosts S) (old new : Held S) (writes : List StoreWrite) (day : ℕ) where
   pub founded_stands : Begins writes day → IsSound (newly_made day) → Turns (Serves schema_of Holds)
-      (AllFit after Fits writes) (after_all after writes) (state g old).now (state g new).now
+      (AllFit after_write FitsLists writes) (after_all after_write writes) (state g old).now (state g new).now
       → Serves schema_of Holds (state g old).now None → IsTabled g new (newly_made day)
   founded_stands b sound turns none = record {
     sound = sound;
     serves = λ live. subst (λ lists. Serves schema_of Holds (state g new).now lists) b.is (turns None none b.fits);
   }
 
--- the writes that failed may have been committed, all of them
-module _ {S : Type 0} (g : Ghosts S) (old new : Held S) (writes : List StoreWrite) (day : ℕ) where
+  -- the writes that failed may have been committed, all of them
   pub unfounded : Begins writes day → (HasCleanDisk (state g new) → IsTrue (state g new).is_open
       → IsTrue (state g old).is_open) → (HasCleanDisk (state g new) → IsTrue (state g new).is_open → (state g new).now
       ≡ (state g old).now)
-      → Survives (state g old) (state g new) (MayHold (Serves schema_of Holds) Holds (AllFit after Fits writes)
-      (after_all after writes) (state g old)) → IsUnfounded g day old new
+      → Survives (state g old) (state g new)
+      (MayHold (Serves schema_of Holds) Holds (AllFit after_write FitsLists writes)
+      (after_all after_write writes) (state g old)) → IsUnfounded g day old new
   unfounded b was_open same survives = record {
     premise = λ clean. omega (arith, survives.clean, clean);
     was_open = was_open;

@@ -1,8 +1,9 @@
 -- What a store stands for, with what it knows, after a query and after a commit.
-use Rattle.std.proofs.Common.{◌≡◌, ◌≢◌, ◌⊎◌, inl, inr, ◌-◌, ◌∷◌, ℕ, zero, suc, Bool, true, false, true≢false, cond}
+use Rattle.std.proofs.Common.{◌≡◌, ◌≢◌, ◌-◌, ◌∷◌, ℕ, zero, suc, Bool, true, false, true≢false, cond}
 use Rattle.std.proofs.Common.{List, [], take, Option, None, Some, Result, Ok, Err, OnOk, OnErr, IsSome, IsTrue, IfErr}
 use Rattle.std.proofs.Common.{IsOk, refl, sym, ap, ap₂, ◌∙◌, subst, arith, nat_eq, ◌==◌}
-use Rattle.std.specs.Option.{option_map_or}
+use Rattle.std.specs.Option.{option_map, option_map_or}
+use Rattle.std.specs.Prelude.{IfSome}
 use Rattle.std.specs.Map.{keys_of, lookup, lookup_entry, remove_entry}
 use Rattle.std.specs.List.{IsDistinct}
 use Rattle.std.proofs.lemmas.Map.{lookup-remove_entry}
@@ -15,24 +16,23 @@ use Rattle.lru.specs.LruCache.{LruCache, lru_cache, put_entries}
 use Rattle.lru.proofs.CallerLemmas.{Contains-lookup_entry, lookup-put_entries}
 use Rattle.sqlite.specs.Held.{Held, state}
 use Rattle.sqlite_trees.specs.declared.store.Store.{Ghosts}
-use Rattle.mf_model.specs.Institution.{Institution, product_in}
+use Rattle.mf_model.specs.Institution.{Institution}
 use Rattle.mf_model.specs.declared.store.Counts.{Counts}
-use Rattle.mf_office.specs.declared.staff.Role.{Role}
-use Rattle.mf_office.specs.declared.caller.Caller.{Caller}
 use Rattle.mf_office.specs.declared.account.Account.{Account}
-use Rattle.mf_account.specs.Change.{Account as Kept}
-use Rattle.mf_catalog.specs.declared.product.Product.{Product}
+use Rattle.mf_account.specs.Change.{KeptAccount}
 use Rattle.mf_base.specs.declared.fault.Fault.{Fault}
 use Rattle.mf_base.specs.declared.fault.Fault.TheVariants.{F20}
 use Rattle.mf_model.specs.declared.commit.Commit.{Commit}
-use Rattle.mf_model.specs.Store.{Commits, IsAdmitted, after_commit, account_at, counts_at, role_of}
-use Rattle.mf_store_schema.specs.Calls.{OnlyFaultsShut}
-use Rattle.mf_store.specs.Facts.{Facts, KnownStore, AreTrueOf, account_key, caller_key, same_key, nothing_known}
-use Rattle.mf_store_values.specs.Flat.{key_at}
-use Rattle.mf_store.specs.Learning.{Tells}
-use Rattle.mf_store.specs.declared.known.News.TheVariants.{Nothing, OfficeCounts, BusinessDay}
+use Rattle.mf_model.specs.Store.{Commits, IsAdmitted, after_commit, account_at, counts_at, catalogue_counts}
+use Rattle.mf_store.specs.Facts.{Facts, KnownStore, AreTrueOf, account_key, same_key, nothing_known}
+use Rattle.mf_store.proofs.CatalogueLemmas.{some_is}
+use Rattle.mf_store.specs.Learning.{Tells, counts_told, catalogue_told, day_told}
+use Rattle.mf_store.specs.declared.known.News.{News}
+use Rattle.mf_store.specs.declared.known.News.TheVariants.{OfficeCounts, BusinessDay}
 use Rattle.mf_store.specs.declared.known.News.TheVariants as news
-use Rattle.mf_store_commits.specs.Tabled.{IsTabled, HasGoodDisk, LeavesTables, StayTabled}
+use Rattle.mf_store_commits.specs.Tabled.{IsTabled, HasGoodDisk, LeavesTables}
+use Rattle.mf_store_commits.proofs.StandLemmas.{unchanged_stays}
+use Rattle.mf_store_schema.specs.Calls.{IsAsBefore, OnlyFaultsShut}
 use Rattle.mf_store.specs.Stands.{StandsFor, IsClean, Leaves, IsOpen, IsOpenUntil, Stays, AsksTables, MayAskTables}
 
 module _ {S : Type 0} (g : Ghosts S) where
@@ -55,24 +55,16 @@ module _ {S : Type 0} (g : Ghosts S) where
 module _ {K V : Type 0} (eq : K → K → Bool) (exact : (a b : K) → eq a b ≡ true → a ≡ b) where
   other_kept : (x y : K) (es : List (K × V)) → x ≢ y → lookup (eq y) (remove_entry (eq x) es) ≡ lookup (eq y) es
   other_kept x y [] ne = refl
-  other_kept x y (e ∷ es) ne = go (eq x e.0) refl (other_kept x y es ne)
-    where
-      go : (b : Bool) → eq x e.0 ≡ b → lookup (eq y) (remove_entry (eq x) es) ≡ lookup (eq y) es
-          → lookup (eq y) (cond b es (e ∷ remove_entry (eq x) es)) ≡ lookup (eq y) (e ∷ es)
-      go true is rest = sym (ap (λ b. cond b (Some e.1) (lookup (eq y) es)) (false_from_ne_true (eq y e.0)
-          (λ also. ne (exact x e.0 is ∙ sym (exact y e.0 also)))))
-      go false is rest = ap (λ o. cond (eq y e.0) (Some e.1) o) rest
+  other_kept x y (e ∷ es) ne =
+      let apart : eq x e.0 ≡ true → eq y e.0 ≡ false = λ is. false_from_ne_true (eq y e.0)
+      (λ also. ne (exact x e.0 is ∙ sym (exact y e.0 also))) in
+      grind (arith, apart, other_kept x y es ne)
 
   taken_there : (n : ℕ) (y : K) (es : List (K × V)) (v : V) → lookup (eq y) (take n es) ≡ Some v → lookup (eq y) es
       ≡ Some v
   taken_there zero y es v h = absurd (let k : None ≡ Some v = h in cc)
   taken_there (suc n) y [] v h = h
-  taken_there (suc n) y (e ∷ es) v h = go (eq y e.0) h (λ k. taken_there n y es v k)
-    where
-      go : (b : Bool) → cond b (Some e.1) (lookup (eq y) (take n es)) ≡ Some v → (lookup (eq y) (take n es) ≡ Some v
-          → lookup (eq y) es ≡ Some v) → cond b (Some e.1) (lookup (eq y) es) ≡ Some v
-      go true h more = h
-      go false h more = more h
+  taken_there (suc n) y (e ∷ es) v h = grind (arith, taken_there n y es v)
 
   -- what is found of another key was found before
   put_other : (c : LruCache K V) (x : K) (v : V) (y : K) (w : V) → x ≢ y → lookup (eq y) (put_entries eq c x v) ≡ Some w
@@ -92,8 +84,43 @@ module _ {K V : Type 0} (eq : K → K → Bool) (exact : (a b : K) → eq a b �
           false_from_ne_true (eq y f.0) (λ also. ne (exact x f.0 key ∙ sym (exact y f.0 also))) in
           sym (other_kept x y c.entries ne) ∙ (rw other at h)
 
-nat_exact : (a b : ℕ) → nat_eq a b ≡ true → a ≡ b
+pub nat_exact : (a b : ℕ) → nat_eq a b ≡ true → a ≡ b
 nat_exact a b is = grind (arith, nat_tests)
+
+pub key_exact : (a b : ℕ × ℕ) → same_key a b ≡ true → a ≡ b
+key_exact a b is =
+    let office : a.0 ≡ b.0 = grind (arith, nat_tests) in
+    let staff : a.1 ≡ b.1 = grind (arith, nat_tests) in
+    ap₂ (λ x y. (x, y)) office staff
+
+pub key_laws : IsEquivalence same_key
+key_laws = record {
+  refl = λ x. grind (arith, nat_tests);
+  symm = λ x y. ap₂ (λ a b. a && b) (nat_eq_equiv.symm x.0 y.0) (nat_eq_equiv.symm x.1 y.1);
+  congr = λ x y z is. ap (λ k. same_key k z) (key_exact x y is);
+}
+
+-- what holds of each key and its value does so once a value is kept under x, or could not be
+pub put_true : {K V R E : Type 0} (eq : K → K → Bool) (exact : (a b : K) → eq a b ≡ true → a ≡ b)
+    (laws : IsEquivalence eq) (P : K → V → Type 0) (old new : LruCache K V) (x : K) (v : V) (r : Result R E)
+    → OnOk r (new ≡ lru_cache (put_entries eq old x v) old.cap) → OnErr r (new ≡ old) → P x v
+    → ((y : K) (w : V) → (x ≡ y → IsOk r → ⊥) → lookup (eq y) old.entries ≡ Some w → P y w)
+    → (y : K) (w : V) → lookup (eq y) new.entries ≡ Some w → P y w
+put_true {K} {V} eq exact laws P old new x v (Ok o) ok err here before y w h = go (eq x y) refl
+  where
+    found : lookup (eq y) (put_entries eq old x v) ≡ Some w
+    found = sym (ap (λ (n : LruCache K V). lookup (eq y) n.entries) ok) ∙ h
+
+    go : (b : Bool) → eq x y ≡ b → P y w
+    go true e =
+        let same : x ≡ y = exact x y e in
+        let is : w ≡ v = some_is (sym (lookup-put_entries eq old x v laws)
+        ∙ (λ k. lookup (eq (same k)) (put_entries eq old x v)) ∙ found) in
+        subst (λ z. P z w) same (subst (P x) (sym is) here)
+    go false e = let ne : x ≢ y = (λ same. true≢false (sym (laws.refl x) ∙ ap (eq x) same ∙ e)) in
+        before y w (λ same is. ne same) (put_other eq exact old x v y w ne found)
+put_true {K} {V} eq exact laws P old new x v (Err e) ok err here before y w h = before y w
+    (λ same is. true≢false (sym is)) (sym (ap (λ (n : LruCache K V). lookup (eq y) n.entries) err) ∙ h)
 
 -- what is known of the offices' rows, once one office's were kept, or could not be
 pub counts_learnt : {E : Type 0} (old new : LruCache ℕ Counts) (x : ℕ) (v : Counts) (r : Result (Option Counts) E)
@@ -103,152 +130,77 @@ pub counts_learnt : {E : Type 0} (old new : LruCache ℕ Counts) (x : ℕ) (v : 
     → ((y : ℕ) (c : Counts) → lookup (nat_eq y) old.entries ≡ Some c → c ≡ counts_at y i)
     → ((y : ℕ) → counts_at y j ≡ cond (x == y) v (counts_at y i))
     → (y : ℕ) (c : Counts) → lookup (nat_eq y) new.entries ≡ Some c → c ≡ counts_at y j
-counts_learnt old new x v (Ok o) i j ok err there known told y c h = go (x == y) refl (told y)
+counts_learnt old new x v r i j ok err there known told =
+    put_true nat_eq nat_exact nat_eq_equiv (λ y c. c ≡ counts_at y j) old new x v r ok err
+    (sym (told x ∙ told_where x true (grind (arith, nat_tests))))
+    (λ y c other h. known y c h ∙ sym (told y ∙ told_where y false (apart y c other h)))
   where
-    found : lookup (nat_eq y) (put_entries nat_eq old x v) ≡ Some c
-    found = sym (ap (λ (n : LruCache ℕ Counts). lookup (nat_eq y) n.entries) ok) ∙ h
+    told_where : (y : ℕ) (b : Bool) → (x == y) ≡ b → cond (x == y) v (counts_at y i) ≡ cond b v (counts_at y i)
+    told_where y b e = ap (λ t. cond t v (counts_at y i)) e
 
-    go : (b : Bool) → (x == y) ≡ b → counts_at y j ≡ cond b v (counts_at y i) → c ≡ counts_at y j
-    go true e t =
-        let same : x ≡ y = grind (arith, nat_tests) in
-        let is : Some v ≡ Some c = sym (lookup-put_entries nat_eq old x v nat_eq_equiv)
-        ∙ (λ k. lookup (nat_eq (same k)) (put_entries nat_eq old x v)) ∙ found in
-        let value : v ≡ c = cc in
-        sym value ∙ sym t
-    go false e t = let ne : x ≢ y =
-        grind (arith, nat_tests) in known y c (put_other nat_eq nat_exact old x v y c ne found) ∙ sym t
-counts_learnt old new x v (Err e) i j ok err there known told y c h = go (x == y) refl (told y)
-  where
-    found : lookup (nat_eq y) old.entries ≡ Some c
-    found = sym (ap (λ (n : LruCache ℕ Counts). lookup (nat_eq y) n.entries) err) ∙ h
+    apart : (y : ℕ) (c : Counts) → (x ≡ y → IsOk r → ⊥) → lookup (nat_eq y) old.entries ≡ Some c → (x == y) ≡ false
+    apart y c other h = let ne : x ≢ y = λ same. other same (there (subst (λ o. IsSome o)
+        (sym ((λ k. lookup (nat_eq (same k)) old.entries) ∙ h)) refl)) in grind (arith, nat_tests)
 
-    go : (b : Bool) → (x == y) ≡ b → counts_at y j ≡ cond b v (counts_at y i) → c ≡ counts_at y j
-    go true e t =
-        let same : x ≡ y = grind (arith, nat_tests) in
-        absurd (true≢false
-        (sym (there (subst (λ o. IsSome o) (sym ((λ k. lookup (nat_eq (same k)) old.entries) ∙ found)) refl))))
-    go false e t = known y c found ∙ sym t
-
--- what was kept is what is found
-pub some_is : {A : Type 0} {a b : A} → Some a ≡ Some b → b ≡ a
-some_is h = cc
-
--- what is found once something was kept, or could not be
-pub put_found : {K V R E : Type 0} (eq : K → K → Bool) (exact : (a b : K) → eq a b ≡ true → a ≡ b)
-    (laws : IsEquivalence eq) (old new : LruCache K V) (x : K) (v : V) (r : Result R E)
-    → OnOk r (new ≡ lru_cache (put_entries eq old x v) old.cap) → OnErr r (new ≡ old)
-    → (y : K) (w : V) → lookup (eq y) new.entries ≡ Some w → ((x ≡ y) × (w ≡ v)) ⊎ (lookup (eq y) old.entries ≡ Some w)
-put_found {K} {V} eq exact laws old new x v (Ok o) ok err y w h = go (eq x y) refl
-  where
-    found : lookup (eq y) (put_entries eq old x v) ≡ Some w
-    found = sym (ap (λ (n : LruCache K V). lookup (eq y) n.entries) ok) ∙ h
-
-    go : (b : Bool) → eq x y ≡ b → ((x ≡ y) × (w ≡ v)) ⊎ (lookup (eq y) old.entries ≡ Some w)
-    go true e =
-        let same : x ≡ y = exact x y e in
-        inl (
-          same,
-          some_is (sym (lookup-put_entries eq old x v laws)
-              ∙ (λ k. lookup (eq (same k)) (put_entries eq old x v)) ∙ found),
-        )
-    go false e = let ne : x ≢ y =
-        (λ same. true≢false (sym (laws.refl x) ∙ ap (eq x) same ∙ e)) in inr (put_other eq exact old x v y w ne found)
-put_found {K} {V} eq exact laws old new x v (Err e) ok err y w h =
-    inr (sym (ap (λ (n : LruCache K V). lookup (eq y) n.entries) err) ∙ h)
-
--- ---- the keys of callers
-
-key_exact : (a b : ℕ × ℕ) → same_key a b ≡ true → a ≡ b
-key_exact a b is =
-    let office : a.0 ≡ b.0 = grind (arith, nat_tests) in
-    let staff : a.1 ≡ b.1 = grind (arith, nat_tests) in
-    ap₂ (λ x y. (x, y)) office staff
-
-key_laws : IsEquivalence same_key
-key_laws = record {
-  refl = λ x. grind (arith, nat_tests);
-  symm = λ x y. ap₂ (λ a b. a && b) (nat_eq_equiv.symm x.0 y.0) (nat_eq_equiv.symm x.1 y.1);
-  congr = λ x y z is. ap (λ k. same_key k z) (key_exact x y is);
+-- what is known stays so where the accounts are others that are so
+pub accounts_become : (f : Facts) (i : Institution) (accounts : List ((ℕ × ℕ) × KeptAccount)) → AreTrueOf f i
+    → ((a : Account) (x : KeptAccount) → lookup (same_key (account_key a)) accounts ≡ Some x → account_at a i ≡ Some x)
+    → AreTrueOf (record f { accounts = accounts }) i
+accounts_become f i accounts known so = record {
+  counts = known.counts;
+  catalogue = known.catalogue;
+  day = known.day;
+  roles = known.roles;
+  keys = known.keys;
+  products = known.products;
+  accounts = so;
 }
 
-pub roles_learnt : {E : Type 0} (old new : LruCache (ℕ × ℕ) Role) (caller : Caller) (role : Role)
-    (r : Result (Option Role) E) (i : Institution)
-    → OnOk r (new ≡ lru_cache (put_entries same_key old (caller_key caller) role) old.cap) → OnErr r (new ≡ old)
-    → role_of caller i ≡ Some role
-    → ((c : Caller) (w : Role) → lookup (same_key (caller_key c)) old.entries ≡ Some w → role_of c i ≡ Some w)
-    → (c : Caller) (w : Role) → lookup (same_key (caller_key c)) new.entries ≡ Some w → role_of c i ≡ Some w
-roles_learnt old new caller role r i ok err so known c w h =
-    elim (put_found same_key key_exact key_laws old new (caller_key caller) role r ok err (caller_key c) w h) [
-      | inl same ↦ sym (λ k. role_of (record { office = (same.0 k).0; staff = (same.0 k).1 }) i) ∙ so
-          ∙ ap Some (sym same.1)
-      | inr before ↦ known c w before
-    ]
-
-pub keys_learnt : {E : Type 0} (old new : LruCache ℕ (List ℕ)) (x : ℕ) (key : List ℕ) (r : Result (Option (List ℕ)) E)
-    (i : Institution)
-    → OnOk r (new ≡ lru_cache (put_entries nat_eq old x key) old.cap) → OnErr r (new ≡ old) → key_at x i ≡ Some key
-    → ((y : ℕ) (w : List ℕ) → lookup (nat_eq y) old.entries ≡ Some w → key_at y i ≡ Some w)
-    → (y : ℕ) (w : List ℕ) → lookup (nat_eq y) new.entries ≡ Some w → key_at y i ≡ Some w
-keys_learnt old new x key r i ok err so known y w h =
-    elim (put_found nat_eq nat_exact nat_eq_equiv old new x key r ok err y w h) [
-      | inl same ↦ sym (ap (λ z. key_at z i) same.0) ∙ so ∙ ap Some (sym same.1)
-      | inr before ↦ known y w before
-    ]
-
-pub products_learnt : {E : Type 0} (old new : LruCache ℕ Product) (x : ℕ) (product : Product)
-    (r : Result (Option Product) E) (i : Institution)
-    → OnOk r (new ≡ lru_cache (put_entries nat_eq old x product) old.cap) → OnErr r (new ≡ old)
-    → product_in i.catalogue x ≡ Some product
-    → ((n : ℕ) (p : Product) → lookup (nat_eq n) old.entries ≡ Some p → product_in i.catalogue n ≡ Some p)
-    → (n : ℕ) (p : Product) → lookup (nat_eq n) new.entries ≡ Some p → product_in i.catalogue n ≡ Some p
-products_learnt old new x product r i ok err so known n p h =
-    elim (put_found nat_eq nat_exact nat_eq_equiv old new x product r ok err n p h) [
-      | inl same ↦ sym (ap (λ z. product_in i.catalogue z) same.0) ∙ so ∙ ap Some (sym same.1)
-      | inr before ↦ known n p before
-    ]
-
-pub accounts_learnt : {R E : Type 0} (old new : LruCache (ℕ × ℕ) Kept) (loan : Account) (account : Kept)
+-- the accounts, once one was kept, or could not be
+pub accounts_learnt : {R E : Type 0} (old new : LruCache (ℕ × ℕ) KeptAccount) (loan : Account) (account : KeptAccount)
     (r : Result R E) (i : Institution)
     → OnOk r (new ≡ lru_cache (put_entries same_key old (account_key loan) account) old.cap) → OnErr r (new ≡ old)
     → account_at loan i ≡ Some account
-    → ((a : Account) (x : Kept) → lookup (same_key (account_key a)) old.entries ≡ Some x → account_at a i ≡ Some x)
-    → (a : Account) (x : Kept) → lookup (same_key (account_key a)) new.entries ≡ Some x → account_at a i ≡ Some x
-accounts_learnt old new loan account r i ok err so known a x h =
-    elim (put_found same_key key_exact key_laws old new (account_key loan) account r ok err (account_key a) x h) [
-      | inl same ↦ sym (λ k. account_at (record { office = (same.0 k).0; number = (same.0 k).1 }) i) ∙ so
-          ∙ ap Some (sym same.1)
-      | inr before ↦ known a x before
-    ]
+    → ((a : Account) (x : KeptAccount) → lookup (same_key (account_key a)) old.entries ≡ Some x → account_at a i
+    ≡ Some x)
+    → (a : Account) (x : KeptAccount) → lookup (same_key (account_key a)) new.entries ≡ Some x → account_at a i ≡ Some x
+accounts_learnt old new loan account r i ok err so known a =
+    put_true same_key key_exact key_laws (λ k x. account_at (record { office = k.0; number = k.1 }) i ≡ Some x) old new
+    (account_key loan) account r ok err so (λ k x other. known (record { office = k.0; number = k.1 }) x)
+    (account_key a)
 
--- a key that is taken out is there no more, and the others find what they found
-key_gone : {V : Type 0} (k : ℕ × ℕ) (es : List ((ℕ × ℕ) × V)) → IsDistinct same_key (keys_of es)
-    → lookup (same_key k) (remove_entry (same_key k) es) ≡ None
-key_gone {V} k es apart = lookup-remove_entry key_laws (same_key k) (λ x y is. ap (λ z. same_key z y)
-    (key_exact k x is)) k es apart ∙ ap (λ b. cond {A = Option V} b None (lookup (same_key k) es)) (key_laws.refl k)
+-- an account that is known is the loan's
+pub account_known : {R : Type 0} (copy : R → KeptAccount) (f : Facts) (i : Institution) (loan : Account) (r : Option R)
+    → AreTrueOf f i → option_map copy r ≡ lookup (same_key (account_key loan)) f.accounts
+    → IfSome r (λ x. account_at loan i ≡ Some (copy x))
+account_known copy f i loan None known is = tt
+account_known copy f i loan (Some x) known is = known.accounts loan (copy x) (sym is)
 
-key_stays : {V : Type 0} (k q : ℕ × ℕ) (es : List ((ℕ × ℕ) × V)) (v : V) → IsDistinct same_key (keys_of es)
-    → lookup (same_key q) (remove_entry (same_key k) es) ≡ Some v → lookup (same_key q) es ≡ Some v
-key_stays {V} k q es v apart h = go (same_key k q) (sym (lookup-remove_entry key_laws (same_key k) (λ x y is. ap
-    (λ z. same_key z y) (key_exact k x is)) q es apart) ∙ h)
-  where
-    go : (b : Bool) → cond {A = Option V} b None (lookup (same_key q) es) ≡ Some v → lookup (same_key q) es ≡ Some v
-    go true h = absurd (let never : None ≡ Some v = h in cc)
-    go false h = h
+-- what is found once a key is taken out
+taken_out : {V : Type 0} (old new : LruCache (ℕ × ℕ) V) (k : ℕ × ℕ) (cap : ℕ) → IsDistinct same_key (keys_of
+    old.entries) → new ≡ lru_cache (remove_entry (same_key k) old.entries) cap → (q : ℕ × ℕ)
+    → lookup (same_key q) new.entries ≡ cond (same_key k q) None (lookup (same_key q) old.entries)
+taken_out {V} old new k cap apart is q =
+    ap (λ (n : LruCache (ℕ × ℕ) V). lookup (same_key q) n.entries) is ∙ lookup-remove_entry key_laws (same_key k)
+    (λ x y e. ap (λ z. same_key z y) (key_exact k x e)) q old.entries apart
 
--- the accounts that are left once one is taken out
-pub accounts_left : (old new : LruCache (ℕ × ℕ) Kept) (k : ℕ × ℕ) (cap : ℕ) (i : Institution)
+-- the accounts that are left are so
+pub accounts_left : (old new : LruCache (ℕ × ℕ) KeptAccount) (k : ℕ × ℕ) (cap : ℕ) (i : Institution)
     → IsDistinct same_key (keys_of old.entries) → new ≡ lru_cache (remove_entry (same_key k) old.entries) cap
-    → ((a : Account) (x : Kept) → lookup (same_key (account_key a)) old.entries ≡ Some x → account_at a i ≡ Some x)
-    → (a : Account) (x : Kept) → lookup (same_key (account_key a)) new.entries ≡ Some x → account_at a i ≡ Some x
-accounts_left old new k cap i apart is known a x h = known a x (key_stays k (account_key a) old.entries x apart
-    (sym (ap (λ (n : LruCache (ℕ × ℕ) Kept). lookup (same_key (account_key a)) n.entries) is) ∙ h))
+    → ((a : Account) (x : KeptAccount) → lookup (same_key (account_key a)) old.entries ≡ Some x → account_at a i
+    ≡ Some x)
+    → (a : Account) (x : KeptAccount) → lookup (same_key (account_key a)) new.entries ≡ Some x → account_at a i ≡ Some x
+accounts_left old new k cap i apart is known a x h =
+    let left : cond (same_key k (account_key a)) None (lookup (same_key (account_key a)) old.entries) ≡ Some x =
+    sym (taken_out old new k cap apart is (account_key a)) ∙ h in
+    known a x (grind (arith, left))
 
 -- and that one is none of them
-pub account_gone : (old new : LruCache (ℕ × ℕ) Kept) (k : ℕ × ℕ) (cap : ℕ)
+pub account_gone : (old new : LruCache (ℕ × ℕ) KeptAccount) (k : ℕ × ℕ) (cap : ℕ)
     → IsDistinct same_key (keys_of old.entries) → new ≡ lru_cache (remove_entry (same_key k) old.entries) cap
     → lookup (same_key k) new.entries ≡ None
-account_gone old new k cap apart is =
-    ap (λ (n : LruCache (ℕ × ℕ) Kept). lookup (same_key k) n.entries) is ∙ key_gone k old.entries apart
+account_gone old new k cap apart is = taken_out old new k cap apart is k
+    ∙ ap (λ b. cond b None (lookup (same_key k) old.entries)) (key_laws.refl k)
 
 -- nothing is found once all is forgotten
 pub forgotten : {K V : Type 0} (test : K → Bool) (new : LruCache K V) (cap : ℕ) (v : V) (P : Type 0)
@@ -272,21 +224,19 @@ account_still loan f i j gone k t = record {
   accounts = λ a x e. t.accounts a x (another a x e) (k.accounts a x e);
 }
   where
-    another : (a : Account) (x : Kept) → lookup (same_key (account_key a)) f.accounts ≡ Some x
+    another : (a : Account) (x : KeptAccount) → lookup (same_key (account_key a)) f.accounts ≡ Some x
         → not (same_key (account_key loan) (account_key a)) ≡ true
-    another a x e = go (same_key (account_key loan) (account_key a)) refl
-      where
-        go : (b : Bool) → same_key (account_key loan) (account_key a) ≡ b → not b ≡ true
-        go true is = absurd (let never : None ≡ Some x = sym gone
-            ∙ ap (λ k. lookup (same_key k) f.accounts) (key_exact (account_key loan) (account_key a) is) ∙ e in cc)
-        go false is = refl
+    another a x e = ap not (false_from_ne_true (same_key (account_key loan) (account_key a)) (λ is.
+        let never : None ≡ Some x = sym gone ∙ ap (λ k. lookup (same_key k) f.accounts)
+        (key_exact (account_key loan) (account_key a) is) ∙ e in cc))
 
--- nothing is new of a loan
-tells_same : (loan : Account) (i : Institution) → Tells (news.Account loan) i i
-tells_same loan i = record {
-  counts = λ y. refl;
-  catalogue = refl;
-  day = refl;
+-- news of an institution that stays
+told : (n : News) (i : Institution) → ((x : ℕ) → counts_at x i ≡ counts_told n x (counts_at x i)) → catalogue_counts i
+    ≡ catalogue_told n (catalogue_counts i) → i.catalogue.day ≡ day_told n i.catalogue.day → Tells n i i
+told n i counts catalogue day = record {
+  counts = counts;
+  catalogue = catalogue;
+  day = day;
   roles = λ c r h. h;
   keys = λ x k h. h;
   products = λ t n p h. h;
@@ -310,27 +260,23 @@ module _ {S : Type 0} (g : Ghosts S) where
   shuts_alike old new h n o = (o.0, h n o.0 o.1)
 
   -- the tables stay, and what is known
-  pub known_stays : (old new : Held S) (f : Facts) → StayTabled g old new
+  pub known_stays : (old new : Held S) (f : Facts) → IsAsBefore (state g old) (state g new)
       → Stays g (record { connection = old; known = f }) (record { connection = new; known = f })
-  known_stays old new f t = record {
-    premise = t.premise;
-    shuts = shuts_alike old new t.shuts;
-    same = λ clean i s. let k = t.same clean i (tabled g (record { connection = old; known = f }) i s) in
-        record { sound = k.sound; serves = k.serves; knows = s.knows };
-    stop = t.stop;
-  }
+  known_stays old new f u =
+      let t = unchanged_stays g old new u in
+      record {
+        premise = t.premise;
+        shuts = shuts_alike old new t.shuts;
+        same = λ clean i s. let k = t.same clean i (tabled g (record { connection = old; known = f }) i s) in
+            record { sound = k.sound; serves = k.serves; knows = s.knows };
+        stop = t.stop;
+      }
 
-  pub known_asks : {R : Type 0} (old new : Held S) (f : Facts) (r : Result R Fault) → StayTabled g old new
-      → IfErr r (λ fault. fault ≡ F20) → (HasGoodDisk g new → OnOk r (IsTrue (state g new).is_open))
+  pub known_asks : {R : Type 0} (old new : Held S) (f : Facts) (r : Result R Fault) → IsAsBefore (state g old)
+      (state g new) → IfErr r (λ fault. fault ≡ F20) → (HasGoodDisk g new → OnOk r (IsTrue (state g new).is_open))
       → AsksTables g (record { connection = old; known = f }) (record { connection = new; known = f }) r
-  known_asks old new f r t gives_up is_open =
-      record { kept = known_stays old new f t; gives_up = gives_up; stays_open = is_open }
-
-  pub known_made : (old new : Held S) (f e : Facts) (i j : Institution) → StandsFor g (record {
-    connection = old;
-    known = f;
-  }) i → IsTabled g new j → AreTrueOf e j → StandsFor g (record { connection = new; known = e }) j
-  known_made old new f e i j s t k = record { sound = t.sound; serves = t.serves; knows = k }
+  known_asks old new f r u gives_up is_open =
+      record { kept = known_stays old new f u; gives_up = gives_up; stays_open = is_open }
 
   pub known_unmade : (old new : Held S) (f : Facts) → ((i : Institution) → IsTabled g old i → IsTabled g new i)
       → (i : Institution) → StandsFor g (record { connection = old; known = f }) i
@@ -339,7 +285,7 @@ module _ {S : Type 0} (g : Ghosts S) where
       record { sound = t.sound; serves = t.serves; knows = s.knows }
 
   -- a commit over the tables that may change a loan's account, which is known then where the commit was made
-  pub account_commits : (commit : Commit) (loan : Account) (account : Kept) (old new : Held S) (f e : Facts)
+  pub account_commits : (commit : Commit) (loan : Account) (account : KeptAccount) (old new : Held S) (f e : Facts)
       (r : Result (Unit {0}) Fault) → ((i : Institution) → Tells (news.Account loan) i (after_commit commit i))
       → ((i : Institution) → IsAdmitted commit i → account_at loan (after_commit commit i) ≡ Some account)
       → ((i j : Institution) → AreTrueOf f i → Tells (news.Account loan) i j → (IsTrue (is_ok r) → account_at loan j
@@ -348,12 +294,17 @@ module _ {S : Type 0} (g : Ghosts S) where
       (record { connection = new; known = e }) r
   account_commits commit loan account old new f e r tells is learns c = record {
     premise = c.premise;
-    made = λ clean i s admitted. on_ok_weaker r (λ t. known_made old new f e i (after_commit commit i) s t
-        (learns i (after_commit commit i) s.knows (tells i) (λ _. is i admitted)))
-        (c.made clean i (tabled g (record { connection = old; known = f }) i s) admitted);
+    made = λ clean i s admitted. on_ok_weaker r (λ t. record {
+      sound = t.sound;
+      serves = t.serves;
+      knows = learns i (after_commit commit i) s.knows (tells i) (λ _. is i admitted);
+    }) (c.made clean i (tabled g (record { connection = old; known = f }) i s) admitted);
     kept = λ clean i s admitted. c.kept clean i (tabled g (record { connection = old; known = f }) i s) admitted;
-    same = λ clean i s. unmade r (λ never t. known_made old new f e i i s t (learns i i s.knows (tells_same loan i)
-        (λ made. never _ made))) (c.same clean i (tabled g (record { connection = old; known = f }) i s));
+    same = λ clean i s. unmade r (λ never t. record {
+      sound = t.sound;
+      serves = t.serves;
+      knows = learns i i s.knows (told (news.Account loan) i (λ x. refl) refl refl) (λ made. never _ made);
+    }) (c.same clean i (tabled g (record { connection = old; known = f }) i s));
     gives_up = c.gives_up;
     stop = λ clean i is s admitted l. c.stop clean i is (tabled g (record { connection = old; known = f }) i s) admitted
         l;
@@ -376,60 +327,37 @@ module _ {S : Type 0} (g : Ghosts S) where
     });
   }
 
-  -- it stays, and takes in what was read
-  pub learnt_stays : (old mid new : KnownStore S) (IsSo : Institution → Type 0) → Stays g old mid
-      → ((i : Institution) → StandsFor g mid i → IsSo i → StandsFor g new i) → new.connection ≡ mid.connection
-      → (IsClean g mid → (i : Institution) → StandsFor g old i → IsSo i) → Stays g old new
-  learnt_stays old mid new IsSo kept learns tables told = record {
-    premise = λ clean. kept.premise (now clean);
-    shuts = λ n o. subst (λ h. IsOpenUntil g n h) (sym tables) (kept.shuts n o);
-    same = λ clean i s. learns i (kept.same (now clean) i s) (told (now clean) i s);
-    stop = λ clean is l. subst (λ h. LeavesTables g h is) (sym tables) (kept.stop (now clean) is l);
-  }
-    where
-      now : IsClean g new → IsClean g mid
-      now clean = subst (λ h. HasGoodDisk g h) tables clean
+  pub clean_before : (mid new : Held S) → new ≡ mid → HasGoodDisk g new → HasGoodDisk g mid
+  clean_before mid new tables clean = subst (λ h. HasGoodDisk g h) tables clean
 
-  -- so does a call that answers with it
+  -- a call that answers with what was read, and takes it in
   pub learnt_asks : {R : Type 0} {x : R} (old mid new : KnownStore S) (IsSo : Institution → Type 0) → Stays g old mid
       → (IsClean g mid → IsOpen g old → IsOpen g mid) → ((i : Institution) → StandsFor g mid i → IsSo i
       → StandsFor g new i)
       → new.connection ≡ mid.connection → (IsClean g mid → (i : Institution) → StandsFor g old i → IsSo i)
       → MayAskTables g old new (Ok x)
   learnt_asks old mid new IsSo kept is_open learns tables told = record {
-    kept = learnt_stays old mid new IsSo kept learns tables told;
+    kept = record {
+      premise = λ clean. kept.premise (now clean);
+      shuts = λ n o. subst (λ h. IsOpenUntil g n h) (sym tables) (kept.shuts n o);
+      same = λ clean i s. learns i (kept.same (now clean) i s) (told (now clean) i s);
+      stop = λ clean is l. subst (λ h. LeavesTables g h is) (sym tables) (kept.stop (now clean) is l);
+    };
     gives_up = tt;
-    stays_open = λ clean up. subst (λ h. IsTrue (state g h).is_open) (sym tables)
-        (is_open (subst (λ h. HasGoodDisk g h) tables clean) up);
+    stays_open = λ clean up. subst (λ h. IsTrue (state g h).is_open) (sym tables) (is_open (now clean) up);
   }
-
-  pub clean_before : (mid new : KnownStore S) → new.connection ≡ mid.connection → IsClean g new → IsClean g mid
-  clean_before mid new tables clean = subst (λ h. HasGoodDisk g h) tables clean
+    where
+      now : IsClean g new → IsClean g mid
+      now = clean_before _ _ tables
 
 -- ---- what is read is so
 
 pub tells_counts : (x : ℕ) (c : Counts) (i : Institution) → c ≡ counts_at x i → Tells (OfficeCounts x c) i i
-tells_counts x c i is = record {
-  counts = λ y. go y (x == y) refl;
-  catalogue = refl;
-  day = refl;
-  roles = λ c r h. h;
-  keys = λ x k h. h;
-  products = λ t n p h. h;
-  accounts = λ a x t h. h;
-}
+tells_counts x c i is = told (OfficeCounts x c) i (λ y. go y (x == y) refl) refl refl
   where
     go : (y : ℕ) (b : Bool) → (x == y) ≡ b → counts_at y i ≡ cond b c (counts_at y i)
     go y true e = let same : x ≡ y = grind (arith, nat_tests) in sym (is ∙ ap (λ z. counts_at z i) same)
     go y false e = refl
 
 pub tells_day : (d : ℕ) (i : Institution) → d ≡ i.catalogue.day → Tells (BusinessDay d) i i
-tells_day d i is = record {
-  counts = λ y. refl;
-  catalogue = refl;
-  day = sym is;
-  roles = λ c r h. h;
-  keys = λ x k h. h;
-  products = λ t n p h. h;
-  accounts = λ a x t h. h;
-}
+tells_day d i is = told (BusinessDay d) i (λ x. refl) refl (sym is)

@@ -1,15 +1,14 @@
 -- Loans: the lists of them, and their accounts.
 use Rattle.std.proofs.Common.{◌≡◌, ◌<◌, ◌+◌, ℕ, zero, suc, true, false, ◌&&◌, List, [], ◌∷◌, map, filter, take, drop}
-use Rattle.std.proofs.Common.{slice_get, Option, None, Some, IfSome, refl, sym, ap, ◌∙◌, subst, arith, is_eq, is_gt}
-use Rattle.std.proofs.Common.{nat_cmp}
+use Rattle.std.proofs.Common.{slice_get, Option, Some, IfSome, refl, sym, ap, ◌∙◌, subst, arith, is_eq, is_gt, nat_cmp}
 use Rattle.std.specs.List.{AllByRecursion}
 use Rattle.std.specs.Option.{option_map}
+use Rattle.std.proofs.lemmas.List.{drop-map, take-map}
 use Rattle.std.proofs.lemmas.Bool.{and_parts}
 use Rattle.std.proofs.lemmas.Bool.Decides.{nat_tests}
 use Rattle.sqlite_keyed.proofs.ListLemmas.{filter-filter, map-map}
 use Rattle.mf_account.specs.declared.entry.Entry.{Entry}
-use Rattle.mf_account.specs.Change.{Account as Kept, account_by_replay}
-use Rattle.mf_account.specs.Loan.{Loan as Running}
+use Rattle.mf_account.specs.Change.{KeptAccount, account_by_replay}
 use Rattle.mf_catalog.specs.declared.terms.Terms.{Terms}
 use Rattle.mf_office.specs.declared.account.Account.{Account}
 use Rattle.mf_model.specs.declared.loan.Loan.{Loan}
@@ -23,23 +22,14 @@ use Rattle.mf_model.specs.Stages.{disbursed_on}
 use Rattle.mf_model.specs.Store.{rows_at, ledger_at, loan_at, account_at, account_of}
 use Rattle.mf_store_schema.specs.Rows.{loan_row, is_loan_of, is_loan_above}
 use Rattle.mf_store_schema.specs.declared.loans.LoanRow.{LoanRow}
-use Rattle.mf_store_values.specs.Flat.{tables_of, numbered_from, loan_in, loans_of, line_in, entries_of}
+use Rattle.mf_store_values.specs.Flat.{tables_of, numbered_from, loan_in, loans_of, line_in, ledger_entries}
 use Rattle.mf_store_values.specs.Flat.{instalments_kept, kept_of}
 use Rattle.mf_store_commits.proofs.FlatLemmas.{numbered-suc}
 use Rattle.mf_store.proofs.OfficeRowsLemmas.{rows_in_office}
 use Rattle.mf_store_commits.proofs.LoanLemmas.{loan_of}
+use Rattle.mf_store.proofs.CatalogueLemmas.{mapped}
 
 -- ---- lists of loans
-
-take_map : {A B : Type 0} (f : A → B) (n : ℕ) (xs : List A) → take n (map f xs) ≡ map f (take n xs)
-take_map f zero xs = refl
-take_map f (suc n) [] = refl
-take_map f (suc n) (x ∷ xs) = ap (λ l. f x ∷ l) (take_map f n xs)
-
-drop_map : {A B : Type 0} (f : A → B) (n : ℕ) (xs : List A) → drop n (map f xs) ≡ map f (drop n xs)
-drop_map f zero xs = refl
-drop_map f (suc n) [] = refl
-drop_map f (suc n) (x ∷ xs) = drop_map f n xs
 
 -- loans with their numbers
 abbrev pub counted : ℕ → List Ledger → List (ℕ × Ledger)
@@ -87,9 +77,9 @@ above_shown x after i sound =
     (λ r h. (and_parts _ _ h).0) (tables_of i).loans)
     ∙ ap (filter (is_loan_above x after)) (rows_in_office loan_in loans_of refl is_loan_of (λ x y m a. refl) x i.offices
     sound.tree.ascending) ∙ above_dropped x after 1 after (map loan_of loans) (omega arith)
-    ∙ ap (drop after) (rows_counted x 1 loans) ∙ drop_map row after (counted 1 loans))
+    ∙ ap (drop after) (rows_counted x 1 loans) ∙ drop-map row after (counted 1 loans))
     ∙ ap (take 100) (map-map loan_row row (drop after (counted 1 loans)))
-    ∙ take_map (λ (l : ℕ × Ledger). loan_row (loan_in x l.0 l.1.loan)) 100 (drop after (counted 1 loans))
+    ∙ take-map (λ (l : ℕ × Ledger). loan_row (loan_in x l.0 l.1.loan)) 100 (drop after (counted 1 loans))
   where
     loans : List Ledger
     loans = (rows_at x i).loans
@@ -100,7 +90,7 @@ above_shown x after i sound =
 pub lines_shown : (k : Catalogue) (x after : ℕ) (ls : List Ledger) → map (λ (l : ℕ × Ledger). line_in k x l.0 l.1)
     (shown_loans after ls) ≡ lines_above k x after ls
 lines_shown k x after ls = sym (ap (λ l. take 100 (drop after l)) (lines_counted k x 1 ls)
-    ∙ ap (take 100) (drop_map line after (counted 1 ls)) ∙ take_map line 100 (drop after (counted 1 ls)))
+    ∙ ap (take 100) (drop-map line after (counted 1 ls)) ∙ take-map line 100 (drop after (counted 1 ls)))
   where
     line : ℕ × Ledger → LoanLine
     line l = line_in k x l.0 l.1
@@ -157,51 +147,38 @@ no_loan = (
 
 -- what is replayed of a loan's terms and its entries
 pub replay_is : (named : Option Terms) (loan : Loan) (day : ℕ) (entries : List Entry) (terms : Terms)
-    (found : Option Kept) (a : Kept) → named ≡ Some terms
-    → IfSome found (λ (b : Kept). b ≡ account_by_replay (record {
-      terms = terms;
-      principal = loan.principal;
-      periods = loan.periods;
-      day = day;
-      entries = entries;
-    })) → found ≡ Some a
+    (found : Option KeptAccount) (a : KeptAccount) → named ≡ Some terms
+    → IfSome found (λ (b : KeptAccount). b ≡ account_by_replay (running_loan loan entries day terms)) → found ≡ Some a
     → option_map account_by_replay (running_from loan entries (Some day) named) ≡ Some a
 replay_is named loan day entries terms found a term made is =
     ap (λ t. option_map account_by_replay (running_from loan entries (Some day) t)) term
     ∙ ap Some (sym
-    (subst (λ o. IfSome o (λ (b : Kept). b ≡ account_by_replay (running_loan loan entries day terms))) is made))
+    (subst (λ o. IfSome o (λ (b : KeptAccount). b ≡ account_by_replay (running_loan loan entries day terms))) is made))
 
 -- the instalments of a loan that was just disbursed
-pub fresh_rows : (k : Catalogue) (loan : Loan) (day : ℕ) (es : List Entry) (a : Kept) → option_map account_by_replay
+pub fresh_rows : (k : Catalogue) (loan : Loan) (day : ℕ) (es : List Entry) (a : KeptAccount)
+    → option_map account_by_replay
     (running_from loan es (Some day) (terms_in k loan.product)) ≡ Some a → es ≡ [] → disbursed_on loan.stage ≡ Some day
     → kept_of instalments_kept k (record { loan = loan; entries = [] }) ≡ numbered_from (λ n row. (n, row)) 1
     a.state.rows
 fresh_rows k loan day es a is none disbursed =
+    let of = mapped account_by_replay (running_from loan es (Some day) (terms_in k loan.product)) a is in
     (λ t. of_account [] instalments_kept (running_from loan (sym none t) (disbursed t) (terms_in k loan.product)))
-    ∙ go (running_from loan es (Some day) (terms_in k loan.product)) is
-  where
-    go : (o : Option Running) → option_map account_by_replay o ≡ Some a → of_account [] instalments_kept o
-        ≡ numbered_from (λ n row. (n, row)) 1 a.state.rows
-    go None e = absurd (let never : None ≡ Some a = e in cc)
-    go (Some r) e = let found : Some (account_by_replay r) ≡ Some a = e in let same : account_by_replay r ≡ a =
-        cc in ap (λ (b : Kept). numbered_from (λ n row. (n, row)) 1 b.state.rows) same
+    ∙ ap (of_account [] instalments_kept) of.1
+    ∙ ap (λ (b : KeptAccount). numbered_from (λ n row. (n, row)) 1 b.state.rows) (sym of.2)
 
 -- what is replayed of a loan's row and its entries is its account
-pub account_replayed : (i : Institution) (account : Account) (loan : Loan) (day : ℕ) (entries : List Entry) (a : Kept)
-    → entries ≡ entries_of (ledger_at account i) → option_map account_by_replay (running_from loan entries (Some day)
+pub account_replayed : (i : Institution) (account : Account) (loan : Loan) (day : ℕ) (entries : List Entry)
+    (a : KeptAccount)
+    → entries ≡ ledger_entries (ledger_at account i)
+    → option_map account_by_replay (running_from loan entries (Some day)
     (terms_in i.catalogue loan.product)) ≡ Some a
     → loan_at account i ≡ Some loan → disbursed_on loan.stage ≡ Some day → account_at account i ≡ Some a
-account_replayed i account loan day entries a entered is there disbursed = go (ledger_at account i) entered there
-  where
-    k : Catalogue
-    k = i.catalogue
-
-    go : (o : Option Ledger) → entries ≡ entries_of o → option_map loan_of o ≡ Some loan
-        → option_map account_by_replay (account_of k o) ≡ Some a
-    go None e h = absurd (let never : None ≡ Some loan = h in cc)
-    go (Some l) e h =
-        let found : Some l.loan ≡ Some loan = h in
-        let same : l.loan ≡ loan = cc in
-        (λ t. option_map account_by_replay (running_from (same t) l.entries (disbursed_on (same t).stage)
-        (terms_in k (same t).product)))
-        ∙ (λ t. option_map account_by_replay (running_from loan (sym e t) (disbursed t) (terms_in k loan.product))) ∙ is
+account_replayed i account loan day entries a entered is there disbursed =
+    let k = i.catalogue in
+    let of = mapped loan_of (ledger_at account i) loan there in
+    ap (λ o. option_map account_by_replay (account_of k o)) of.1
+    ∙ (λ t. option_map account_by_replay (running_from (sym of.2 t) of.0.entries (disbursed_on (sym of.2 t).stage)
+    (terms_in k (sym of.2 t).product)))
+    ∙ (λ t. option_map account_by_replay (running_from loan (sym (entered ∙ ap ledger_entries of.1) t) (disbursed t)
+    (terms_in k loan.product))) ∙ is

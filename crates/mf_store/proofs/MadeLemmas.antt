@@ -18,8 +18,6 @@ module _ {S : Type 0} (g : Ghosts S) (commit : Commit) where
   -- the call made its writes after look-ups
   pub made_by : (old mid new : KnownStore S) (writes : List StoreWrite) (news : News) (r : Result (Unit {0}) Fault)
       → Stays g old mid
-      → (IsClean g mid → (i : Institution) → StandsFor g old i → IsAdmitted commit i
-      → Becomes writes i (after_commit commit i) × Tells news i (after_commit commit i))
       → (IsClean g new → IsClean g mid) → IfErr r (λ fault. fault ≡ F20)
       → (IsClean g new → OnOk r ((i j : Institution) → StandsFor g mid i → Becomes writes i j → Tells news i j
       → StandsFor g new j))
@@ -28,8 +26,10 @@ module _ {S : Type 0} (g : Ghosts S) (commit : Commit) where
       → (IsClean g new → (i j : Institution) (is : List Institution) → StandsFor g mid i → Becomes writes i j
       → Leaves g mid is → Leaves g new (j ∷ is))
       → FaultsAloneShut g mid new → (IsClean g new → OnOk r (IsOpen g new))
+      → (IsClean g mid → (i : Institution) → StandsFor g old i → IsAdmitted commit i
+      → Becomes writes i (after_commit commit i) × Tells news i (after_commit commit i))
       → MakesCommit g commit old new r
-  made_by old mid new writes news r kept becomes premise gives_up made left same stop shuts is_open = record {
+  made_by old mid new writes news r kept premise gives_up made left same stop shuts is_open becomes = record {
     commits = made_commits;
     shuts = λ n o. shuts n (kept.shuts n o);
     stays_open = is_open;

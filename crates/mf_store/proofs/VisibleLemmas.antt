@@ -1,54 +1,44 @@
 -- What an office sees, by the range of its hierarchy text and by parents.
 use Rattle.std.proofs.Common.{◌≡◌, ◌↔◌, ◌≤◌, ℕ, zero, suc, Bool, true, false, not, ◌&&◌, ◌||◌, cond, List, [], ◌∷◌, map}
-use Rattle.std.proofs.Common.{filter, Option, None, Some, refl, sym, ap, ap₂, ◌∙◌, arith, ◌==◌, nat_lt, nat_cmp}
+use Rattle.std.proofs.Common.{filter, Option, None, Some, refl, sym, ap, ap₂, ◌∙◌, arith, ◌==◌, nat_cmp}
 use Rattle.std.proofs.Common.{true≢false, nat_le, Ordering, Less, Equal, Greater, is_ge, is_lt}
 use Rattle.std.specs.Option.{is_some, option_map}
-use Rattle.std.specs.Ordering.{ordering_then}
 use Rattle.std.specs.Cmp.Lexicographic.{slice_cmp}
-use Rattle.std.specs.List.{AllByRecursion}
+use Rattle.std.specs.Cmp.{both_ways}
+use Rattle.std.proofs.lemmas.Bool.{false_from_ne_true}
 use Rattle.std.proofs.lemmas.Bool.Decides.{nat_tests}
-use Rattle.sqlite_keyed.proofs.ListLemmas.{filter-map}
-use Rattle.mf_office.specs.Keys.{key_of, key_depth, with_last_raised, is_before}
+use Rattle.sqlite_keyed.proofs.ListLemmas.{filter-map, filter_none, map-map}
+use Rattle.sqlite_keyed.proofs.SliceLemmas.{is_some-map}
+use Rattle.sqlite_trees.proofs.ListLemmas.{filter_same}
+use Rattle.mf_office.specs.Keys.{key_of, key_depth, with_last_raised}
+use Rattle.mf_office.proofs.TextLemmas.{before_is}
 use Rattle.mf_office.specs.Keys as office
 use Rattle.mf_office.specs.Tree.{is_within, is_at_or_below, option_any, IsTreeOf}
 use Rattle.mf_office.proofs.KeyLemmas.{range_below}
 use Rattle.mf_model.specs.Institution.{Institution, Office, office_at}
 use Rattle.mf_model.specs.Tree.{parent_of, is_there, seen_by, seen_office}
 use Rattle.mf_model.specs.Sound.{IsSound}
-use Rattle.mf_store_schema.specs.Rows.{office_row, is_in_range}
+use Rattle.mf_store_schema.specs.Rows.{office_row, is_between_keys}
 use Rattle.mf_store_schema.specs.declared.offices.OfficeRow.{OfficeRow}
 use Rattle.mf_store_values.specs.Flat.{office_under, tables_of, key_at, sees, has_room}
-use Rattle.mf_store_commits.proofs.CommitLemmas.{number_at, all_there}
+use Rattle.mf_store_commits.proofs.CommitLemmas.{number_at, all_there, office_known}
 
 -- ---- ranges of texts
-
-before_is : (a b : List ℕ) → is_before a b ≡ is_lt (slice_cmp nat_cmp a b)
-before_is [] [] = refl
-before_is [] (b ∷ bs) = refl
-before_is (a ∷ as_) [] = refl
-before_is (a ∷ as_) (b ∷ bs) = ap (λ t. nat_lt a b || ((a == b) && t)) (before_is as_ bs)
-    ∙ first (slice_cmp nat_cmp as_ bs)
-  where
-    first : (o : Ordering) → (nat_lt a b || ((a == b) && is_lt o)) ≡ is_lt (ordering_then (nat_cmp a b) o)
-    first o = grind (arith, nat_tests)
 
 at_least : (o : Ordering) → not (is_lt o) ≡ is_ge o
 at_least Less = refl
 at_least Equal = refl
 at_least Greater = refl
 
-pub range_is : (low high : List ℕ) (r : OfficeRow) → is_in_range low high r ≡ office.is_in_range low high r.hkey
-range_is low high r =
-    sym (ap₂ ◌&&◌ (ap not (before_is r.hkey low) ∙ at_least (slice_cmp nat_cmp r.hkey low)) (before_is r.hkey high))
+pub range_is : (low high : List ℕ) (r : OfficeRow) → is_between_keys low high r ≡ office.is_in_range low high r.hkey
+range_is low high r = ap₂ ◌&&◌ (sym (at_least (slice_cmp nat_cmp r.hkey low)) ∙ ap not (before_is r.hkey low _ refl))
+    (before_is r.hkey high _ refl)
 
 -- ---- what is there
 
 other : (there : ℕ → Bool) (o : ℕ) → there o ≡ false → (x : ℕ) → there x ≡ true → (x == o) ≡ false
-other there o gone x here = same (x == o) refl
-  where
-    same : (b : Bool) → (x == o) ≡ b → b ≡ false
-    same false e = refl
-    same true e = let is : x ≡ o = grind (arith, nat_tests) in absurd (true≢false (sym here ∙ ap there is ∙ gone))
+other there o gone x here = false_from_ne_true (x == o) (λ e. let is : x ≡ o = grind (arith, nat_tests) in
+    true≢false (sym here ∙ ap there is ∙ gone))
 
 -- what is above an office that is there is there
 absent_above : (n : ℕ) (ps : ℕ → Option ℕ) (there : ℕ → Bool) → ((x p : ℕ) → ps x ≡ Some p → there p ≡ true) → (o : ℕ)
@@ -63,14 +53,6 @@ absent_above (suc n) ps there closed o gone x here = ap (λ b. b || option_any (
     up None e more = refl
     up (Some p) e more = more p (closed x p e)
 
-pub cond_some : {A : Type 0} (b : Bool) (x : A) → is_some (cond b (Some x) None) ≡ b
-cond_some true x = refl
-cond_some false x = refl
-
-cond_none : {A : Type 0} (b : Bool) (o : Option A) → o ≡ None → is_some (cond b o None) ≡ false
-cond_none true o e = ap is_some e
-cond_none false o e = refl
-
 module _ (i : Institution) (sound : IsSound i) (tree : IsTreeOf (is_there i.offices) (parent_of i.offices)) where
   abbrev fs : List Office
   fs = i.offices
@@ -78,31 +60,19 @@ module _ (i : Institution) (sound : IsSound i) (tree : IsTreeOf (is_there i.offi
   abbrev ps : ℕ → Option ℕ
   ps = parent_of fs
 
-  unseen : (o x : ℕ) → office_at o fs ≡ None → (a : Option Office) → office_at x fs ≡ a
-      → is_some (cond (is_at_or_below ps x o) a None) ≡ false
+  none_within : (o x : ℕ) → is_there fs o ≡ false → is_there fs x ≡ true → is_at_or_below ps x o ≡ false
   unfolding is_at_or_below
-  unseen o x gone None e = cond_none (is_within 5 ps x o) None refl
-  unseen o x gone (Some f) e = ap (λ b. is_some (cond b (Some f) None))
-      (absent_above 5 ps (is_there fs) sound.tree.parents_there o (ap is_some gone) x (ap is_some e))
+  none_within o x gone here = absent_above 5 ps (is_there fs) sound.tree.parents_there o gone x here
 
   orphan : (fs : List Office) (x : ℕ) → is_there fs x ≡ false → parent_of fs x ≡ None
   orphan [] x h = refl
-  orphan (f ∷ fs) x h = go (f.number == x) h (orphan fs x)
-    where
-      go : (b : Bool) → is_some (cond b (Some f) (office_at x fs)) ≡ false → (is_there fs x ≡ false → parent_of fs x
-          ≡ None) → cond b f.parent (parent_of fs x) ≡ None
-      go true h more = absurd (true≢false h)
-      go false h more = more h
+  orphan (f ∷ fs) x h = grind (arith, nat_tests, orphan fs x)
 
   absent : (x : ℕ) → is_there fs x ≡ false → is_within 4 ps x 1 ≡ false
   unfolding is_within
   absent x gone = ap (λ q. (x == 1) || option_any q (λ p. is_within 3 ps p 1)) (orphan fs x gone) ∙ ap (λ b. b || false)
-      (one (x == 1) refl)
-    where
-      one : (b : Bool) → (x == 1) ≡ b → b ≡ false
-      one false e = refl
-      one true e = let is : x ≡ 1 =
-          grind (arith, nat_tests) in absurd (true≢false (sym sound.tree.head_there ∙ ap (is_there fs) (sym is) ∙ gone))
+      (false_from_ne_true (x == 1) (λ e. let is : x ≡ 1 = grind (arith, nat_tests) in
+      true≢false (sym sound.tree.head_there ∙ ap (is_there fs) (sym is) ∙ gone)))
 
   -- one text lies in the range of another where its office is at or below the other's
   pub range_tree : (o x : ℕ) → is_there fs o ≡ true → is_there fs x ≡ true → office.is_in_range (key_of ps o)
@@ -115,12 +85,14 @@ module _ (i : Institution) (sound : IsSound i) (tree : IsTreeOf (is_there i.offi
       go : (a : Option Office) → office_at o fs ≡ a → (b : Option Office) → office_at x fs ≡ b
           → sees (option_map (λ (f : Office). key_of ps f.number) a) (option_map (λ (f : Office). key_of ps f.number) b)
           ≡ is_some (cond (is_at_or_below ps x o) (office_at x fs) None)
-      go None ea b eb = sym (ap (λ c. is_some (cond (is_at_or_below ps x o) c None)) eb ∙ unseen o x ea b eb)
-      go (Some f) ea None eb = sym (cond_none (is_at_or_below ps x o) (office_at x fs) eb)
+      go None ea None eb = grind (arith, eb)
+      go None ea (Some h) eb = let none = none_within o x (ap is_some ea) (ap is_some eb) in grind (arith, none)
+      go (Some f) ea None eb = grind (arith, eb)
       go (Some f) ea (Some h) eb =
           ap₂ (λ m n. office.is_in_range (key_of ps m) (with_last_raised (key_of ps m)) (key_of ps n))
           (number_at o fs f ea) (number_at x fs h eb) ∙ range_tree o x (ap is_some ea) (ap is_some eb)
-          ∙ sym (ap (λ c. is_some (cond (is_at_or_below ps x o) c None)) eb ∙ cond_some (is_at_or_below ps x o) h)
+          ∙ (let seen : is_at_or_below ps x o ≡ is_some (cond (is_at_or_below ps x o) (office_at x fs) None) =
+          grind (arith, eb) in seen)
 
   -- room below an office, by the dots of its key
   pub room_is : (x : ℕ) → ((x : ℕ) → is_there fs x ≡ true → (key_depth (key_of ps x) ≤ 5) ↔ (is_within 4 ps x 1 ≡ true))
@@ -128,12 +100,8 @@ module _ (i : Institution) (sound : IsSound i) (tree : IsTreeOf (is_there i.offi
   room_is x law = go (office_at x fs) refl
     where
       decided : (b : Bool) (n : ℕ) → (n ≤ 5) ↔ (b ≡ true) → nat_le n 5 ≡ b
-      decided true n h = let low : n ≤ 5 = h.1 refl in grind (arith, nat_tests)
-      decided false n h = two (nat_le n 5) refl
-        where
-          two : (t : Bool) → nat_le n 5 ≡ t → t ≡ false
-          two false e = refl
-          two true e = let low : n ≤ 5 = grind (arith, nat_tests) in sym (h.0 low)
+      decided b n h = both_ways (nat_le n 5) b (λ e. h.0 (let low : n ≤ 5 = grind (arith, nat_tests) in low))
+          (λ e. let low : n ≤ 5 = h.1 e in grind (arith, nat_tests))
 
       go : (a : Option Office) → office_at x fs ≡ a → has_room (option_map (λ (f : Office). key_of ps f.number) a)
           ≡ is_within 4 ps x 1
@@ -141,58 +109,33 @@ module _ (i : Institution) (sound : IsSound i) (tree : IsTreeOf (is_there i.offi
       go (Some f) e = ap (λ n. nat_le (key_depth (key_of ps n)) 5) (number_at x fs f e) ∙ decided (is_within 4 ps x 1)
           (key_depth (key_of ps x)) (law x (ap is_some e))
 
-  filter_alike : (p q : Office → Bool) (gs : List Office) → AllByRecursion (λ f. p f ≡ q f) gs
-      → filter p gs ≡ filter q gs
-  filter_alike p q [] all = refl
-  filter_alike p q (f ∷ gs) all = rw (all.0, filter_alike p q gs all.1)
-
   -- the rows in the range of an office's text are those of the offices that it sees
   pub rows_seen : (o : ℕ) → is_there fs o ≡ true
-      → map office_row (filter (is_in_range (key_of ps o) (with_last_raised (key_of ps o))) (tables_of i).offices)
+      → map office_row (filter (is_between_keys (key_of ps o) (with_last_raised (key_of ps o))) (tables_of i).offices)
       ≡ map (λ f. office_row (office_under ps f)) (seen_by o fs)
   rows_seen o there =
       let low = key_of ps o in
-      let p = is_in_range low (with_last_raised low) in
+      let p = is_between_keys low (with_last_raised low) in
       ap (map office_row) (filter-map p (office_under ps) fs)
-      ∙ ap (λ l. map office_row (map (office_under ps) l)) (filter_alike (λ f. p (office_under ps f))
+      ∙ ap (λ l. map office_row (map (office_under ps) l)) (filter_same (λ f. p (office_under ps f))
       (λ f. is_at_or_below ps f.number o) fs
       (all_there fs fs (λ f. p (office_under ps f) ≡ is_at_or_below ps f.number o) sound.tree.ascending (λ f here.
       range_is low (with_last_raised low) (office_under ps f) ∙ range_tree o f.number there here)))
-      ∙ Rattle.sqlite_keyed.proofs.ListLemmas.map-map office_row (office_under ps) (seen_by o fs)
+      ∙ map-map office_row (office_under ps) (seen_by o fs)
 
-  -- what an office that isn't there sees
-  none_below : (o : ℕ) → office_at o fs ≡ None → seen_by o fs ≡ []
-  unfolding is_at_or_below
-  none_below o gone = none fs (all_there fs fs (λ f. is_within 5 ps f.number o ≡ false) sound.tree.ascending (λ f here.
-      absent_above 5 ps (is_there fs) sound.tree.parents_there o (ap is_some gone) f.number here))
-    where
-      none : (gs : List Office) → AllByRecursion (λ (f : Office). is_within 5 ps f.number o ≡ false) gs
-          → filter (λ f. is_within 5 ps f.number o) gs ≡ []
-      none [] all = refl
-      none (f ∷ gs) all = rw (all.0, none gs all.1)
-
+  -- an office that isn't there sees none
   pub none_seen : (o : ℕ) (found : Option (List ℕ)) → found ≡ None → found ≡ key_at o i → seen_by o fs ≡ []
-  none_seen o found is are = none_below o (unmapped (office_at o fs) (sym are ∙ is))
-    where
-      unmapped : (a : Option Office) → option_map (λ (f : Office). key_of ps f.number) a ≡ None → a ≡ None
-      unmapped None h = refl
-      unmapped (Some f) h = absurd (let k : Some (key_of ps f.number) ≡ None = h in cc)
-
-  key_known : (o : ℕ) (above : List ℕ) → Some above ≡ key_at o i → (is_there fs o ≡ true) × (above ≡ key_of ps o)
-  key_known o above are = go (office_at o fs) refl are
-    where
-      go : (a : Option Office) → office_at o fs ≡ a → Some above ≡ option_map (λ (f : Office). key_of ps f.number) a
-          → (is_there fs o ≡ true) × (above ≡ key_of ps o)
-      go None e h = absurd (let k : Some above ≡ None = h in cc)
-      go (Some f) e h = let k : Some above ≡ Some (key_of ps f.number) = h in let same : above ≡ key_of ps f.number =
-          cc in (ap is_some e, same ∙ ap (key_of ps) (number_at o fs f e))
+  none_seen o found is are =
+      let gone : is_there fs o ≡ false = sym (is_some-map (λ (f : Office). key_of ps f.number) (office_at o fs))
+      ∙ ap is_some (sym are ∙ is) in
+      filter_none (λ (f : Office). is_at_or_below ps f.number o) fs (all_there fs fs (λ f. is_at_or_below ps f.number o
+      ≡ false) sound.tree.ascending (λ f here. none_within o f.number gone here))
 
   pub offices_are : (o : ℕ) (found : Option (List ℕ)) (above low high : List ℕ) → found ≡ Some above
-      → found ≡ key_at o i → low ≡ above → high ≡ with_last_raised above → map office_row (filter (is_in_range low high)
+      → found ≡ key_at o i → low ≡ above → high ≡ with_last_raised above
+      → map office_row (filter (is_between_keys low high)
       (tables_of i).offices) ≡ map (λ f. office_row (office_under ps f)) (seen_by o fs)
   offices_are o found above low high is are l h =
-      let known = key_known o above (sym is ∙ are) in
-      ap₂ (λ a b. map office_row (filter (is_in_range a b) (tables_of i).offices)) (l ∙ known.1)
+      let known = office_known found above o i is are in
+      ap₂ (λ a b. map office_row (filter (is_between_keys a b) (tables_of i).offices)) (l ∙ known.1)
       (h ∙ ap with_last_raised known.1) ∙ rows_seen o known.0
-
--- ---- rows that are read into lines

@@ -9,7 +9,7 @@ use Rattle.mf_office.specs.declared.caller.Caller.{Caller}
 use Rattle.mf_office.specs.declared.account.Account.{Account}
 use Rattle.mf_catalog.specs.declared.product.Product.{Product}
 use Rattle.mf_catalog.specs.contracts.product.Product as product_row
-use Rattle.mf_account.specs.Change.{Account as Kept}
+use Rattle.mf_account.specs.Change.{KeptAccount}
 use Rattle.mf_account.specs.contracts.account.LoanAccount as account_row
 use Rattle.mf_model.specs.declared.store.Counts.{Counts}
 use Rattle.mf_model.specs.declared.store.CatalogueCounts.{CatalogueCounts}
@@ -40,7 +40,7 @@ pub record Facts : Type 0 where
   pub roles : List ((ℕ × ℕ) × Role)
   pub keys : List (ℕ × List ℕ)
   pub products : List (ℕ × Product)
-  pub accounts : List ((ℕ × ℕ) × Kept)
+  pub accounts : List ((ℕ × ℕ) × KeptAccount)
 
 -- no fact is known
 abbrev pub nothing_known : Facts
@@ -59,7 +59,7 @@ abbrev pub facts_code : Coded Facts
 facts_code =
     code_by (List (ℕ × Counts)
     × (Option CatalogueCounts × (Option ℕ × (List ((ℕ × ℕ) × Role) × (List (ℕ × List ℕ)
-    × (List (ℕ × Product) × List ((ℕ × ℕ) × Kept)))))))
+    × (List (ℕ × Product) × List ((ℕ × ℕ) × KeptAccount)))))))
     (coded× (coded_list (coded× coded_ℕ counts_row.the_row.coded)) (coded× (coded_option catalogue_row.the_row.coded)
     (coded× (coded_option coded_ℕ) (coded× (coded_list (coded× (coded× coded_ℕ coded_ℕ) role_row.the_row.coded))
     (coded× (coded_list (coded× coded_ℕ (coded_list coded_ℕ)))
@@ -93,5 +93,6 @@ pub record AreTrueOf (f : Facts) (i : Institution) : Type 0 where
   pub roles : (c : Caller) (r : Role) → lookup (same_key (caller_key c)) f.roles ≡ Some r → role_of c i ≡ Some r
   pub keys : (x : ℕ) (k : List ℕ) → lookup (nat_eq x) f.keys ≡ Some k → key_at x i ≡ Some k
   pub products : (n : ℕ) (p : Product) → lookup (nat_eq n) f.products ≡ Some p → product_in i.catalogue n ≡ Some p
-  pub accounts : (a : Account) (x : Kept) → lookup (same_key (account_key a)) f.accounts ≡ Some x → account_at a i
+  pub accounts : (a : Account) (x : KeptAccount) → lookup (same_key (account_key a)) f.accounts ≡ Some x
+      → account_at a i
       ≡ Some x

@@ -2,8 +2,8 @@
 use Rattle.std.specs.Prelude.{◌≡◌, ℕ, Bool, true, false, not, cond, ◌==◌, List, Some}
 use Rattle.mf_office.specs.declared.staff.Role.{Role}
 use Rattle.mf_office.specs.declared.caller.Caller.{Caller}
-use Rattle.mf_office.specs.declared.account.Account.{Account as Loan}
-use Rattle.mf_account.specs.Change.{Account as Kept}
+use Rattle.mf_office.specs.declared.account.Account.{Account}
+use Rattle.mf_account.specs.Change.{KeptAccount}
 use Rattle.mf_catalog.specs.declared.product.Product.{Product}
 use Rattle.mf_model.specs.declared.store.Counts.{Counts}
 use Rattle.mf_model.specs.declared.store.CatalogueCounts.{CatalogueCounts}
@@ -12,7 +12,8 @@ use Rattle.mf_model.specs.Store.{counts_at, catalogue_counts, role_of, account_a
 use Rattle.mf_store_values.specs.Flat.{key_at}
 use Rattle.mf_store.specs.Facts.{account_key, same_key}
 use Rattle.mf_store.specs.declared.known.News.{News}
-use Rattle.mf_store.specs.declared.known.News.TheVariants.{OfficeCounts, Catalogue, BusinessDay, Retirement, Account}
+use Rattle.mf_store.specs.declared.known.News.TheVariants as known_now
+use Rattle.mf_store.specs.declared.known.News.TheVariants.{OfficeCounts, Catalogue, BusinessDay, Retirement}
 
 -- how many rows office x has, after the news
 abbrev pub counts_told : News → ℕ → Counts → Counts
@@ -35,8 +36,8 @@ products_stay Retirement = false
 products_stay _ = true
 
 -- a loan's account is as it was, where there is one
-abbrev pub account_stays : News → Loan → Bool
-account_stays (Account loan) a = not (same_key (account_key loan) (account_key a))
+abbrev pub account_stays : News → Account → Bool
+account_stays (known_now.Account loan) a = not (same_key (account_key loan) (account_key a))
 account_stays _ a = true
 
 -- Of what may be known, the news alone tells i and j apart. A member of staff keeps their role, and an office its
@@ -49,5 +50,6 @@ pub record Tells (news : News) (i j : Institution) : Type 0 where
   pub keys : (x : ℕ) (k : List ℕ) → key_at x i ≡ Some k → key_at x j ≡ Some k
   pub products : products_stay news ≡ true → (n : ℕ) (p : Product) → product_in i.catalogue n ≡ Some p
       → product_in j.catalogue n ≡ Some p
-  pub accounts : (a : Loan) (x : Kept) → account_stays news a ≡ true → account_at a i ≡ Some x → account_at a j
+  pub accounts : (a : Account) (x : KeptAccount) → account_stays news a ≡ true → account_at a i ≡ Some x
+      → account_at a j
       ≡ Some x

@@ -11,12 +11,12 @@ ghost use Rattle.mf_account.specs.Change.{account_by_replay};
 ghost use Rattle.mf_account.specs.Loan.{state_of_loan};
 ghost use Rattle.mf_catalog.specs.Product.{charge_of};
 ghost use Rattle.mf_model.specs.Accounts.{running_from, terms_in, status_in, account_in, of_account};
-ghost use Rattle.mf_model.specs.Institution.{Institution, Ledger as ModelLedger, charge_in};
+ghost use Rattle.mf_model.specs.Institution.{Institution, Ledger, charge_in};
 ghost use Rattle.mf_model.specs.Stages.{disbursed_on};
 ghost use Rattle.mf_model.specs.Store.{loan_at, ledger_at, account_at, loan_with_account_at, loans_at};
 ghost use Rattle.mf_store_commits.specs.ChangeWrites.{schedule_put};
-ghost use Rattle.mf_store_values.specs.Flat.{loan_in, line_in, entries_of, instalments_kept, kept_of};
-ghost use Rattle.mf_store_schema.specs.Rows.{loan_row as loan_stored};
+ghost use Rattle.mf_store_values.specs.Flat.{loan_in, line_in, ledger_entries, instalments_kept, kept_of};
+ghost use Rattle.mf_store_schema.specs.Rows.{loan_row};
 
 use crate::store::Store;
 use mf_account::status::ACTIVE;
@@ -27,7 +27,7 @@ use mf_model::{Loan, LoanLine, LoanList};
 use mf_office::{Account, OfficeNo};
 use mf_store_commits::put_schedule;
 use mf_store_schema::{EntryRow, StoreWrite};
-use mf_store_values::{entries_from, is_active, loan_in_row, stored};
+use mf_store_values::{entries_from, is_active, loan_in_row, or_give_up};
 use sqlite::{Alter, Row};
 use std::alloc::Global;
 
@@ -38,7 +38,7 @@ impl<S: Alter> Store<S> {
     pub(crate) fn entries_at(&mut self, alloc: Global, loan: Account) -> Result<Vec<Entry>, Fault>
         ensures asks { AsksTables S.Store self.old self.new result }
         ensures value { IsClean S.Store self.new → (i : Institution) → StandsFor S.Store self.old i
-            → IfOk result (λ list. list.items ≡ entries_of (ledger_at loan i)) }
+            → IfOk result (λ list. list.items ≡ ledger_entries (ledger_at loan i)) }
     {
         let rows = self.list::<EntryRow>((loan.office.get(), loan.number.get()))?;
         entries_from(alloc, &rows)
@@ -87,8 +87,8 @@ impl<S: Alter> Store<S> {
             (terms_in i.catalogue loan.now.product)) ≡ Some account) }
     {
         let named = self.terms_of(loan.product)?;
-        let terms = stored(named)?;
-        let disbursed = mf_account::Loan {
+        let terms = or_give_up(named)?;
+        let disbursed = mf_account::DisbursedLoan {
             terms,
             principal: loan.principal,
             periods: loan.periods,
@@ -96,7 +96,7 @@ impl<S: Alter> Store<S> {
             entries,
         };
         let found = LoanAccount::of_entries(alloc, disbursed)?;
-        stored(found)
+        or_give_up(found)
     }
 
     /// The account of a loan that is there and was disbursed on this day, resumed from what is kept of it, its
@@ -107,7 +107,7 @@ impl<S: Alter> Store<S> {
         account: Account,
         loan: &Loan,
         day: Day,
-        rows: Vec<mf_alloc::Row>,
+        rows: Vec<mf_alloc::Instalment>,
     ) -> Result<LoanAccount, Fault>
         requires whole { AreWhole rows.items }
         requires within { AreWithin rows.items }
@@ -115,16 +115,16 @@ impl<S: Alter> Store<S> {
         ensures value { IsClean S.Store self.new → (i : Institution) → StandsFor S.Store self.old i → loan_at account i
             ≡ Some loan.now
             → disbursed_on loan.now.stage ≡ Some day
-            → ((l : ModelLedger) → ledger_at account i ≡ Some l
+            → ((l : Ledger) → ledger_at account i ≡ Some l
             → rows.items ≡ of_account [] (λ a. (state_of_loan a).rows) (account_in i.catalogue l))
             → IfOk result (λ resumed. account_at account i ≡ Some resumed) }
     {
         let Account { office, number } = account;
         let named = self.terms_of(loan.product)?;
-        let terms = stored(named)?;
+        let terms = or_give_up(named)?;
         let entries = self.entries_at(alloc, Account { office, number })?;
         let parts = self.parts_at(alloc, Account { office, number })?;
-        let disbursed = mf_account::Loan {
+        let disbursed = mf_account::DisbursedLoan {
             terms,
             principal: loan.principal,
             periods: loan.periods,
@@ -132,7 +132,7 @@ impl<S: Alter> Store<S> {
             entries,
         };
         let found = LoanAccount::resume(alloc, disbursed, rows, parts)?;
-        stored(found)
+        or_give_up(found)
     }
 
     /// Adds the puts of a loan's instalments as its disbursement leaves them; none where it is not disbursed.
@@ -222,7 +222,7 @@ impl<S: Alter> Store<S> {
     /// Whether the principal of the last instalment of a loan that is there is open. Where it is, so is the loan.
     fn is_last_open(&mut self, account: Account, periods: u32) -> Result<bool, Fault>
         ensures asks { AsksTables S.Store self.old self.new result }
-        ensures value { IsClean S.Store self.new → (i : Institution) → StandsFor S.Store self.old i → (l : ModelLedger)
+        ensures value { IsClean S.Store self.new → (i : Institution) → StandsFor S.Store self.old i → (l : Ledger)
             → ledger_at account i ≡ Some l
             → IfOk result (λ left. left ≡ true → list_any is_open (of_account [] (λ a. (state_of_loan a).rows)
             (account_in i.catalogue l)) ≡ true) }
@@ -240,7 +240,7 @@ impl<S: Alter> Store<S> {
         periods: u32,
     ) -> Result<u16, Fault>
         ensures asks { AsksTables S.Store self.old self.new result }
-        ensures value { IsClean S.Store self.new → (i : Institution) → StandsFor S.Store self.old i → (l : ModelLedger)
+        ensures value { IsClean S.Store self.new → (i : Institution) → StandsFor S.Store self.old i → (l : Ledger)
             → ledger_at account i ≡ Some l
             → (day : ℕ) → disbursed_on l.loan.stage ≡ Some day
             → IfOk result (λ status. status ≡ status_in i.catalogue l) }
@@ -255,12 +255,12 @@ impl<S: Alter> Store<S> {
             return Ok(ACTIVE);
         }
         let entries = self.entries_at(alloc, Account { office, number })?;
-        stored(settled_status(&entries, &rows))
+        or_give_up(settled_status(&entries, &rows))
     }
 
     /// The status of a loan that is there, where its account is known.
     fn known_status(&self, loan: Account) -> Option<u16>
-        ensures { (i : Institution) → StandsFor S.Store self.now i → (l : ModelLedger) → ledger_at loan i ≡ Some l
+        ensures { (i : Institution) → StandsFor S.Store self.now i → (l : Ledger) → ledger_at loan i ≡ Some l
             → IfSome result (λ status. status ≡ status_in i.catalogue l) }
     {
         let account = self.known_account(loan)?;
@@ -270,7 +270,7 @@ impl<S: Alter> Store<S> {
     /// The status of a loan that is there: its stage's number, or what its account says.
     fn status_of(&mut self, alloc: Global, account: Account, loan: &Loan) -> Result<u16, Fault>
         ensures asks { MayAskTables S.Store self.old self.new result }
-        ensures value { IsClean S.Store self.new → (i : Institution) → StandsFor S.Store self.old i → (l : ModelLedger)
+        ensures value { IsClean S.Store self.new → (i : Institution) → StandsFor S.Store self.old i → (l : Ledger)
             → ledger_at account i ≡ Some l
             → l.loan ≡ loan.now → IfOk result (λ status. status ≡ status_in i.catalogue l) }
     {
@@ -288,8 +288,8 @@ impl<S: Alter> Store<S> {
     fn line_of(&mut self, alloc: Global, row: &Row) -> Result<LoanLine, Fault>
         ensures asks { MayAskTables S.Store self.old self.new result }
         ensures value { IsClean S.Store self.new → (i : Institution) → StandsFor S.Store self.old i
-            → (office number : ℕ) (l : ModelLedger)
-            → row.now ≡ loan_stored (loan_in office number l.loan)
+            → (office number : ℕ) (l : Ledger)
+            → row.now ≡ loan_row (loan_in office number l.loan)
             → ledger_at (record { office = office; number = number }) i ≡ Some l
             → IfOk result (λ line. line ≡ line_in i.catalogue office number l) }
     {
@@ -306,9 +306,9 @@ impl<S: Alter> Store<S> {
     fn lines_of(&mut self, alloc: Global, rows: &[Row]) -> Result<LoanList, Fault>
         ensures asks { MayAskTables S.Store self.old self.new result }
         ensures value { IsClean S.Store self.new → (i : Institution) → StandsFor S.Store self.old i
-            → (office : ℕ) (ls : List (ℕ × ModelLedger))
+            → (office : ℕ) (ls : List (ℕ × Ledger))
             → AllByRecursion (λ l. ledger_at (record { office = office; number = l.0 }) i ≡ Some l.1) ls
-            → rows.now ≡ map (λ l. loan_stored (loan_in office l.0 l.1.loan)) ls
+            → rows.now ≡ map (λ l. loan_row (loan_in office l.0 l.1.loan)) ls
             → IfOk result (λ list. list ≡ map (λ l. line_in i.catalogue office l.0 l.1) ls) }
     {
         let mut lines = Vec::new(alloc);

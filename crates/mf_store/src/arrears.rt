@@ -2,7 +2,7 @@
 //! at a time.
 
 ghost use Rattle.std.specs.Prelude.{◌≡◌, map, IfOk};
-ghost use Rattle.mf_arrears.specs.Line.{line_of as line_of_loans};
+ghost use Rattle.mf_arrears.specs.Line.{line_of_loans};
 ghost use Rattle.mf_model.specs.Arrears.{active_in, arrears_seen};
 ghost use Rattle.mf_model.specs.Institution.{Institution};
 ghost use Rattle.mf_model.specs.Store.{rows_at};

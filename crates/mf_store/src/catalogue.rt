@@ -14,7 +14,7 @@ use crate::store::Store;
 use mf_base::{Day, Fault, Name};
 use mf_catalog::{Calc, ChargeDef, ChargeKind, Product, ProductMembers};
 use mf_model::CatalogueCounts;
-use mf_store_commits::{charge_row, product_row, retired};
+use mf_store_commits::{charge_row, product_row, retire};
 use mf_store_schema::{MetaRow, SCHEMA, StoreWrite, Text};
 use mf_store_values::{charge_from, product_from};
 use sqlite::Alter;
@@ -156,7 +156,7 @@ impl<S: Alter> Store<S> {
         let Some(found) = self.find_product(product)? else {
             return Err(Fault::F20);
         };
-        let row = retired(found);
+        let row = retire(found);
         Ok(StoreWrite::PutProduct(row))
     }
 

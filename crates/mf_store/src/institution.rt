@@ -13,7 +13,7 @@ use mf_model::{
 };
 use mf_office::{Account, Caller, Name, OfficeNo, Role};
 use mf_statement::InstalmentList;
-use mf_store_values::stored;
+use mf_store_values::or_give_up;
 use sqlite::Alter;
 use std::alloc::Global;
 
@@ -29,7 +29,7 @@ impl<S: Alter> Store<S> {
     {
         match self.find_staff(caller.office.get(), caller.staff.get())? {
             None => Ok(None),
-            Some(staff) => Ok(Some(stored(Role::from_number(staff.role))?)),
+            Some(staff) => Ok(Some(or_give_up(Role::from_number(staff.role))?)),
         }
     }
 

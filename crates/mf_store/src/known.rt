@@ -116,7 +116,7 @@ fn size_of(account: &LoanAccount) -> u32 {
 }
 
 /// The same key, where there is memory for it.
-fn copied(alloc: Global, key: &Key) -> Option<Key>
+fn copy_key(alloc: Global, key: &Key) -> Option<Key>
     ensures { IfSome result (λ copy. copy ≡ key.now) }
 {
     match String::from_str(alloc, key.as_str()) {
@@ -204,7 +204,7 @@ impl Known {
     {
         match self.keys.peek(&office) {
             None => None,
-            Some(key) => copied(alloc, key),
+            Some(key) => copy_key(alloc, key),
         }
     }
 
@@ -249,7 +249,7 @@ impl Known {
     pub(crate) fn learn_key(&mut self, alloc: Global, office: u32, key: &Key)
         ensures { (i : Institution) → AreTrueOf self.old i → key_at office i ≡ Some key.now → AreTrueOf self.new i }
     {
-        let Some(copy) = copied(alloc, key) else {
+        let Some(copy) = copy_key(alloc, key) else {
             return;
         };
         let _kept = self.keys.put(office, copy);

@@ -16,7 +16,7 @@ use crate::store::Store;
 use mf_base::Fault;
 use mf_model::{Counts, Loan, Stage};
 use mf_office::{Account, OfficeNo};
-use mf_store_commits::{loan_row, staged};
+use mf_store_commits::{loan_row, with_stage};
 use mf_store_schema::StoreWrite;
 use mf_store_values::loan_from;
 use sqlite::Alter;
@@ -90,7 +90,7 @@ impl<S: Alter> Store<S> {
         if before.disbursal_day().is_some() {
             return Err(Fault::F20);
         }
-        let now = staged(&before, stage);
+        let now = with_stage(&before, stage);
         let office = office.get();
         let number = number.get();
         let row = loan_row(alloc, office, number, now)?;

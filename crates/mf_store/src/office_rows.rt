@@ -2,7 +2,7 @@
 
 ghost use Rattle.std.specs.Prelude.{◌≡◌, ℕ, List, map, Some, IfOk};
 ghost use Rattle.std.specs.List.{AllByRecursion};
-ghost use Rattle.mf_model.specs.Institution.{Institution, Ledger as ModelLedger};
+ghost use Rattle.mf_model.specs.Institution.{Institution, Ledger};
 ghost use Rattle.mf_model.specs.Store.{rows_at, ledger_at};
 ghost use Rattle.mf_store_schema.specs.Rows.{loan_row};
 ghost use Rattle.mf_store_values.specs.Flat.{loan_in};
@@ -43,7 +43,7 @@ impl<S: Alter> Store<S> {
     fn ledger_of(&mut self, alloc: Global, row: &Row) -> Result<Ledger, Fault>
         ensures asks { MayAskTables S.Store self.old self.new result }
         ensures value { IsClean S.Store self.new → (i : Institution) → StandsFor S.Store self.old i
-            → (office number : ℕ) (l : ModelLedger)
+            → (office number : ℕ) (l : Ledger)
             → row.now ≡ loan_row (loan_in office number l.loan)
             → ledger_at (record { office = office; number = number }) i ≡ Some l
             → IfOk result (λ ledger. ledger ≡ l) }
@@ -57,7 +57,7 @@ impl<S: Alter> Store<S> {
     fn ledgers_of(&mut self, alloc: Global, rows: &[Row]) -> Result<Vec<Ledger>, Fault>
         ensures asks { MayAskTables S.Store self.old self.new result }
         ensures value { IsClean S.Store self.new → (i : Institution) → StandsFor S.Store self.old i
-            → (office : ℕ) (ls : List (ℕ × ModelLedger))
+            → (office : ℕ) (ls : List (ℕ × Ledger))
             → AllByRecursion (λ l. ledger_at (record { office = office; number = l.0 }) i ≡ Some l.1) ls
             → rows.now ≡ map (λ l. loan_row (loan_in office l.0 l.1.loan)) ls
             → IfOk result (λ list. list.items ≡ map (λ l. l.1) ls) }

@@ -3,7 +3,7 @@
 ghost use Rattle.std.specs.Prelude.{◌≡◌, find, IfOk};
 ghost use Rattle.mf_model.specs.Institution.{Institution};
 ghost use Rattle.mf_model.specs.Store.{receipt_at};
-ghost use Rattle.mf_store_schema.specs.Rows.{is_entry};
+ghost use Rattle.mf_store_schema.specs.Rows.{is_row_of_entry};
 ghost use Rattle.mf_store_values.specs.Flat.{tables_of};
 
 use crate::store::Store;
@@ -12,7 +12,7 @@ use mf_base::Fault;
 use mf_model::ReceiptUse;
 use mf_office::OfficeNo;
 use mf_store_schema::EntryRow;
-use mf_store_values::{stored, use_from};
+use mf_store_values::{or_give_up, use_from};
 use sqlite::Alter;
 
 impl<S: Alter> Store<S> {
@@ -21,7 +21,7 @@ impl<S: Alter> Store<S> {
     fn find_entry(&mut self, office: u32, loan: u32, seq: u32) -> Result<Option<EntryRow>, Fault>
         ensures asks { AsksTables S.Store self.old self.new result }
         ensures value { IsClean S.Store self.new → (i : Institution) → StandsFor S.Store self.old i
-            → IfOk result (λ x. x ≡ find (is_entry office loan seq) (tables_of i).entries) }
+            → IfOk result (λ x. x ≡ find (is_row_of_entry office loan seq) (tables_of i).entries) }
     {
         self.find((office, loan, seq))
     }
@@ -42,7 +42,7 @@ impl<S: Alter> Store<S> {
             return Ok(None);
         };
         let entry = self.find_entry(office, row.loan, row.seq)?;
-        let entry = stored(entry)?;
+        let entry = or_give_up(entry)?;
         Ok(Some(use_from(row, entry)?))
     }
 }

@@ -7,31 +7,31 @@ ghost use Rattle.mf_statement.specs.Lines.{instalments_from};
 ghost use Rattle.std.specs.List.{list_any};
 ghost use Rattle.mf_alloc.specs.Sums.{AreWhole, AreWithin, is_open};
 ghost use Rattle.mf_account.specs.Loan.{state_of_loan};
-ghost use Rattle.mf_office.specs.declared.account.Account.{Account as AccountNumber};
+ghost use Rattle.mf_office.specs.declared.account.Account.{Account};
 ghost use Rattle.mf_model.specs.Accounts.{account_in, balances_in, of_account, statement};
-ghost use Rattle.mf_model.specs.Institution.{Institution, Ledger as ModelLedger};
+ghost use Rattle.mf_model.specs.Institution.{Institution, Ledger};
 ghost use Rattle.mf_model.specs.Stages.{disbursed_on};
 ghost use Rattle.mf_model.specs.Store.{ledger_at, statement_at, instalments_at};
 
 use crate::store::Store;
 use mf_account::status::ACTIVE;
 use mf_account::{Balances, open_balances};
-use mf_alloc::Row;
+use mf_alloc::Instalment;
 use mf_base::{Day, Fault};
 use mf_model::{Loan, Statement};
 use mf_office::Account;
 use mf_statement::{InstalmentList, instalment_lines, instalment_lines_of_rows};
-use mf_store_values::{is_active, stored};
+use mf_store_values::{is_active, or_give_up};
 use sqlite::Alter;
 use std::alloc::Global;
 
 /// Instalments that were read, as they stand. F20 is also for such as are no loan's.
-fn lines_of_rows(alloc: Global, rows: &[Row]) -> Result<InstalmentList, Fault>
+fn lines_of_rows(alloc: Global, rows: &[Instalment]) -> Result<InstalmentList, Fault>
     ensures lines { IfOk result (λ lines. lines ≡ instalments_from 1 rows.now) }
     ensures only { IsOkUnless result Fault.F20 }
 {
     let told = instalment_lines_of_rows(alloc, rows)?;
-    stored(told)
+    or_give_up(told)
 }
 
 impl<S: Alter> Store<S> {
@@ -44,22 +44,22 @@ impl<S: Alter> Store<S> {
         alloc: Global,
         loan: &Loan,
         day: Day,
-        rows: &[Row],
+        rows: &[Instalment],
     ) -> Result<Balances, Fault>
         requires whole { AreWhole rows.now }
         requires within { AreWithin rows.now }
         requires open { list_any is_open rows.now ≡ true }
         ensures asks { MayAskTables S.Store self.old self.new result }
         ensures value { IsClean S.Store self.new → (i : Institution) → StandsFor S.Store self.old i
-            → (account : AccountNumber) (l : ModelLedger)
+            → (account : Account) (l : Ledger)
             → ledger_at account i ≡ Some l → l.loan ≡ loan.now → disbursed_on loan.now.stage ≡ Some day
             → rows.now ≡ of_account [] (λ a. (state_of_loan a).rows) (account_in i.catalogue l)
             → IfOk result (λ sums. sums ≡ balances_in i.catalogue l) }
     {
         let named = self.terms_of(loan.product)?;
-        let terms = stored(named)?;
+        let terms = or_give_up(named)?;
         let found = open_balances(alloc, &terms, loan.principal, loan.periods, day, rows)?;
-        stored(found)
+        or_give_up(found)
     }
 
     /// A loan that is there and was disbursed on a day, as it is shown.
@@ -71,7 +71,7 @@ impl<S: Alter> Store<S> {
         day: Day,
     ) -> Result<Statement, Fault>
         ensures asks { AsksTables S.Store self.old self.new result }
-        ensures value { IsClean S.Store self.new → (i : Institution) → StandsFor S.Store self.old i → (l : ModelLedger)
+        ensures value { IsClean S.Store self.new → (i : Institution) → StandsFor S.Store self.old i → (l : Ledger)
             → ledger_at account i ≡ Some l → l.loan ≡ loan.now → disbursed_on loan.now.stage ≡ Some day
             → IfOk result (λ told. told ≡ statement i.catalogue l) }
     {
@@ -87,7 +87,7 @@ impl<S: Alter> Store<S> {
 
     /// A loan that is there as it is shown, where its account is known.
     fn known_statement(&self, account: Account, loan: &Loan) -> Option<Statement>
-        ensures { (i : Institution) → StandsFor S.Store self.now i → (l : ModelLedger) → ledger_at account i ≡ Some l
+        ensures { (i : Institution) → StandsFor S.Store self.now i → (l : Ledger) → ledger_at account i ≡ Some l
             → l.loan ≡ loan.now → IfSome result (λ told. told ≡ statement i.catalogue l) }
     {
         let known = self.known_account(account)?;

@@ -12,10 +12,10 @@ ghost use Rattle.mf_model.specs.declared.commit.Commit.TheVariants.{AddEntry, Re
 ghost use Rattle.mf_model.specs.Tree.{is_there};
 ghost use Rattle.mf_store_values.specs.Flat.{key_at, tables_of};
 ghost use Rattle.mf_store_values.specs.ReceiptRows.{receipt_in};
-ghost use Rattle.mf_store_schema.specs.Rows.{loan_row, office_row, is_loan_above, is_in_range, is_instalment_in};
-ghost use Rattle.mf_store_schema.specs.Rows.{is_instalment};
+ghost use Rattle.mf_store_schema.specs.Rows.{loan_row, office_row, is_loan_above, is_between_keys, is_instalment_in};
+ghost use Rattle.mf_store_schema.specs.Rows.{is_row_of_instalment};
 ghost use Rattle.mf_store_values.specs.Principal.{IsFirstOpen};
-ghost use Rattle.mf_arrears.specs.Line.{line_of as line_of_loans};
+ghost use Rattle.mf_arrears.specs.Line.{line_of_loans};
 ghost use Rattle.mf_store_values.specs.Arrears.{NumberedLoan, AreAbove, AreWholeLoans, rows_of_office, aged_loans};
 ghost use Rattle.mf_store_schema.specs.Calls.{OnlyFaultsShut};
 ghost use Rattle.mf_store_schema.specs.Writes.{schema_of, Holds};
@@ -91,7 +91,7 @@ impl<S: Alter> Store<S> {
     pub(crate) fn is_principal_open(&mut self, loan: Account, number: u32) -> Result<bool, Fault>
         ensures asks { AsksTables S.Store self.old self.new result }
         ensures left { IsClean S.Store self.new → (i : Institution) → StandsFor S.Store self.old i
-            → IfOk result (λ left. IsTrue left → IsFirstOpen (is_instalment loan.office loan.number number)
+            → IfOk result (λ left. IsTrue left → IsFirstOpen (is_row_of_instalment loan.office loan.number number)
             (tables_of i).instalments) }
     {
         let office = loan.office.get();
@@ -129,7 +129,7 @@ impl<S: Alter> Store<S> {
     pub(crate) fn rows_within(&mut self, low: &str, high: &str) -> Result<Vec<Row>, Fault>
         ensures asks { AsksTables S.Store self.old self.new result }
         ensures rows { IsClean S.Store self.new → (i : Institution) → StandsFor S.Store self.old i
-            → IfOk result (λ rows. rows.items ≡ map office_row (filter (is_in_range low.now high.now)
+            → IfOk result (λ rows. rows.items ≡ map office_row (filter (is_between_keys low.now high.now)
             (tables_of i).offices)) }
     {
         offices_within(&mut self.connection, low, high)
@@ -166,7 +166,7 @@ impl<S: Alter> Store<S> {
 
     /// A new institution on this business day where there are no tables yet, made in one commit. The day is at most
     /// 2099-12-31. The error is F20, and the connection comes back.
-    pub fn found(
+    pub fn create(
         alloc: Global,
         mut connection: Connection<S>,
         day: Day,

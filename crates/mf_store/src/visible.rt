@@ -5,7 +5,7 @@ ghost use Rattle.mf_base.specs.declared.fault.Fault.TheVariants.{F20};
 ghost use Rattle.mf_office.specs.Tree.{is_within};
 ghost use Rattle.mf_model.specs.Institution.{Institution};
 ghost use Rattle.mf_model.specs.Tree.{parent_of, seen_by, seen_office};
-ghost use Rattle.mf_model.specs.Desk.{line_of};
+ghost use Rattle.mf_model.specs.Desk.{office_shown};
 ghost use Rattle.mf_store_values.specs.Flat.{key_at, sees, has_room};
 
 use crate::store::Store;
@@ -106,7 +106,7 @@ impl<S: Alter> Store<S> {
     pub fn offices(&mut self, alloc: Global, to: OfficeNo) -> Result<OfficeList, Fault>
         ensures asks { MayAskTables S.Store self.old self.new result }
         ensures value { IsClean S.Store self.new → (i : Institution) → StandsFor S.Store self.old i
-            → IfOk result (λ list. list ≡ map line_of (seen_by to i.offices)) }
+            → IfOk result (λ list. list ≡ map office_shown (seen_by to i.offices)) }
     {
         laws::tree_of_offices();
         let found = self.kept_key(alloc, to.get())?;

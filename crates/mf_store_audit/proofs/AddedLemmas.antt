@@ -10,7 +10,7 @@ use Rattle.mf_model.specs.Accounts.{status_in, balances_in}
 use Rattle.mf_model.specs.Institution.{Catalogue, Ledger}
 use Rattle.mf_store_audit.specs.declared.totals.OfficeSums.{OfficeSums}
 use Rattle.mf_store_audit.specs.declared.totals.Sums.{Sums}
-use Rattle.mf_store_audit.specs.Sums.{loans_at, lent_on, sums_by_loan, added, total_of}
+use Rattle.mf_store_audit.specs.Sums.{loans_of_status, lent_on, sums_by_loan, added, sums_of_all}
 
 module _ {X : Type 0} where
   sum_more : (f : X → ℕ) (s : ℕ) (x : X) (xs : List X) → s + sum_by f (x ∷ []) + sum_by f xs ≡ s + sum_by f (x ∷ xs)
@@ -56,7 +56,8 @@ none_and n = omega arith
 pub more_added : (k : Catalogue) (s : Sums) (l : Ledger) (ls : List Ledger)
     → added (added s (sums_by_loan k 0 (l ∷ []))) (sums_by_loan k 0 ls) ≡ added s (sums_by_loan k 0 (l ∷ ls))
 more_added k s l ls =
-    let at : (status n : ℕ) → n + loans_at k (l ∷ []) status + loans_at k ls status ≡ n + loans_at k (l ∷ ls) status =
+    let at : (status n : ℕ) → n + loans_of_status k (l ∷ []) status + loans_of_status k ls status
+    ≡ n + loans_of_status k (l ∷ ls) status =
     λ status n. count_more (λ (m : Ledger). status_in k m == status) n l ls in
     let by : (f : Ledger → ℕ) (n : ℕ) → n + sum_by f (l ∷ []) + sum_by f ls ≡ n + sum_by f (l ∷ ls) =
     λ f n. sum_more f n l ls in
@@ -120,7 +121,7 @@ none_added k s = λ t. record {
 }
 
 -- sums of so many clients, with loans added
-first_added : (clients : ℕ) (s : Sums) → added (record (total_of []) { clients = clients }) s
+first_added : (clients : ℕ) (s : Sums) → added (record (sums_of_all []) { clients = clients }) s
     ≡ record s { clients = clients + s.clients }
 first_added clients s = λ t. record {
   clients = clients + s.clients;
@@ -150,13 +151,13 @@ first_added clients s = λ t. record {
 }
 
 pub clients_first : (k : Catalogue) (clients : ℕ) (ls : List Ledger)
-    → added (record (total_of []) { clients = clients }) (sums_by_loan k 0 ls) ≡ sums_by_loan k clients ls
+    → added (record (sums_of_all []) { clients = clients }) (sums_by_loan k 0 ls) ≡ sums_by_loan k clients ls
 clients_first k clients ls = first_added clients (sums_by_loan k 0 ls) ∙ (λ t. sums_by_loan k (and_none clients t) ls)
 
 -- ---- offices
 
-pub office_added : (os : List OfficeSums) (i : ℕ) (d : OfficeSums) → i < length os → added (total_of (take i os))
-    (get_or os i d).sums ≡ total_of (take (i + 1) os)
+pub office_added : (os : List OfficeSums) (i : ℕ) (d : OfficeSums) → i < length os → added (sums_of_all (take i os))
+    (get_or os i d).sums ≡ sums_of_all (take (i + 1) os)
 office_added os i d low =
     let by : (f : OfficeSums → ℕ) → sum_by f (take i os) + f (get_or os i d) ≡ sum_by f (take (i + 1) os) =
     λ f. sym (sum_by_more f os i d low) in

@@ -1,9 +1,8 @@
 -- From what is said of the rows that were read to what is said of the tables.
-use Rattle.std.proofs.Common.{◌≡◌, ◌≢◌, inl, inr, ℕ, Bool, true, false, Some, refl, sym, ap, ◌∙◌, subst}
-use Rattle.std.specs.Prelude.{cond, map}
+use Rattle.std.proofs.Common.{◌≡◌, inl, inr, ℕ, Bool, true, false, Some, sym, ap, ◌∙◌, subst}
+use Rattle.std.specs.Prelude.{cond}
 use Rattle.sqlite.specs.Effect.{Database}
 use Rattle.mf_model.specs.Institution.{Institution}
-use Rattle.mf_model.specs.Sound.{IsSound}
 use Rattle.mf_store_schema.specs.Rows.{Lists}
 use Rattle.mf_store_schema.specs.Tables.{schema}
 use Rattle.mf_store_schema.specs.Writes.{Holds}
@@ -11,17 +10,13 @@ use Rattle.mf_store_schema.specs.Tables.{first_schema}
 use Rattle.mf_store_values.specs.Flat.{tables_of}
 use Rattle.mf_store_sound.specs.Schemas.{first_tables_of, tables_under, without_accounts}
 use Rattle.mf_store_schema.specs.Upgrade.{HoldsFirst}
-use Rattle.mf_store_audit.specs.Findings.{AllBreak, AreOfNone, AreOfOne, rows_under}
+use Rattle.mf_store_audit.specs.Findings.{AllBreak, AreOfNone}
 use Rattle.mf_store_files.specs.Held.{CanBeHeld, DoRise}
 use Rattle.mf_store_files.proofs.JudgedLemmas.{can_be_held, first_can_be_held, holds_sound, holds_sound_first}
 use Rattle.mf_store_files.proofs.TakenLemmas.{not_first}
-use Rattle.mf_store_audit.specs.Audits.{AreSumsOf, IsAuditOfRows, IsAuditOf, HoldsUnder, HoldsNone, AreAllHeld}
+use Rattle.mf_store_audit.specs.Audits.{IsAuditOfRows, IsAuditOf, HoldsNone}
 use Rattle.mf_store_audit.specs.declared.audits.Audit.{Audit}
 use Rattle.mf_store_audit.specs.declared.audits.Audit.TheVariants.{NoTables, OtherTables, Sound, Unsound, Unreadable}
-
--- rows that no sound institution has are not those of one
-pub none_of : (n : ℕ) (lists : Lists) → ¬ AreOfOne n lists → AreOfNone n lists
-none_of n lists none i sound are = none (record { institution = i; sound = sound; rows_are = are })
 
 -- the rows of an institution without those of accounts are those that sums are worked out of
 pub bare_rows : (first : Bool) (i : Institution) (lists : Lists) → cond first (first_tables_of i) (tables_of i) ≡ lists

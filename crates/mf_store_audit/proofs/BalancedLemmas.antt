@@ -6,7 +6,7 @@ use Rattle.sqlite_keyed.proofs.ListLemmas.{all_weaker}
 use Rattle.mf_office.specs.declared.caller.Caller.{Caller}
 use Rattle.mf_account.specs.declared.entry.Entry.{Entry}
 use Rattle.mf_account.specs.Balance.{balances_of, sum_repaid}
-use Rattle.mf_account.specs.Loan.{Loan as Running}
+use Rattle.mf_account.specs.Loan.{DisbursedLoan}
 use Rattle.mf_account.proofs.ConserveLemmas.{balances-repaid, balances-principal}
 use Rattle.mf_model.specs.Accounts.{account_in, of_account, balances_in, no_balances}
 use Rattle.mf_model.specs.Institution.{Catalogue, Institution, Ledger, Office}
@@ -14,7 +14,7 @@ use Rattle.mf_model.specs.Sound.{IsSound, IsSoundCatalogue, IsSoundLoan, IsSound
 use Rattle.mf_model.specs.Stages.{disbursed_on}
 use Rattle.mf_model.proofs.AccountLemmas.{account_is, account_sound}
 use Rattle.mf_store_audit.specs.declared.totals.OfficeSums.{OfficeSums}
-use Rattle.mf_store_audit.specs.Sums.{lent_on, sums_of, sums_by_loan, total_of, IsBalanced}
+use Rattle.mf_store_audit.specs.Sums.{lent_on, sums_of_office, sums_by_loan, sums_of_all, IsBalanced}
 use Rattle.mf_store_audit.proofs.AddedLemmas.{in_three}
 use Rattle.mf_store_audit.proofs.LoanLemmas.{not_disbursed}
 
@@ -25,15 +25,15 @@ record IsLoanBalanced (k : Catalogue) (l : Ledger) : Type 0 where
   money : sum_repaid l.entries ≡ sum (balances_in k l).paid + (balances_in k l).overpaid + (balances_in k l).refunded
 
 -- both sides of each, by the account
-abbrev lent_by : Option Running → ℕ
-lent_by o = of_account {A = ℕ} 0 (λ (a : Running). a.principal) o
+abbrev lent_by : Option DisbursedLoan → ℕ
+lent_by o = of_account {A = ℕ} 0 (λ (a : DisbursedLoan). a.principal) o
 
-abbrev principal_in : Option Running → ℕ
+abbrev principal_in : Option DisbursedLoan → ℕ
 principal_in o =
     slice_index (of_account no_balances balances_of o).paid 3 + slice_index (of_account no_balances balances_of
     o).written_off 3 + slice_index (of_account no_balances balances_of o).outstanding 3
 
-abbrev money_in : Option Running → ℕ
+abbrev money_in : Option DisbursedLoan → ℕ
 money_in o = sum (of_account no_balances balances_of o).paid + (of_account no_balances balances_of o).overpaid
     + (of_account no_balances balances_of o).refunded
 
@@ -45,7 +45,7 @@ module _ (k : Catalogue) (staffed : Caller → Bool) (sound : IsSoundCatalogue k
   loan_balanced : (names : List (List ℕ)) (l : Ledger) → IsSoundLoan k staffed names l → IsLoanBalanced k l
   loan_balanced names l s = go (account_in k l) refl
     where
-      go : (o : Option Running) → account_in k l ≡ o → IsLoanBalanced k l
+      go : (o : Option DisbursedLoan) → account_in k l ≡ o → IsLoanBalanced k l
       go None e =
           let empty = none_entered l.loan.periods (disbursed_on l.loan.stage) l.entries (not_disbursed k l s.product e)
           s.entries in
@@ -58,7 +58,7 @@ module _ (k : Catalogue) (staffed : Caller → Bool) (sound : IsSoundCatalogue k
           let of = account_is k l a e in
           record {
             principal = ap lent_by e ∙ sym (balances-principal a right) ∙ sym (ap principal_in e);
-            money = ap (λ (r : Running). sum_repaid r.entries) of.account_is ∙ sym (balances-repaid a right)
+            money = ap (λ (r : DisbursedLoan). sum_repaid r.entries) of.account_is ∙ sym (balances-repaid a right)
                 ∙ sym (ap money_in e);
           }
 
@@ -75,7 +75,7 @@ module _ (k : Catalogue) (staffed : Caller → Bool) (sound : IsSoundCatalogue k
   }
 
   offices_balanced : (fs : List Office) → AllByRecursion (IsSoundOffice k staffed) fs
-      → AllByRecursion (λ (o : OfficeSums). IsBalanced o.sums) (map (sums_of k) fs)
+      → AllByRecursion (λ (o : OfficeSums). IsBalanced o.sums) (map (sums_of_office k) fs)
   offices_balanced [] all = tt
   offices_balanced (f ∷ fs) all = (
     sums_balanced (length f.rows.clients) f.rows.loans (all_weaker (IsSoundLoan k staffed f.rows.clients)
@@ -84,13 +84,13 @@ module _ (k : Catalogue) (staffed : Caller → Bool) (sound : IsSoundCatalogue k
   )
 
 pub all_balanced : (i : Institution) → IsSound i → AllByRecursion (λ (o : OfficeSums). IsBalanced o.sums)
-    (map (sums_of i.catalogue) i.offices)
+    (map (sums_of_office i.catalogue) i.offices)
 all_balanced i sound = offices_balanced i.catalogue (is_staff i.offices) sound.catalogue i.offices sound.each
 
 -- ---- of all offices
 
 pub total_balanced : (os : List OfficeSums) → AllByRecursion (λ (o : OfficeSums). IsBalanced o.sums) os
-    → IsBalanced (total_of os)
+    → IsBalanced (sums_of_all os)
 total_balanced os all = record {
   principal = in_three (λ (o : OfficeSums). o.sums.principal.disbursed) (λ (o : OfficeSums). o.sums.principal.paid)
       (λ (o : OfficeSums). o.sums.principal.written_off) (λ (o : OfficeSums). o.sums.principal.outstanding) os

@@ -4,14 +4,14 @@ use Rattle.std.specs.Prelude.{sum_by}
 use Rattle.std.proofs.lemmas.List.Sums.{sum_by-take-le}
 use Rattle.mf_store_audit.specs.declared.totals.OfficeSums.{OfficeSums}
 use Rattle.mf_store_audit.specs.declared.totals.Sums.{Sums}
-use Rattle.mf_store_audit.specs.Sums.{Fit, added, total_of}
+use Rattle.mf_store_audit.specs.Sums.{Fit, added, sums_of_all}
 use Rattle.mf_store_audit.proofs.AddedLemmas.{office_added}
 
 under : (os : List OfficeSums) (i : ℕ) (f : OfficeSums → ℕ) (most : ℕ) → sum_by f os < most → sum_by f (take i os)
     < most
 under os i f most low = let less = sum_by-take-le f os i in omega (arith, less, low)
 
-pub fit_before : (os : List OfficeSums) (i : ℕ) → Fit (total_of os) → Fit (total_of (take i os))
+pub fit_before : (os : List OfficeSums) (i : ℕ) → Fit (sums_of_all os) → Fit (sums_of_all (take i os))
 fit_before os i all = record {
   clients = under os i (λ (o : OfficeSums). o.sums.clients) (2 ^ 64) all.clients;
   loans = record {
@@ -43,14 +43,14 @@ fit_before os i all = record {
 }
 
 module _ (os : List OfficeSums) (i : ℕ) (d : OfficeSums) (so_far : Sums) (low : i < length os)
-    (is : so_far ≡ total_of (take i os)) where
-  next : added so_far (get_or os i d).sums ≡ total_of (take (i + 1) os)
+    (is : so_far ≡ sums_of_all (take i os)) where
+  next : added so_far (get_or os i d).sums ≡ sums_of_all (take (i + 1) os)
   next = (λ t. added (is t) (get_or os i d).sums) ∙ office_added os i d low
 
   -- one office more
-  pub total_more : (all : Sums) → all ≡ added so_far (get_or os i d).sums → all ≡ total_of (take (i + 1) os)
+  pub total_more : (all : Sums) → all ≡ added so_far (get_or os i d).sums → all ≡ sums_of_all (take (i + 1) os)
   total_more all same = same ∙ next
 
   -- with which there is no room
-  pub no_room : (Fit (added so_far (get_or os i d).sums) → ⊥) → Fit (total_of os) → ⊥
+  pub no_room : (Fit (added so_far (get_or os i d).sums) → ⊥) → Fit (sums_of_all os) → ⊥
   no_room none fit = none (subst Fit (sym next) (fit_before os (i + 1) fit))

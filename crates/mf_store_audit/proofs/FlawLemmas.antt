@@ -1,15 +1,13 @@
 -- Conditions of charges and products, by what a test of them said.
-use Rattle.std.proofs.Common.{◌≡◌, ◌≢◌, ◌↔◌, ◌∙◌, ℕ, ℤ, pos, ◌≤◌, Bool, true, false, not, IsTrue, List, Option, Some}
-use Rattle.std.proofs.Common.{None, refl, sym, ap, subst, arith, ◌==◌, true≢false}
+use Rattle.std.proofs.Common.{◌≡◌, ◌≢◌, ◌↔◌, ◌∙◌, ℕ, ℤ, pos, ◌≤◌, Bool, not, IsTrue, List, Option, Some}
+use Rattle.std.proofs.Common.{None, sym, ap, subst, arith, ◌==◌}
 use Rattle.std.proofs.lemmas.Bool.Decides.{nat_tests}
 use Rattle.mf_base.specs.Choices.{frequency_number}
 use Rattle.mf_base.specs.declared.day.Freq.{Freq}
 use Rattle.mf_catalog.specs.Limits.{greatest_amount, longest_step}
-use Rattle.mf_catalog.specs.Names.{calc_number, kind_number}
-use Rattle.mf_catalog.specs.declared.charge.Calc.{Calc}
+use Rattle.mf_catalog.specs.Names.{kind_number}
 use Rattle.mf_catalog.specs.declared.charge.ChargeKind.{ChargeKind}
 use Rattle.mf_model.specs.Institution.{item_numbered}
-use Rattle.mf_model.specs.Sound.{IsValue}
 use Rattle.mf_store_schema.specs.declared.charges.ChargeRow.{ChargeRow}
 use Rattle.mf_store_audit.specs.Catalogue.{IsNoAmount, NamesNoCharge}
 
@@ -68,23 +66,3 @@ step_is_none number every freq b is only h = (
       subst (λ (f : Freq). (1 ≤ every) × (every ≤ longest_step f) → ⊥) same (h.0 yes)),
   λ none. h.1 (none freq (sym is)),
 )
-
--- a way of computing and a value that are read, and a test of the value
-pub value_is_none : (number : ℕ) (cents : ℤ) (calc : Calc) (value : ℕ) (b : Bool) → number ≡ calc_number calc
-    → ((other : Calc) → number ≡ calc_number other → Some calc ≡ Some other) → pos value ≡ cents
-    → (IsTrue b ↔ IsValue calc value)
-    → IsTrue (not b) ↔ ((other : Calc) → calc_number other ≡ number → (n : ℕ) → pos n ≡ cents → IsValue other n → ⊥)
-value_is_none number cents calc value b is only its h = (
-  λ yes other e n same.
-      let both : Some calc ≡ Some other = only other (sym e) in
-      let one : calc ≡ other = cc in
-      let values : pos value ≡ pos n = its ∙ sym same in
-      let two : value ≡ n = cc in
-      subst (λ (m : ℕ). IsValue other m → ⊥) two (subst (λ (c : Calc). IsValue c value
-      → ⊥) one ((denied b (IsValue calc value) h).0 yes)),
-  λ none. (denied b (IsValue calc value) h).1 (none calc (sym is) value its),
-)
-  where
-    denied : (b : Bool) (P : Type 0) → (IsTrue b ↔ P) → IsTrue (not b) ↔ (P → ⊥)
-    denied true P h = (λ yes. absurd (true≢false (sym yes)), λ no. absurd (no (h.0 refl)))
-    denied false P h = (λ yes p. true≢false (sym (h.1 p)), λ no. refl)

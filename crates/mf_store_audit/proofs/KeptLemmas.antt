@@ -1,14 +1,13 @@
 -- What is unchanged under the schema that there is stays so over two steps, and under any schema.
-use Rattle.std.proofs.Common.{◌≡◌, inl, inr}
+use Rattle.std.proofs.Common.{inl, inr}
 use Rattle.sqlite.specs.Schema.{Schema}
 use Rattle.sqlite.specs.State.{State}
-use Rattle.mf_store_schema.specs.Calls.{IsUnchanged}
+use Rattle.mf_store_schema.specs.Calls.{IsAsBefore}
 use Rattle.mf_store_schema.specs.Schemas.{IsFirst, IsKnown, IsPresent, IsUnchangedUnder}
 use Rattle.mf_store_schema.proofs.ReadLemmas.{unchanged_then}
-use Rattle.mf_store_files.specs.Told.{IsAny}
 use Rattle.mf_store_files.proofs.TableLemmas.{unchanged_fewer}
 
-pub as_present : (old new : State) → IsUnchanged old new → IsUnchangedUnder IsPresent old new
+pub as_present : (old new : State) → IsAsBefore old new → IsUnchangedUnder IsPresent old new
 as_present old new u = record {
   premise = u.premise;
   was_open = u.was_open;
@@ -22,16 +21,6 @@ pub then_under : (P Q : Schema → Type 0) (a b c : State) → ((k : Schema) →
 then_under P Q a b c has first second =
     unchanged_fewer (λ k. P k × P k) P a c (λ k is. (is, is))
     (unchanged_then P P a b c first (unchanged_fewer Q P b c has second))
-
-pub under_any : (P : Schema → Type 0) (old new : State) → P old.now.schema → IsUnchangedUnder P old new
-    → IsUnchangedUnder IsAny old new
-under_any P old new ours u = record {
-  premise = u.premise;
-  was_open = u.was_open;
-  same = λ clean live any. u.same clean live ours;
-  shuts = u.shuts;
-  stop = λ clean any. u.stop clean (λ live. ours);
-}
 
 -- ---- the schemas that have all tables searched, in the order of the search
 

@@ -3,7 +3,6 @@ pub mod EntryFlawLemmas
 pub mod EveryLemmas
 pub mod FlawLemmas
 pub mod LoanFlawLemmas
-pub mod NoneLemmas
 pub mod OfficeLemmas
 pub mod PlaceLemmas
 pub mod ReceiptFlawLemmas

@@ -9,13 +9,13 @@ use Rattle.mf_model.specs.declared.loan.Stage.{Stage}
 use Rattle.mf_model.specs.declared.loan.Stage.TheVariants.{Submitted, Approved, Disbursed, Withdrawn, Rejected}
 use Rattle.mf_store_values.specs.Flat.{approval_text, disbursal_text}
 use Rattle.mf_store_values.proofs.AnswerLemmas.{no_answer}
-use Rattle.mf_store_audit.specs.Catalogue.{IsNone}
+use Rattle.mf_store_audit.specs.Catalogue.{IsNoNumber}
 use Rattle.mf_store_audit.specs.Loans.{IsDayIf, IsNoStageText}
 
 -- a status that loans have
 -- a status that loans have
 pub status_there : (n : ℕ) → (n ≡ 100) ⊎ ((n ≡ 200) ⊎ ((n ≡ 300) ⊎ ((n ≡ 400) ⊎ (n ≡ 500)))) → IsTrue false
-    ↔ IsNone stage_number n
+    ↔ IsNoNumber stage_number n
 status_there n (inl is) = no_answer (λ none. none Submitted (sym is))
 status_there n (inr (inl is)) = no_answer (λ none. none (Approved 0) (sym is))
 status_there n (inr (inr (inl is))) = no_answer (λ none. none (Disbursed 0 0) (sym is))
@@ -32,7 +32,7 @@ record HasText (text_of : Stage → Option (List ℕ)) (n : ℕ) (text : Option 
 -- where each stage with a text has one that is needed so, and the other way round, a test of it tells whether none has
 -- it
 no_text_is : (text_of : Stage → Option (List ℕ)) (n : ℕ) (text : Option (List ℕ)) (none needed b : Bool) → none ≡ false
-    → (IsTrue none ↔ IsNone stage_number n) → (IsTrue b ↔ IsDayIf needed text)
+    → (IsTrue none ↔ IsNoNumber stage_number n) → (IsTrue b ↔ IsDayIf needed text)
     → ((s : Stage) → IsStageBy last_entered_day s → stage_number s ≡ n → text_of s ≡ text → IsDayIf needed text)
     → ((s : Stage) → stage_number s ≡ n → IsDayIf needed text → HasText text_of n text)
     → IsTrue (not b) ↔ IsNoStageText text_of n text
@@ -77,7 +77,7 @@ approval_had n text Rejected at d =
     record { stage = Rejected; by = tt; at = at; is = sym (for_approval n 500 false text at refl d) }
 
 pub approval_is : (n : ℕ) (text : Option (List ℕ)) (none needed b : Bool) → none ≡ false
-    → (IsTrue none ↔ IsNone stage_number n) → needed ≡ ((n == 200) || (n == 300)) → (IsTrue b ↔ IsDayIf needed text)
+    → (IsTrue none ↔ IsNoNumber stage_number n) → needed ≡ ((n == 200) || (n == 300)) → (IsTrue b ↔ IsDayIf needed text)
     → IsTrue (not b) ↔ IsNoStageText approval_text n text
 approval_is n text none needed b some status needs fits =
     no_text_is approval_text n text none needed b some status fits
@@ -114,7 +114,8 @@ disbursal_had n text Rejected at d =
     record { stage = Rejected; by = tt; at = at; is = sym (for_disbursal n 500 false text at refl d) }
 
 pub disbursal_is : (n : ℕ) (text : Option (List ℕ)) (none needed b : Bool) → none ≡ false
-    → (IsTrue none ↔ IsNone stage_number n) → needed ≡ (n == 300) → (IsTrue b ↔ IsDayIf needed text) → IsTrue (not b)
+    → (IsTrue none ↔ IsNoNumber stage_number n) → needed ≡ (n == 300) → (IsTrue b ↔ IsDayIf needed text)
+    → IsTrue (not b)
     ↔ IsNoStageText disbursal_text n text
 disbursal_is n text none needed b some status needs fits =
     no_text_is disbursal_text n text none needed b some status fits

@@ -1,19 +1,17 @@
 -- One loan: what is read off its account, and what its entries come to.
 use Rattle.std.proofs.Common.{◌≡◌, ◌+◌, ◌<◌, ◌∙◌, ◌==◌, ℕ, Bool, true, false, cond, not, List, [], ◌∷◌, length, get_or}
-use Rattle.std.proofs.Common.{take, Option, Some, None, refl, sym, ap, arith}
-use Rattle.std.specs.Prelude.{fold, sum, sum_by, filter, slice_index}
+use Rattle.std.proofs.Common.{take, Option, Some, None, refl, sym, ap}
+use Rattle.std.specs.Prelude.{sum, sum_by, filter, slice_index}
 use Rattle.std.specs.Option.{option_map}
-use Rattle.std.proofs.lemmas.Bool.{cond_both}
 use Rattle.std.proofs.lemmas.List.Filters.{length-filter_more}
-use Rattle.std.proofs.lemmas.List.Sums.{sum_by-cons, sum_by_more}
+use Rattle.std.proofs.lemmas.List.Sums.{sum_by_more}
 use Rattle.mf_account.specs.declared.balances.Balances.{Balances}
 use Rattle.mf_account.specs.declared.entry.Entry.{Entry}
 use Rattle.mf_account.specs.Account.{status_of}
 use Rattle.mf_account.specs.Balance.{balances_by, balances_of, sum_repaid}
-use Rattle.mf_account.specs.Change.{Account as Kept, account_by_replay}
-use Rattle.mf_account.specs.Kinds.{money_in}
-use Rattle.mf_account.specs.Loan.{Loan as Running, fee_of_loan, status_of_loan}
-use Rattle.mf_account.specs.Standing.{is_before, order_with, with_entry}
+use Rattle.mf_account.specs.Change.{KeptAccount, account_by_replay}
+use Rattle.mf_account.specs.Loan.{DisbursedLoan, fee_of_loan, status_of_loan}
+use Rattle.mf_account.proofs.StatusLemmas.{repaid_by}
 use Rattle.mf_model.specs.Accounts.{account_in, of_account, status_in, balances_in, no_balances}
 use Rattle.mf_model.specs.Institution.{Catalogue, Ledger, product_in}
 use Rattle.mf_model.specs.Sound.{lends}
@@ -21,13 +19,13 @@ use Rattle.mf_model.specs.Stages.{stage_number, disbursed_on}
 use Rattle.mf_model.proofs.AccountLemmas.{account_is, account_there}
 use Rattle.mf_store_values.specs.Ledgers.{AreEntriesIn, IsPlainLoan}
 use Rattle.mf_store_audit.specs.declared.totals.LoanCounts.{LoanCounts}
-use Rattle.mf_store_audit.specs.Sums.{loans_at, loan_counts, lent_on, sums_by_loan, total_of}
+use Rattle.mf_store_audit.specs.Sums.{loans_of_status, loan_counts, lent_on, sums_by_loan, sums_of_all}
 use Rattle.mf_store_audit.proofs.AddedLemmas.{alone}
 
 -- ---- its status
 
 pub at_alone : (k : Catalogue) (l : Ledger) (own n : ℕ) → status_in k l ≡ own → ◌≡◌ {A = ℕ} (cond (own == n) 1 0)
-    (loans_at k (l ∷ []) n)
+    (loans_of_status k (l ∷ []) n)
 at_alone k l own n e = one (own == n) ∙ (λ t. length (cond (sym e t == n) (l ∷ []) []))
   where
     one : (b : Bool) → ◌≡◌ {A = ℕ} (cond b 1 0) (length (cond b (l ∷ []) []))
@@ -36,18 +34,18 @@ at_alone k l own n e = one (own == n) ∙ (λ t. length (cond (sym e t == n) (l 
 
 -- ---- its account
 
-pub record IsAccountOf (k : Catalogue) (l : Ledger) (account : Kept) : Type 0 where
-  pub running : Running
+pub record IsAccountOf (k : Catalogue) (l : Ledger) (account : KeptAccount) : Type 0 where
+  pub running : DisbursedLoan
   pub there : account_in k l ≡ Some running
   pub kept : account ≡ account_by_replay running
   pub entries : running.entries ≡ l.entries
   pub principal : running.principal ≡ l.loan.principal
 
-pub account_of : (k : Catalogue) (l : Ledger) (account : Kept) → Some account ≡ option_map account_by_replay
+pub account_of : (k : Catalogue) (l : Ledger) (account : KeptAccount) → Some account ≡ option_map account_by_replay
     (account_in k l) → IsAccountOf k l account
 account_of k l account h = go (account_in k l) refl h
   where
-    go : (o : Option Running) → account_in k l ≡ o → Some account ≡ option_map account_by_replay o
+    go : (o : Option DisbursedLoan) → account_in k l ≡ o → Some account ≡ option_map account_by_replay o
         → IsAccountOf k l account
     go None e h = absurd (let never : Some account ≡ None = h in cc)
     go (Some a) e h =
@@ -58,24 +56,25 @@ account_of k l account h = go (account_in k l) refl h
           running = a;
           there = e;
           kept = same;
-          entries = ap (λ (r : Running). r.entries) (sym of.account_is);
-          principal = ap (λ (r : Running). r.principal) (sym of.account_is);
+          entries = ap (λ (r : DisbursedLoan). r.entries) (sym of.account_is);
+          principal = ap (λ (r : DisbursedLoan). r.principal) (sym of.account_is);
         }
 
-pub status_is : (k : Catalogue) (l : Ledger) (account : Kept) → IsAccountOf k l account → status_in k l
+pub status_is : (k : Catalogue) (l : Ledger) (account : KeptAccount) → IsAccountOf k l account → status_in k l
     ≡ status_of account.loan.entries account.state
 status_is k l account of = ap (of_account (stage_number l.loan.stage) status_of_loan) of.there
     ∙ (λ t. status_of (sym of.kept t).loan.entries (sym of.kept t).state)
 
-pub balances_are : (k : Catalogue) (l : Ledger) (account : Kept) → IsAccountOf k l account → balances_in k l
+pub balances_are : (k : Catalogue) (l : Ledger) (account : KeptAccount) → IsAccountOf k l account → balances_in k l
     ≡ balances_by (fee_of_loan account.loan) account.state
 balances_are k l account of = ap (of_account no_balances balances_of) of.there
     ∙ (λ t. balances_by (fee_of_loan (sym of.kept t).loan) (sym of.kept t).state)
 
-pub lent_is : (k : Catalogue) (l : Ledger) (account : Kept) → IsAccountOf k l account → lent_on k l ≡ l.loan.principal
-lent_is k l account of = ap (of_account {A = ℕ} 0 (λ (a : Running). a.principal)) of.there ∙ of.principal
+pub lent_is : (k : Catalogue) (l : Ledger) (account : KeptAccount) → IsAccountOf k l account
+    → lent_on k l ≡ l.loan.principal
+lent_is k l account of = ap (of_account {A = ℕ} 0 (λ (a : DisbursedLoan). a.principal)) of.there ∙ of.principal
 
-pub entries_are : (k : Catalogue) (l : Ledger) (account : Kept) → IsAccountOf k l account
+pub entries_are : (k : Catalogue) (l : Ledger) (account : KeptAccount) → IsAccountOf k l account
     → l.entries ≡ account.loan.entries
 entries_are k l account of = sym of.entries ∙ (λ t. (sym of.kept t).loan.entries)
 
@@ -85,7 +84,7 @@ pub not_there : (k : Catalogue) (l : Ledger) → None ≡ option_map account_by_
     ≡ None
 not_there k l h = go (account_in k l) h
   where
-    go : (o : Option Running) → None ≡ option_map account_by_replay o → o ≡ None
+    go : (o : Option DisbursedLoan) → None ≡ option_map account_by_replay o → o ≡ None
     go None h = refl
     go (Some a) h = absurd (let never : None ≡ Some (account_by_replay a) = h in cc)
 
@@ -109,7 +108,7 @@ no_entries k names l plain none =
     go (Some day) e are = absurd (let never : Some day ≡ None = e in cc)
 
 pub stage_alone : (k : Catalogue) (l : Ledger) (counts : LoanCounts) → account_in k l ≡ None → l.entries ≡ []
-    → counts ≡ loan_counts k (l ∷ []) → record (total_of []) { loans = counts } ≡ sums_by_loan k 0 (l ∷ [])
+    → counts ≡ loan_counts k (l ∷ []) → record (sums_of_all []) { loans = counts } ≡ sums_by_loan k 0 (l ∷ [])
 stage_alone k l counts none empty is =
     let b = ap (of_account no_balances balances_of) none in
     λ t. record {
@@ -122,7 +121,7 @@ stage_alone k l counts none empty is =
             (ap (λ (es : List Entry). length (filter (λ (e : Entry). e.reversed) es)) empty) t;
       };
       principal = record {
-        disbursed = alone (lent_on k) l 0 (ap (of_account {A = ℕ} 0 (λ (a : Running). a.principal)) none) t;
+        disbursed = alone (lent_on k) l 0 (ap (of_account {A = ℕ} 0 (λ (a : DisbursedLoan). a.principal)) none) t;
         paid = alone (λ (m : Ledger). slice_index (balances_in k m).paid 3) l 0
             (ap (λ (x : Balances). slice_index x.paid 3) b) t;
         written_off = alone (λ (m : Ledger). slice_index (balances_in k m).written_off 3) l 0
@@ -138,49 +137,12 @@ stage_alone k l counts none empty is =
       };
     }
 
--- ---- what its repayments brought: a sum over the standing entries is one over all, where those that are reversed count nothing
+-- ---- what its repayments brought
 
-abbrev counted : (Entry → ℕ) → Entry → ℕ
-counted f e = cond e.reversed 0 (f e)
-
-sum_placed : (f : Entry → ℕ) (e : Entry) (order : List Entry) → sum_by f (order_with e order) ≡ f e + sum_by f order
-sum_placed f e [] = sum_by-cons f e []
-sum_placed f e (x ∷ xs) =
-    let first = sum_by-cons f x xs in
-    let later = sum_by-cons f x (order_with e xs) in
-    let rest = sum_placed f e xs in
-    cond_both (is_before e x) (e ∷ x ∷ xs) (x ∷ order_with e xs) (λ y. sum_by f y ≡ f e + sum_by f (x ∷ xs))
-    (λ _. sum_by-cons f e (x ∷ xs)) (λ _. omega (arith, first, later, rest))
-
-sum_with : (f : Entry → ℕ) (order : List Entry) (e : Entry) → sum_by f (with_entry order e) ≡ sum_by f order
-    + counted f e
-sum_with f order e =
-    let more = sum_placed f e order in
-    elim e.reversed as (λ b. sum_by f (cond b order (order_with e order)) ≡ sum_by f order + cond b 0 (f e)) [
-      | true ↦ omega arith
-      | false ↦ omega (arith, more)
-    ]
-
-sum_all : (f : Entry → ℕ) (order xs : List Entry) → sum_by f (fold with_entry order xs) ≡ sum_by f order
-    + sum_by (counted f) xs
-sum_all f order [] = omega arith
-sum_all f order (x ∷ xs) =
-    let one = sum_with f order x in
-    let rest = sum_all f (with_entry order x) xs in
-    let all = sum_by-cons (counted f) x xs in
-    omega (arith, one, rest, all)
-
--- what an entry brought, while it stands
-abbrev pub brought_by : Entry → ℕ
-brought_by e = cond e.reversed 0 (money_in e.kind e.amount)
-
-pub brought_is : (entries : List Entry) → sum_by brought_by entries ≡ sum_repaid entries
-brought_is entries = let all = sum_all (λ (e : Entry). money_in e.kind e.amount) [] entries in omega (arith, all)
-
-pub brought_more : (es : List Entry) (i : ℕ) (e : Entry) → i < length es → e ≡ get_or es i e
-    → sum_by brought_by (take (i + 1) es) ≡ sum_by brought_by (take i es) + brought_by e
-brought_more es i e low is =
-    sum_by_more brought_by es i e low ∙ ap (λ (x : Entry). sum_by brought_by (take i es) + brought_by x) (sym is)
+pub repaid_more : (es : List Entry) (i : ℕ) (e : Entry) → i < length es → e ≡ get_or es i e
+    → sum_by repaid_by (take (i + 1) es) ≡ sum_by repaid_by (take i es) + repaid_by e
+repaid_more es i e low is =
+    sum_by_more repaid_by es i e low ∙ ap (λ (x : Entry). sum_by repaid_by (take i es) + repaid_by x) (sym is)
 
 -- ---- how many of its entries pass a test
 

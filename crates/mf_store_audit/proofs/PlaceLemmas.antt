@@ -63,6 +63,3 @@ module _ {F R : Type 0} (breaks : F → Option R → R → Type 0) where
   pub none_all : (from i : ℕ) (rows : List R) → length rows ≤ i → NoneBetween breaks from i rows
       → NoneBetween breaks from (length rows) rows
   none_all from i rows past so_far place flaw low high at = so_far place flaw low (omega (arith, past, high)) at
-
-  pub none_yet : (from : ℕ) (rows : List R) → NoneBetween breaks from from rows
-  none_yet from rows place flaw low high at = absurd (omega (arith, low, high))

@@ -1,6 +1,6 @@
 -- The value for which no record can hold a row.
 use Rattle.std.proofs.Common.{◌≡◌, ◌↔◌, ◌⊎◌, ◌<◌, ◌≤◌, ◌+◌, ◌^◌, ℕ, ℤ, pos, negsuc, Bool, true, false, List, [], ◌∷◌}
-use Rattle.std.proofs.Common.{length, IsTrue, inl, inr, sym, subst, ap, refl, ◌∙◌, true≢false, arith}
+use Rattle.std.proofs.Common.{length, IsTrue, inl, inr, sym, subst, refl, ◌∙◌, true≢false, arith}
 use Rattle.std.specs.Str.{is_utf8, IsUtf8}
 use Rattle.std.proofs.lemmas.Str.{IsUtf8-from_is_utf8, is_utf8-from_IsUtf8}
 use Rattle.std.proofs.lemmas.Bool.{ltb-true, ltb-false}
@@ -64,13 +64,6 @@ out_of_range cs row unread good typed = go (columns_held 0 cs row typed.types go
     go (inl held) = absurd (unread (record { width = typed.width; values = held }))
     go (inr bad) = bad
 
-words_one : {s t : List ℕ} → Words s ≡ Words t → s ≡ t
-words_one same = ap text_of same
-  where
-    text_of : Value → List ℕ
-    text_of (Words t) = t
-    text_of v = []
-
 null_good : (v : Value) → v ≡ Null → ¬ IsBadText v
 null_good v null bad = absurd (cc)
 
@@ -78,10 +71,6 @@ null_good v null bad = absurd (cc)
 
 pub is_bad : (v : Value) (t : List ℕ) → v ≡ Words t → ¬ IsUtf8 t → IsTrue true ↔ IsBadText v
 is_bad v t is bad = (λ yes. (t, is, bad), λ has. refl)
-
-pub is_good : (v : Value) (t : List ℕ) → v ≡ Words t → IsUtf8 t → IsTrue false ↔ IsBadText v
-is_good v t is good =
-    (λ no. absurd (true≢false (sym no)), λ has. absurd (has.2 (subst IsUtf8 (words_one (sym is ∙ has.1)) good)))
 
 pub below_more : (row : Row) (n : ℕ) → ((k : ℕ) → k < n → ¬ IsBadText (column row k)) → ¬ IsBadText (column row n)
     → (k : ℕ) → k < n + 1 → ¬ IsBadText (column row k)
@@ -104,9 +93,6 @@ none_bad row n all below has = go (ltb has.0 n) refl
         let high : n ≤ has.0 = ltb-false has.0 n e in
         let past : length row ≤ has.0 = omega (arith) in
         null_good (column row has.0) (past_end row has.0 past) has.1
-
-pub has_bad : (row : Row) (n : ℕ) → IsBadText (column row n) → IsTrue true ↔ HasBadText row
-has_bad row n bad = (λ yes. (n, bad), λ has. refl)
 
 pub has_none : (row : Row) → ¬ HasBadText row → IsTrue false ↔ HasBadText row
 has_none row none = (λ no. absurd (true≢false (sym no)), λ has. absurd (none has))

@@ -20,7 +20,7 @@ use Rattle.mf_store_sound.proofs.OfficePartLemmas.{length_numbered, of_client, o
 use Rattle.mf_store_audit.specs.declared.totals.OfficeSums.{OfficeSums}
 use Rattle.mf_store_audit.specs.declared.totals.Sums.{Sums}
 use Rattle.mf_store_audit.specs.OfficeSums.{IsPlain, AreRowsOfOffices}
-use Rattle.mf_store_audit.specs.Sums.{sums_by_loan, sums_of, added}
+use Rattle.mf_store_audit.specs.Sums.{sums_by_loan, sums_of_office, added}
 use Rattle.mf_store_audit.proofs.AddedLemmas.{more_added, none_added}
 
 -- ---- loans
@@ -85,7 +85,7 @@ pub record AreLeft (k : Catalogue) (whole : List OfficeSums) (offices : List Off
     (loans : List LoanRow) (entries : List EntryRow) (found : List OfficeSums) : Type 0 where
   pub fs : List Office
   pub rows : AreRowsOfOffices k offices clients loans entries fs
-  pub whole_is : whole ≡ found ++ map (sums_of k) fs
+  pub whole_is : whole ≡ found ++ map (sums_of_office k) fs
 
 module _ (k : Catalogue) (whole : List OfficeSums) (os : List OfficeRow) (c fc lc : List ClientRow)
     (l fl ll : List LoanRow) (e fe le : List EntryRow) (found more : List OfficeSums) (sums : Sums) where
@@ -105,7 +105,7 @@ module _ (k : Catalogue) (whole : List OfficeSums) (os : List OfficeRow) (c fc l
       go : (fs : List Office) → Ascending fs → map bare fs ≡ office_of o ∷ map office_of os
           → AllByRecursion (λ (f : Office). AllByRecursion (IsPlain k) f.rows.loans) fs
           → all_rows client_in (λ its. its.clients) fs ≡ c → all_rows loan_in loans_of fs ≡ l → entry_rows fs ≡ e
-          → whole ≡ found ++ map (sums_of k) fs → AreLeft k whole os lc ll le more
+          → whole ≡ found ++ map (sums_of_office k) fs → AreLeft k whole os lc ll le more
       go [] up t p a b d w = absurd (cc)
       go (f ∷ fs) up t p a b d w =
           let head : bare f ≡ office_of o = cc in
@@ -135,7 +135,7 @@ module _ (k : Catalogue) (whole : List OfficeSums) (os : List OfficeRow) (c fc l
               entries_are = sym (later_of_office entry_in own_entries of_entry (λ x n i. refl) f fs up.0)
                   ∙ (λ z. later of_entry (number z) (d z)) ∙ sym later_e;
             };
-            whole_is = one_made whole found more (map (sums_of k) fs) (sums_of k f) w (is
+            whole_is = one_made whole found more (map (sums_of_office k) fs) (sums_of_office k f) w (is
                 ∙ (λ z. found ++ record { office = sym number z; sums = whole_sums z } ∷ []));
           }
 
@@ -143,6 +143,6 @@ pub no_office_left : (k : Catalogue) (whole : List OfficeSums) (c : List ClientR
     (e : List EntryRow) (found : List OfficeSums) → AreLeft k whole [] c l e found → found ≡ whole
 no_office_left k whole c l e found h = go h.fs h.rows.theirs h.whole_is
   where
-    go : (fs : List Office) → map bare fs ≡ [] → whole ≡ found ++ map (sums_of k) fs → found ≡ whole
+    go : (fs : List Office) → map bare fs ≡ [] → whole ≡ found ++ map (sums_of_office k) fs → found ≡ whole
     go [] t w = sym (w ∙ append-nil found)
     go (f ∷ fs) t w = absurd (cc)

@@ -12,7 +12,7 @@ use Rattle.mf_model.specs.Institution.{Catalogue, Ledger, Office}
 use Rattle.mf_model.specs.WorkedAccounts.{january, february, march}
 use Rattle.mf_model.specs.WorkedRows.{usual}
 use Rattle.mf_store_audit.specs.declared.totals.OfficeSums.{OfficeSums}
-use Rattle.mf_store_audit.specs.Sums.{sums_of}
+use Rattle.mf_store_audit.specs.Sums.{sums_of_office}
 
 abbrev catalogue : Catalogue
 catalogue = record { day = march; charges = []; products = record { members = usual None; retired = false } ∷ [] }
@@ -76,6 +76,6 @@ expected = record {
   };
 }
 
-worked : sums_of catalogue office ≡ expected
+worked : sums_of_office catalogue office ≡ expected
 unfolding day_of date_of
 worked = refl

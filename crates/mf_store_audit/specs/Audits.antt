@@ -20,7 +20,7 @@ use Rattle.mf_store_sound.specs.Schemas.{first_tables_of, without_accounts}
 use Rattle.mf_store_schema.specs.Upgrade.{HoldsFirst}
 use Rattle.mf_store_audit.specs.Findings.{AllBreak, AreOfNone, rows_under}
 use Rattle.mf_store_audit.specs.declared.finding.Finding.{Finding}
-use Rattle.mf_store_audit.specs.Sums.{sums_of}
+use Rattle.mf_store_audit.specs.Sums.{sums_of_office}
 use Rattle.mf_store_audit.specs.declared.totals.OfficeSums.{OfficeSums}
 use Rattle.mf_store_files.specs.Files.{HasNoTables}
 use Rattle.mf_store_audit.specs.Unread.{IsUnread}
@@ -32,7 +32,7 @@ pub record AreSumsOf (Has : Institution → Type 0) (sums : List OfficeSums) : T
   pub institution : Institution
   pub sound : IsSound institution
   pub has : Has institution
-  pub sums_are : map (sums_of institution.catalogue) institution.offices ≡ sums
+  pub sums_are : map (sums_of_office institution.catalogue) institution.offices ≡ sums
 
 -- what is said of rows under the schema of this number
 abbrev pub IsAuditOfRows : ℕ → Lists → Audit → Type 0

@@ -22,8 +22,8 @@ use Rattle.mf_store_audit.specs.declared.finding.ProductFlaw.{ProductFlaw}
 use Rattle.mf_store_audit.specs.declared.finding.ProductFlaw.TheVariants as product
 
 -- a number is that of no choice
-abbrev pub IsNone : {A : Type 0} → (A → ℕ) → ℕ → Type 0
-IsNone number_of n = (choice : _) → number_of choice ≢ n
+abbrev pub IsNoNumber : {A : Type 0} → (A → ℕ) → ℕ → Type 0
+IsNoNumber number_of n = (choice : _) → number_of choice ≢ n
 
 -- an integer that is no amount of 1 to the greatest, in cents
 abbrev pub IsNoAmount : ℤ → Type 0
@@ -40,8 +40,8 @@ abbrev pub BreaksCharge : ChargeFlaw → Option ChargeRow → ChargeRow → Type
 BreaksCharge charge.Number before row = row.number ≢ number_after (λ (c : ChargeRow). c.number) before
 BreaksCharge charge.Limit before row = 999 < row.number
 BreaksCharge charge.Name before row = ¬ IsName row.name
-BreaksCharge charge.Kind before row = IsNone kind_number row.kind
-BreaksCharge charge.Calc before row = IsNone calc_number row.calc
+BreaksCharge charge.Kind before row = IsNoNumber kind_number row.kind
+BreaksCharge charge.Calc before row = IsNoNumber calc_number row.calc
 BreaksCharge charge.Value before row =
     (calc : Calc) → calc_number calc ≡ row.calc → (value : ℕ) → pos value ≡ row.value → ¬ IsValue calc value
 
@@ -56,10 +56,10 @@ abbrev pub BreaksProduct : List ChargeRow → ProductFlaw → Option ProductRow 
 BreaksProduct charges product.Number before row = row.number ≢ number_after (λ (p : ProductRow). p.number) before
 BreaksProduct charges product.Limit before row = 999 < row.number
 BreaksProduct charges product.Name before row = ¬ IsName row.name
-BreaksProduct charges product.Method before row = IsNone method_number row.method
-BreaksProduct charges product.Frequency before row = IsNone frequency_number row.frequency
-BreaksProduct charges product.Strategy before row = IsNone strategy_number row.strategy
-BreaksProduct charges product.Retired before row = IsNone flag_number row.retired
+BreaksProduct charges product.Method before row = IsNoNumber method_number row.method
+BreaksProduct charges product.Frequency before row = IsNoNumber frequency_number row.frequency
+BreaksProduct charges product.Strategy before row = IsNoNumber strategy_number row.strategy
+BreaksProduct charges product.Retired before row = IsNoNumber flag_number row.retired
 BreaksProduct charges product.Rate before row = greatest_rate < row.rate
 BreaksProduct charges product.Every before row =
     (freq : Freq) → frequency_number freq ≡ row.frequency → ¬ ((1 ≤ row.every) × (row.every ≤ longest_step freq))

@@ -16,7 +16,7 @@ use Rattle.mf_store_schema.specs.declared.entries.EntryRow.{EntryRow}
 use Rattle.mf_store_schema.specs.declared.loans.LoanRow.{LoanRow}
 use Rattle.mf_store_schema.specs.declared.receipts.ReceiptRow.{ReceiptRow}
 use Rattle.mf_store_schema.specs.declared.staff.StaffRow.{StaffRow}
-use Rattle.mf_store_audit.specs.Catalogue.{IsNone}
+use Rattle.mf_store_audit.specs.Catalogue.{IsNoNumber}
 use Rattle.mf_store_audit.specs.Places.{number_within, IsAfter, IsNoDay}
 use Rattle.mf_store_audit.specs.declared.entries.EntrySetting.{EntrySetting}
 use Rattle.mf_store_audit.specs.declared.finding.EntryFlaw.{EntryFlaw}
@@ -72,15 +72,15 @@ BreaksEntry today loans staff receipts rows entry.Undisbursed before row = OnLoa
 BreaksEntry today loans staff receipts rows entry.Number before row =
     row.seq ≢ number_within (λ (e : EntryRow). (e.office == row.office) && (e.loan == row.loan)) (λ e. e.seq) before
 BreaksEntry today loans staff receipts rows entry.Limit before row = 9999 < row.seq
-BreaksEntry today loans staff receipts rows entry.Kind before row = IsNone entry_kind_number row.kind
+BreaksEntry today loans staff receipts rows entry.Kind before row = IsNoNumber entry_kind_number row.kind
 BreaksEntry today loans staff receipts rows entry.Day before row = IsNoDay row.day
 BreaksEntry today loans staff receipts rows entry.Early before row =
     OnLoan loans row (λ l. (day : ℕ) × (first : ℕ) × (day_text day ≡ row.day)
     × (l.disbursed ≡ Some (day_text first)) × (day < first))
 BreaksEntry today loans staff receipts rows entry.Late before row = (day : ℕ) × (day_text day ≡ row.day) × (today < day)
 BreaksEntry today loans staff receipts rows entry.Amount before row = (amount : ℕ) → pos amount ≢ row.amount
-BreaksEntry today loans staff receipts rows entry.Portion before row = IsNone portion_number row.portion
-BreaksEntry today loans staff receipts rows entry.Reversed before row = IsNone flag_number row.reversed
+BreaksEntry today loans staff receipts rows entry.Portion before row = IsNoNumber portion_number row.portion
+BreaksEntry today loans staff receipts rows entry.Reversed before row = IsNoNumber flag_number row.reversed
 BreaksEntry today loans staff receipts rows entry.Columns before row =
     OnLoan loans row (λ l. HasWrongColumns row l.periods)
 BreaksEntry today loans staff receipts rows entry.Receipt before row = ¬ IfSome row.receipt IsReceipt
@@ -109,6 +109,7 @@ BreaksDecided today loans staff receipts rows flaw before row =
 abbrev pub BreaksEntryIn : EntrySetting → EntryFlaw → Option EntryRow → EntryRow → Type 0
 BreaksEntryIn s = BreaksEntry s.today s.loans.now s.staff.now s.receipts.now s.entries.now
 
+-- the same of the conditions that are decided of each row
 abbrev pub BreaksDecidedIn : EntrySetting → EntryFlaw → Option EntryRow → EntryRow → Type 0
 BreaksDecidedIn s = BreaksDecided s.today s.loans.now s.staff.now s.receipts.now s.entries.now
 

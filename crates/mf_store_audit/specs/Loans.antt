@@ -13,7 +13,7 @@ use Rattle.mf_store_schema.specs.declared.loans.LoanRow.{LoanRow}
 use Rattle.mf_store_schema.specs.declared.offices.OfficeRow.{OfficeRow}
 use Rattle.mf_store_schema.specs.declared.products.ProductRow.{ProductRow}
 use Rattle.mf_store_sound.specs.Stages.{IsStageOf}
-use Rattle.mf_store_audit.specs.Catalogue.{IsNone}
+use Rattle.mf_store_audit.specs.Catalogue.{IsNoNumber}
 use Rattle.mf_store_audit.specs.Offices.{is_office}
 use Rattle.mf_store_audit.specs.Places.{number_within, IsAfter}
 use Rattle.mf_store_audit.specs.declared.loans.LoanSetting.{LoanSetting}
@@ -50,7 +50,7 @@ BreaksLoan today offices clients products loan.Principal before row =
 BreaksLoan today offices clients products loan.Periods before row =
     (p : ProductRow) → item_numbered products row.product ≡ Some p
     → ¬ ((p.min_periods ≤ row.periods) × (row.periods ≤ p.max_periods))
-BreaksLoan today offices clients products loan.Stage before row = IsNone stage_number row.stage
+BreaksLoan today offices clients products loan.Stage before row = IsNoNumber stage_number row.stage
 BreaksLoan today offices clients products loan.Approved before row = IsNoStageText approval_text row.stage row.approved
 BreaksLoan today offices clients products loan.Disbursed before row =
     IsNoStageText disbursal_text row.stage row.disbursed

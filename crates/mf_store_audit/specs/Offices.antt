@@ -10,7 +10,7 @@ use Rattle.mf_store_schema.specs.declared.clients.ClientRow.{ClientRow}
 use Rattle.mf_store_schema.specs.declared.offices.OfficeRow.{OfficeRow}
 use Rattle.mf_store_schema.specs.declared.staff.StaffRow.{StaffRow}
 use Rattle.mf_store_sound.specs.Offices.{HasParentsText}
-use Rattle.mf_store_audit.specs.Catalogue.{IsNone}
+use Rattle.mf_store_audit.specs.Catalogue.{IsNoNumber}
 use Rattle.mf_store_audit.specs.Places.{number_within, IsAfter}
 use Rattle.mf_store_audit.specs.declared.finding.ClientFlaw.{ClientFlaw}
 use Rattle.mf_store_audit.specs.declared.finding.ClientFlaw.TheVariants as client
@@ -45,7 +45,7 @@ BreaksStaff offices staff.Number before row =
     row.number ≢ number_within (λ (s : StaffRow). s.office == row.office) (λ s. s.number) before
 BreaksStaff offices staff.Limit before row = 9999 < row.number
 BreaksStaff offices staff.Name before row = ¬ IsName row.name
-BreaksStaff offices staff.Role before row = IsNone role_number row.role
+BreaksStaff offices staff.Role before row = IsNoNumber role_number row.role
 
 -- a row of a client, after another, over these offices
 abbrev pub BreaksClient : List OfficeRow → ClientFlaw → Option ClientRow → ClientRow → Type 0

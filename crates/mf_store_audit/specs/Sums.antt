@@ -2,7 +2,7 @@
 use Rattle.std.specs.Prelude.{◌≡◌, ℕ, ◌+◌, ◌^◌, ◌<◌, ◌==◌, not, List, length, filter, sum, sum_by, slice_index}
 use Rattle.mf_account.specs.declared.entry.Entry.{Entry}
 use Rattle.mf_account.specs.Balance.{sum_repaid}
-use Rattle.mf_account.specs.Loan.{Loan as Running}
+use Rattle.mf_account.specs.Loan.{DisbursedLoan}
 use Rattle.mf_model.specs.Accounts.{account_in, of_account, status_in, balances_in}
 use Rattle.mf_model.specs.Institution.{Catalogue, Ledger, Office}
 use Rattle.mf_store_audit.specs.declared.totals.LoanCounts.{LoanCounts}
@@ -13,20 +13,20 @@ use Rattle.mf_store_audit.specs.declared.totals.Sums.{Sums}
 use Rattle.mf_store_audit.specs.declared.totals.OfficeSums.{OfficeSums}
 
 -- how many of these loans have this status
-abbrev pub loans_at : Catalogue → List Ledger → ℕ → ℕ
-loans_at k ls status = length (filter (λ (l : Ledger). status_in k l == status) ls)
+abbrev pub loans_of_status : Catalogue → List Ledger → ℕ → ℕ
+loans_of_status k ls status = length (filter (λ (l : Ledger). status_in k l == status) ls)
 
 -- how many loans have which status
 abbrev pub loan_counts : Catalogue → List Ledger → LoanCounts
 loan_counts k ls = record {
-  submitted = loans_at k ls 100;
-  approved = loans_at k ls 200;
-  active = loans_at k ls 300;
-  withdrawn = loans_at k ls 400;
-  rejected = loans_at k ls 500;
-  closed = loans_at k ls 600;
-  written_off = loans_at k ls 601;
-  overpaid = loans_at k ls 700;
+  submitted = loans_of_status k ls 100;
+  approved = loans_of_status k ls 200;
+  active = loans_of_status k ls 300;
+  withdrawn = loans_of_status k ls 400;
+  rejected = loans_of_status k ls 500;
+  closed = loans_of_status k ls 600;
+  written_off = loans_of_status k ls 601;
+  overpaid = loans_of_status k ls 700;
 }
 
 -- how many entries of these loans stand, and how many are reversed
@@ -38,7 +38,7 @@ entry_counts ls = record {
 
 -- what was lent on a loan: its principal, once it is disbursed
 abbrev pub lent_on : Catalogue → Ledger → ℕ
-lent_on k l = of_account {A = ℕ} 0 (λ (a : Running). a.principal) (account_in k l)
+lent_on k l = of_account {A = ℕ} 0 (λ (a : DisbursedLoan). a.principal) (account_in k l)
 
 -- where the principal of these loans is; it is the last of the four portions
 abbrev pub principal_sums : Catalogue → List Ledger → PrincipalSums
@@ -69,8 +69,8 @@ sums_by_loan k clients ls = record {
 }
 
 -- what the rows of an office come to
-abbrev pub sums_of : Catalogue → Office → OfficeSums
-sums_of k f = record { office = f.number; sums = sums_by_loan k (length f.rows.clients) f.rows.loans }
+abbrev pub sums_of_office : Catalogue → Office → OfficeSums
+sums_of_office k f = record { office = f.number; sums = sums_by_loan k (length f.rows.clients) f.rows.loans }
 
 -- all that was lent is paid, written off or outstanding, and all that was repaid has paid something, is overpaid or was
 -- refunded
@@ -110,8 +110,8 @@ all_money os = record {
 }
 
 -- the sums of all offices
-abbrev pub total_of : List OfficeSums → Sums
-total_of os = record {
+abbrev pub sums_of_all : List OfficeSums → Sums
+sums_of_all os = record {
   clients = sum_by (λ (o : OfficeSums). o.sums.clients) os;
   loans = all_loans os;
   entries = record {

@@ -2,10 +2,10 @@
 
 ghost use Rattle.std.specs.Prelude.{◌≡◌, ◌≢◌, ◌↔◌, IsTrue, ℕ, pos, option_copied};
 ghost use Rattle.mf_catalog.specs.Names.{calc_number};
-ghost use Rattle.mf_catalog.specs.declared.charge.Calc.{Calc as AnyCalc};
+ghost use Rattle.mf_catalog.specs.declared.charge.Calc.{Calc};
 ghost use Rattle.mf_model.specs.Sound.{IsName, IsValue};
-ghost use Rattle.mf_store_schema.specs.declared.charges.ChargeRow.{ChargeRow as AnyCharge};
-ghost use Rattle.mf_store_audit.specs.Catalogue.{BreaksCharge, IsNone};
+ghost use Rattle.mf_store_schema.specs.declared.charges.ChargeRow.{ChargeRow};
+ghost use Rattle.mf_store_audit.specs.Catalogue.{BreaksCharge, IsNoNumber};
 ghost use Rattle.mf_store_audit.specs.Places.{number_after};
 
 use crate::finding::ChargeFlaw;
@@ -19,7 +19,7 @@ use mf_store_values::amount_from;
 
 /// Whether a number is that of no choice.
 pub(crate) fn is_none<C: Choice>(number: u32) -> bool
-    ensures { IsTrue result ↔ IsNone C.number_of number }
+    ensures { IsTrue result ↔ IsNoNumber C.number_of number }
 {
     match C::from_number(number) {
         Some(_) => false,
@@ -37,7 +37,7 @@ pub(crate) fn is_no_name(text: &Text) -> bool
 /// Whether a charge is not numbered next after the one before it.
 fn is_misnumbered(row: &ChargeRow, before: Option<&ChargeRow>) -> bool
     ensures { IsTrue result ↔ (row.now.number ≢ number_after
-        (λ (c : AnyCharge). c.number) (option_copied before.entry)) }
+        (λ (c : ChargeRow). c.number) (option_copied before.entry)) }
 {
     match before {
         Some(before) => is_not_after(row.number, before.number),
@@ -47,7 +47,7 @@ fn is_misnumbered(row: &ChargeRow, before: Option<&ChargeRow>) -> bool
 
 /// Whether a charge has no value within the limits of its way of computing.
 fn has_no_value(row: &ChargeRow) -> bool
-    ensures { IsTrue result ↔ ((calc : AnyCalc) → calc_number calc ≡ row.now.calc → (value : ℕ) →
+    ensures { IsTrue result ↔ ((calc : Calc) → calc_number calc ≡ row.now.calc → (value : ℕ) →
         pos value ≡ row.now.value →
         ¬ IsValue calc value) }
 {

@@ -2,7 +2,7 @@
 
 ghost use Rattle.std.specs.Prelude.{◌≡◌, ◌≢◌, ◌==◌, ◌↔◌, IsTrue, option_copied};
 ghost use Rattle.mf_store_schema.specs.Rows.{by_client};
-ghost use Rattle.mf_store_schema.specs.declared.clients.ClientRow.{ClientRow as AnyClient};
+ghost use Rattle.mf_store_schema.specs.declared.clients.ClientRow.{ClientRow};
 ghost use Rattle.mf_store_audit.specs.Offices.{BreaksClient};
 ghost use Rattle.mf_store_audit.specs.Places.{IsAfter, number_within};
 
@@ -36,7 +36,7 @@ fn is_out_of_order(row: &ClientRow, before: Option<&ClientRow>) -> bool
 /// Whether a client is not numbered next after the row before, or by 1 as the first of an office.
 fn is_misnumbered(row: &ClientRow, before: Option<&ClientRow>) -> bool
     ensures { IsTrue result ↔ (row.now.number ≢
-        number_within (λ (c : AnyClient). c.office == row.now.office) (λ c. c.number) (option_copied before.entry)) }
+        number_within (λ (c : ClientRow). c.office == row.now.office) (λ c. c.number) (option_copied before.entry)) }
 {
     match before {
         Some(before) if before.office == row.office => { is_not_after(row.number, before.number) }

@@ -8,13 +8,13 @@ ghost use Rattle.mf_account.specs.declared.entry.Entry.{Entry};
 ghost use Rattle.mf_base.specs.DayText.{day_text, last_entered_day};
 ghost use Rattle.mf_office.specs.Texts.{caller_of};
 ghost use Rattle.mf_store_schema.specs.Rows.{by_entry};
-ghost use Rattle.mf_store_schema.specs.declared.entries.EntryRow.{EntryRow as AnyRow};
+ghost use Rattle.mf_store_schema.specs.declared.entries.EntryRow.{EntryRow};
 ghost use Rattle.mf_store_values.specs.Flat.{entry_in};
 ghost use Rattle.mf_store_values.specs.Ledgers.{IsReadable};
 ghost use Rattle.mf_store_audit.specs.Entries.{is_own_loan, is_staff_named, BreaksEntryIn, BreaksDecidedIn};
 ghost use Rattle.mf_store_audit.specs.Entries.{HasWrongColumns};
 ghost use Rattle.mf_store_audit.specs.Places.{number_within, IsAfter, IsAt, NoneBetween};
-ghost use Rattle.mf_store_audit.specs.declared.finding.EntryFlaw.{EntryFlaw as AnyFlaw};
+ghost use Rattle.mf_store_audit.specs.declared.finding.EntryFlaw.{EntryFlaw};
 
 use crate::finding::EntryFlaw;
 use crate::loans::is_number_after;
@@ -84,7 +84,7 @@ fn is_same_loan(row: &EntryRow, other: &EntryRow) -> bool
 /// Whether a row is numbered next after the one before it on its loan, the first by 1.
 fn is_next(last: Option<&EntryRow>, row: &EntryRow) -> bool
     ensures { IsTrue result ↔
-        (row.now.seq ≡ number_within (λ (e : AnyRow). (e.office == row.now.office) && (e.loan == row.now.loan))
+        (row.now.seq ≡ number_within (λ (e : EntryRow). (e.office == row.now.office) && (e.loan == row.now.loan))
         (λ e. e.seq) (option_copied last.entry)) }
 {
     match last {
@@ -174,7 +174,7 @@ fn number_flaw(
     ensures found { Contains setting.now.loans.now loan.now → is_own_loan row.now loan.now ≡ true →
         IfSome result (λ flaw. BreaksEntryIn setting.now flaw (option_copied last.entry) row.now) }
     ensures none { IsNone result →
-        let breaks = λ (flaw : AnyFlaw). BreaksEntryIn setting.now flaw (option_copied last.entry) row.now in
+        let breaks = λ (flaw : EntryFlaw). BreaksEntryIn setting.now flaw (option_copied last.entry) row.now in
         (¬ breaks EntryFlaw.Number) × (¬ breaks EntryFlaw.Limit) × (¬ breaks EntryFlaw.Kind) }
 {
     if loan.disbursed.is_none() {
@@ -202,7 +202,7 @@ fn day_flaw(
     ensures found { Contains setting.now.loans.now loan.now → is_own_loan row.now loan.now ≡ true →
         IfSome result (λ flaw. BreaksEntryIn setting.now flaw (option_copied last.entry) row.now) }
     ensures none { IsNone result →
-        let breaks = λ (flaw : AnyFlaw). BreaksEntryIn setting.now flaw (option_copied last.entry) row.now in
+        let breaks = λ (flaw : EntryFlaw). BreaksEntryIn setting.now flaw (option_copied last.entry) row.now in
         (¬ breaks EntryFlaw.Day) }
 {
     if Day::parse(row.day.as_str().as_bytes()).is_none() {
@@ -227,7 +227,7 @@ fn column_flaw(
     ensures found { Contains setting.now.loans.now loan.now → is_own_loan row.now loan.now ≡ true →
         IfSome result (λ flaw. BreaksEntryIn setting.now flaw (option_copied last.entry) row.now) }
     ensures none { IsNone result →
-        let breaks = λ (flaw : AnyFlaw). BreaksEntryIn setting.now flaw (option_copied last.entry) row.now in
+        let breaks = λ (flaw : EntryFlaw). BreaksEntryIn setting.now flaw (option_copied last.entry) row.now in
         (¬ breaks EntryFlaw.Amount) × (¬ breaks EntryFlaw.Portion) × (¬ breaks EntryFlaw.Reversed)
         × (¬ breaks EntryFlaw.Receipt) }
 {
@@ -253,7 +253,7 @@ fn column_flaw(
 fn link_flaw(setting: &EntrySetting, last: Option<&EntryRow>, row: &EntryRow) -> Option<EntryFlaw>
     ensures found { IfSome result (λ flaw. BreaksEntryIn setting.now flaw (option_copied last.entry) row.now) }
     ensures none { IsNone result →
-        let breaks = λ (flaw : AnyFlaw). BreaksEntryIn setting.now flaw (option_copied last.entry) row.now in
+        let breaks = λ (flaw : EntryFlaw). BreaksEntryIn setting.now flaw (option_copied last.entry) row.now in
         (¬ breaks EntryFlaw.Staff) × (¬ breaks EntryFlaw.Unlisted) }
 {
     if is_not_last(setting.entries, row) {
@@ -278,7 +278,7 @@ fn own_flaw(
     ensures found { Contains setting.now.loans.now loan.now → is_own_loan row.now loan.now ≡ true →
         IfSome result (λ flaw. BreaksEntryIn setting.now flaw (option_copied last.entry) row.now) }
     ensures none { IsNone result →
-        let breaks = λ (flaw : AnyFlaw). BreaksEntryIn setting.now flaw (option_copied last.entry) row.now in
+        let breaks = λ (flaw : EntryFlaw). BreaksEntryIn setting.now flaw (option_copied last.entry) row.now in
         (¬ breaks EntryFlaw.Number) × (¬ breaks EntryFlaw.Limit) × (¬ breaks EntryFlaw.Kind)
         × (¬ breaks EntryFlaw.Day) × (¬ breaks EntryFlaw.Amount) × (¬ breaks EntryFlaw.Portion)
         × (¬ breaks EntryFlaw.Reversed) × (¬ breaks EntryFlaw.Receipt) }
@@ -295,7 +295,8 @@ fn own_flaw(
 /// The first condition that a row of an entry breaks.
 fn entry_flaw(setting: &EntrySetting, last: Option<&EntryRow>, row: &EntryRow) -> Option<EntryFlaw>
     ensures found { IfSome result (λ flaw. BreaksEntryIn setting.now flaw (option_copied last.entry) row.now) }
-    ensures none { IsNone result → (flaw : AnyFlaw) → ¬ BreaksDecidedIn setting.now flaw (option_copied last.entry) row.now }
+    ensures none { IsNone result → (flaw : EntryFlaw) → ¬ BreaksDecidedIn setting.now flaw (option_copied last.entry)
+        row.now }
 {
     if !is_after(last, row) {
         return Some(EntryFlaw::Order);
@@ -314,7 +315,8 @@ fn entry_flaw(setting: &EntrySetting, last: Option<&EntryRow>, row: &EntryRow) -
 pub(crate) fn next_entry(setting: &EntrySetting, from: usize) -> Option<(usize, EntryFlaw)>
     ensures found { IfSome result (λ found. IsAt (BreaksEntryIn setting.now
         found.1) found.0 setting.now.entries.now) }
-    ensures first { IfSome result (λ found. NoneBetween (BreaksDecidedIn setting.now) from found.0 setting.now.entries.now) }
+    ensures first { IfSome result
+        (λ found. NoneBetween (BreaksDecidedIn setting.now) from found.0 setting.now.entries.now) }
     ensures none { IsNone result → NoneBetween (BreaksDecidedIn setting.now) from
         (length setting.now.entries.now) setting.now.entries.now }
     ensures later { IfSome result (λ found. (from ≤ found.0) × (found.0 + 1 < 2 ^ 64)) }

@@ -8,10 +8,10 @@ ghost use Rattle.mf_model.specs.Stages.{stage_number};
 ghost use Rattle.mf_store_values.specs.Flat.{approval_text, disbursal_text};
 ghost use Rattle.mf_store_schema.specs.Rows.{by_loan};
 ghost use Rattle.mf_store_sound.specs.Stages.{IsApproval, IsDisbursal, IsStageOf};
-ghost use Rattle.mf_store_audit.specs.Catalogue.{IsNone as IsNoNumber};
+ghost use Rattle.mf_store_audit.specs.Catalogue.{IsNoNumber};
 ghost use Rattle.mf_store_audit.specs.Loans.{is_client, IsDayIf, IsNoStageText, BreaksLoanIn};
 ghost use Rattle.mf_store_audit.specs.Places.{number_within, IsAfter, IsAt, NoneBetween};
-ghost use Rattle.mf_store_audit.specs.declared.finding.LoanFlaw.{LoanFlaw as AnyFlaw};
+ghost use Rattle.mf_store_audit.specs.declared.finding.LoanFlaw.{LoanFlaw};
 
 use crate::finding::LoanFlaw;
 use crate::offices::is_office;
@@ -155,7 +155,7 @@ fn is_disbursal_wrong(row: &LoanRow) -> bool
 fn place_flaw(setting: &LoanSetting, last: Option<&LoanRow>, row: &LoanRow) -> Option<LoanFlaw>
     ensures found { IfSome result (λ flaw. BreaksLoanIn setting.now flaw (option_copied last.entry) row.now) }
     ensures none { IsNone result →
-        let breaks = λ (flaw : AnyFlaw). BreaksLoanIn setting.now flaw (option_copied last.entry) row.now in
+        let breaks = λ (flaw : LoanFlaw). BreaksLoanIn setting.now flaw (option_copied last.entry) row.now in
         (¬ breaks LoanFlaw.Order) × (¬ breaks LoanFlaw.Office) × (¬ breaks LoanFlaw.Number)
         × (¬ breaks LoanFlaw.Limit) }
 {
@@ -184,7 +184,7 @@ fn limits_flaw(
     ensures found { Some product.now ≡ item_numbered setting.now.products.now row.now.product →
         IfSome result (λ flaw. BreaksLoanIn setting.now flaw (option_copied last.entry) row.now) }
     ensures none { Some product.now ≡ item_numbered setting.now.products.now row.now.product → IsNone result →
-        let breaks = λ (flaw : AnyFlaw). BreaksLoanIn setting.now flaw (option_copied last.entry) row.now in
+        let breaks = λ (flaw : LoanFlaw). BreaksLoanIn setting.now flaw (option_copied last.entry) row.now in
         (¬ breaks LoanFlaw.Principal) × (¬ breaks LoanFlaw.Periods) }
 {
     if !is_principal_allowed(product, row) {
@@ -200,7 +200,7 @@ fn limits_flaw(
 fn terms_flaw(setting: &LoanSetting, last: Option<&LoanRow>, row: &LoanRow) -> Option<LoanFlaw>
     ensures found { IfSome result (λ flaw. BreaksLoanIn setting.now flaw (option_copied last.entry) row.now) }
     ensures none { IsNone result →
-        let breaks = λ (flaw : AnyFlaw). BreaksLoanIn setting.now flaw (option_copied last.entry) row.now in
+        let breaks = λ (flaw : LoanFlaw). BreaksLoanIn setting.now flaw (option_copied last.entry) row.now in
         (¬ breaks LoanFlaw.Client) × (¬ breaks LoanFlaw.Product) × (¬ breaks LoanFlaw.Principal)
         × (¬ breaks LoanFlaw.Periods) }
 {
@@ -218,7 +218,7 @@ fn stage_flaw(setting: &LoanSetting, last: Option<&LoanRow>, row: &LoanRow) -> O
     requires { setting.now.today ≤ last_entered_day }
     ensures found { IfSome result (λ flaw. BreaksLoanIn setting.now flaw (option_copied last.entry) row.now) }
     ensures none { IsNone result →
-        let breaks = λ (flaw : AnyFlaw). BreaksLoanIn setting.now flaw (option_copied last.entry) row.now in
+        let breaks = λ (flaw : LoanFlaw). BreaksLoanIn setting.now flaw (option_copied last.entry) row.now in
         (¬ breaks LoanFlaw.Stage) × (¬ breaks LoanFlaw.Approved) × (¬ breaks LoanFlaw.Disbursed)
         × (¬ breaks LoanFlaw.Days) }
 {
@@ -241,7 +241,8 @@ fn stage_flaw(setting: &LoanSetting, last: Option<&LoanRow>, row: &LoanRow) -> O
 fn loan_flaw(setting: &LoanSetting, last: Option<&LoanRow>, row: &LoanRow) -> Option<LoanFlaw>
     requires { setting.now.today ≤ last_entered_day }
     ensures found { IfSome result (λ flaw. BreaksLoanIn setting.now flaw (option_copied last.entry) row.now) }
-    ensures none { IsNone result → (flaw : AnyFlaw) → ¬ BreaksLoanIn setting.now flaw (option_copied last.entry) row.now }
+    ensures none { IsNone result → (flaw : LoanFlaw)
+        → ¬ BreaksLoanIn setting.now flaw (option_copied last.entry) row.now }
 {
     if let Some(flaw) = place_flaw(setting, last, row) {
         return Some(flaw);

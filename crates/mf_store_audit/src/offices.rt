@@ -5,8 +5,8 @@ ghost use Rattle.std.specs.Prelude.{IsTrue, IfSome, IsNone, IfOk, IfErr, length,
 ghost use Rattle.mf_base.specs.declared.fault.Fault.TheVariants.{F20};
 ghost use Rattle.mf_office.specs.Numbers.{IsNumberUpTo};
 ghost use Rattle.mf_store_schema.specs.Rows.{by_office};
-ghost use Rattle.mf_store_sound.specs.Offices.{parent_row, row_at};
-ghost use Rattle.mf_store_audit.specs.declared.finding.OfficeFlaw.{OfficeFlaw as AnyFlaw};
+ghost use Rattle.mf_store_sound.specs.Offices.{parent_row, office_row_in};
+ghost use Rattle.mf_store_audit.specs.declared.finding.OfficeFlaw.{OfficeFlaw};
 ghost use Rattle.mf_store_audit.specs.Offices.{BreaksOffice, HasParent, is_office};
 ghost use Rattle.mf_store_audit.specs.Places.{IsAfter, IsAt, NoneBetween};
 
@@ -32,7 +32,7 @@ pub(crate) fn is_office(offices: &[OfficeRow], number: u32) -> bool
 
 /// The first row of an office of this number.
 fn first_of(offices: &[OfficeRow], number: u32) -> Option<&OfficeRow>
-    ensures { option_copied result ≡ row_at number offices.now }
+    ensures { option_copied result ≡ office_row_in number offices.now }
 {
     offices.iter().find(|office| office.number == number)
 }
@@ -80,7 +80,7 @@ fn flaw_of_number(
 ) -> Option<OfficeFlaw>
     ensures found { IfSome result (λ flaw. BreaksOffice offices.now flaw (option_copied before.entry) office.now) }
     ensures none { IsNone result →
-        let breaks = λ (flaw : AnyFlaw). BreaksOffice offices.now flaw (option_copied before.entry) office.now in
+        let breaks = λ (flaw : OfficeFlaw). BreaksOffice offices.now flaw (option_copied before.entry) office.now in
         (¬ breaks OfficeFlaw.Order) × (¬ breaks OfficeFlaw.Number) × (¬ breaks OfficeFlaw.Name)
         × (¬ breaks OfficeFlaw.Parent) }
 {
@@ -108,7 +108,7 @@ fn flaw_of_text(
     ensures found { IfOk result (λ found. IfSome found (λ flaw. (before : _) →
         BreaksOffice offices.now flaw before office.now)) }
     ensures none { IfOk result (λ found. IsNone found → (before : _) →
-        let breaks = λ (flaw : AnyFlaw). BreaksOffice offices.now flaw before office.now in
+        let breaks = λ (flaw : OfficeFlaw). BreaksOffice offices.now flaw before office.now in
         (¬ breaks OfficeFlaw.Text) × (¬ breaks OfficeFlaw.Depth)) }
     ensures gives_up { IfErr result (λ fault. fault ≡ F20) }
 {
@@ -130,7 +130,7 @@ fn office_flaw(
 ) -> Result<Option<OfficeFlaw>, Fault>
     ensures found { IfOk result (λ found. IfSome found (λ flaw.
         BreaksOffice offices.now flaw (option_copied before.entry) office.now)) }
-    ensures none { IfOk result (λ found. IsNone found → (flaw : AnyFlaw) →
+    ensures none { IfOk result (λ found. IsNone found → (flaw : OfficeFlaw) →
         ¬ BreaksOffice offices.now flaw (option_copied before.entry) office.now) }
     ensures gives_up { IfErr result (λ fault. fault ≡ F20) }
 {

@@ -2,12 +2,12 @@
 
 ghost use Rattle.std.specs.Prelude.{◌≡◌, ◌≢◌, ◌↔◌, ◌≤◌, IsTrue, IfSome, IsNone, option_copied};
 ghost use Rattle.mf_base.specs.Choices.{frequency_number};
-ghost use Rattle.mf_base.specs.declared.day.Freq.{Freq as AnyFreq};
+ghost use Rattle.mf_base.specs.declared.day.Freq.{Freq};
 ghost use Rattle.mf_catalog.specs.Limits.{greatest_amount, longest_step, most_periods};
 ghost use Rattle.mf_store_values.specs.Flat.{flag_number};
-ghost use Rattle.mf_store_schema.specs.declared.products.ProductRow.{ProductRow as AnyProduct};
-ghost use Rattle.mf_store_audit.specs.declared.finding.ProductFlaw.{ProductFlaw as AnyFlaw};
-ghost use Rattle.mf_store_audit.specs.Catalogue.{BreaksProduct, IsNone as IsNoChoice, IsNoAmount, NamesNoCharge};
+ghost use Rattle.mf_store_schema.specs.declared.products.ProductRow.{ProductRow};
+ghost use Rattle.mf_store_audit.specs.declared.finding.ProductFlaw.{ProductFlaw};
+ghost use Rattle.mf_store_audit.specs.Catalogue.{BreaksProduct, IsNoNumber, IsNoAmount, NamesNoCharge};
 ghost use Rattle.mf_store_audit.specs.Places.{number_after};
 
 use crate::charges::{is_no_name, is_none};
@@ -25,7 +25,7 @@ use mf_store_values::{amount_from, flag_from, row_numbered};
 /// Whether a product is not numbered next after the one before it.
 fn is_misnumbered(row: &ProductRow, before: Option<&ProductRow>) -> bool
     ensures { IsTrue result ↔ (row.now.number ≢ number_after
-        (λ (p : AnyProduct). p.number) (option_copied before.entry)) }
+        (λ (p : ProductRow). p.number) (option_copied before.entry)) }
 {
     match before {
         Some(before) => is_not_after(row.number, before.number),
@@ -35,7 +35,7 @@ fn is_misnumbered(row: &ProductRow, before: Option<&ProductRow>) -> bool
 
 /// Whether a number is neither 0 nor 1.
 fn is_no_flag(number: u32) -> bool
-    ensures { IsTrue result ↔ IsNoChoice flag_number number }
+    ensures { IsTrue result ↔ IsNoNumber flag_number number }
 {
     match flag_from(number) {
         Some(_) => false,
@@ -69,7 +69,7 @@ fn is_outside_of(freq: Freq, every: u32) -> bool
 
 /// Whether a step between due days is none that its frequency allows.
 fn is_no_step(frequency: u32, every: u32) -> bool
-    ensures { IsTrue result ↔ ((freq : AnyFreq) → frequency_number freq ≡ frequency →
+    ensures { IsTrue result ↔ ((freq : Freq) → frequency_number freq ≡ frequency →
         ¬ ((1 ≤ every) × (every ≤ longest_step freq))) }
 {
     match Freq::from_number(frequency) {
@@ -103,7 +103,7 @@ fn flaw_of_choices(row: &ProductRow, before: Option<&ProductRow>) -> Option<Prod
     ensures found { IfSome result (λ flaw. (charges : _) →
         BreaksProduct charges flaw (option_copied before.entry) row.now) }
     ensures none { IsNone result → (charges : _) →
-        let breaks = λ (flaw : AnyFlaw). BreaksProduct charges flaw (option_copied before.entry) row.now in
+        let breaks = λ (flaw : ProductFlaw). BreaksProduct charges flaw (option_copied before.entry) row.now in
         (¬ breaks ProductFlaw.Number) × (¬ breaks ProductFlaw.Limit) × (¬ breaks ProductFlaw.Name)
         × (¬ breaks ProductFlaw.Method) × (¬ breaks ProductFlaw.Frequency) × (¬ breaks ProductFlaw.Strategy)
         × (¬ breaks ProductFlaw.Retired) }
@@ -136,7 +136,7 @@ fn flaw_of_choices(row: &ProductRow, before: Option<&ProductRow>) -> Option<Prod
 fn flaw_of_ranges(row: &ProductRow) -> Option<ProductFlaw>
     ensures found { IfSome result (λ flaw. (charges before : _) → BreaksProduct charges flaw before row.now) }
     ensures none { IsNone result → (charges before : _) →
-        let breaks = λ (flaw : AnyFlaw). BreaksProduct charges flaw before row.now in
+        let breaks = λ (flaw : ProductFlaw). BreaksProduct charges flaw before row.now in
         (¬ breaks ProductFlaw.Rate) × (¬ breaks ProductFlaw.Every) × (¬ breaks ProductFlaw.PrincipalGrace)
         × (¬ breaks ProductFlaw.InterestGrace) × (¬ breaks ProductFlaw.MinPrincipal)
         × (¬ breaks ProductFlaw.MaxPrincipal) × (¬ breaks ProductFlaw.MinPeriods) × (¬ breaks ProductFlaw.MaxPeriods) }
@@ -172,7 +172,7 @@ fn flaw_of_ranges(row: &ProductRow) -> Option<ProductFlaw>
 fn flaw_of_limits(row: &ProductRow) -> Option<ProductFlaw>
     ensures found { IfSome result (λ flaw. (charges before : _) → BreaksProduct charges flaw before row.now) }
     ensures none { IsNone result → (charges before : _) →
-        let breaks = λ (flaw : AnyFlaw). BreaksProduct charges flaw before row.now in
+        let breaks = λ (flaw : ProductFlaw). BreaksProduct charges flaw before row.now in
         (¬ breaks ProductFlaw.PrincipalOrder) × (¬ breaks ProductFlaw.PeriodsOrder)
         × (¬ breaks ProductFlaw.PrincipalGraceOrder) × (¬ breaks ProductFlaw.InterestGraceOrder) }
 {
@@ -195,7 +195,7 @@ fn flaw_of_limits(row: &ProductRow) -> Option<ProductFlaw>
 fn flaw_of_charges(charges: &[ChargeRow], row: &ProductRow) -> Option<ProductFlaw>
     ensures found { IfSome result (λ flaw. (before : _) → BreaksProduct charges.now flaw before row.now) }
     ensures none { IsNone result → (before : _) →
-        let breaks = λ (flaw : AnyFlaw). BreaksProduct charges.now flaw before row.now in
+        let breaks = λ (flaw : ProductFlaw). BreaksProduct charges.now flaw before row.now in
         (¬ breaks ProductFlaw.DisbursementCharge) × (¬ breaks ProductFlaw.InstalmentCharge)
         × (¬ breaks ProductFlaw.OverdueCharge) }
 {

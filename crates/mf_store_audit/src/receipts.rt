@@ -6,10 +6,10 @@ ghost use Rattle.std.specs.List.{Contains};
 ghost use Rattle.std.specs.Ordering.{nat_cmp, ordering_then};
 ghost use Rattle.mf_store_values.specs.ReceiptRows.{receipt_of};
 ghost use Rattle.mf_store_schema.specs.Rows.{by_receipt};
-ghost use Rattle.mf_store_schema.specs.declared.entries.EntryRow.{EntryRow as AnyEntry};
+ghost use Rattle.mf_store_schema.specs.declared.entries.EntryRow.{EntryRow};
 ghost use Rattle.mf_store_audit.specs.Entries.{AreListed, BreaksReceipt};
 ghost use Rattle.mf_store_audit.specs.Places.{IsAfter, IsAt, NoneBetween};
-ghost use Rattle.mf_store_audit.specs.declared.finding.ReceiptFlaw.{ReceiptFlaw as AnyFlaw};
+ghost use Rattle.mf_store_audit.specs.declared.finding.ReceiptFlaw.{ReceiptFlaw};
 
 use crate::finding::ReceiptFlaw;
 use crate::places::row_before;
@@ -68,7 +68,7 @@ fn is_carried_by(entry: &EntryRow, row: &ReceiptRow) -> bool
 /// Whether some entry carries the receipt of a row.
 fn is_carried(entries: &[EntryRow], row: &ReceiptRow) -> bool
     ensures { IsTrue result ↔
-        ((e : AnyEntry) × Contains entries.now e × Contains (receipt_of e e.receipt) row.now) }
+        ((e : EntryRow) × Contains entries.now e × Contains (receipt_of e e.receipt) row.now) }
 {
     let key = (row.office, row.loan, row.seq);
     let searched = entries.binary_search_by_key(
@@ -122,7 +122,7 @@ fn receipt_flaw(
     row: &ReceiptRow,
 ) -> Option<ReceiptFlaw>
     ensures found { IfSome result (λ flaw. BreaksReceipt entries.now flaw (option_copied last.entry) row.now) }
-    ensures none { IsNone result → (flaw : AnyFlaw) →
+    ensures none { IsNone result → (flaw : ReceiptFlaw) →
         ¬ BreaksReceipt entries.now flaw (option_copied last.entry) row.now }
 {
     if !is_after(last, row) {

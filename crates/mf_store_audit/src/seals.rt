@@ -2,12 +2,12 @@
 
 ghost use Rattle.std.specs.Prelude.{◌≡◌, ◌≢◌, ◌==◌, ◌||◌, ◌↔◌, ℕ, true, false, IsTrue};
 ghost use Rattle.std.specs.List.{Contains};
-ghost use Rattle.mf_account.specs.Kinds.{is_seal as is_seal_kind};
-ghost use Rattle.mf_account.specs.Standing.{is_before as comes_before};
+ghost use Rattle.mf_account.specs.Kinds.{is_seal};
+ghost use Rattle.mf_account.specs.Standing.{is_before};
 ghost use Rattle.mf_account.specs.declared.entry.Entry.{Entry};
 ghost use Rattle.mf_store_values.specs.Flat.{entry_in};
 ghost use Rattle.mf_store_values.specs.Ledgers.{IsReadable};
-ghost use Rattle.mf_store_schema.specs.declared.entries.EntryRow.{EntryRow as AnyRow};
+ghost use Rattle.mf_store_schema.specs.declared.entries.EntryRow.{EntryRow};
 ghost use Rattle.mf_store_audit.specs.Entries.{IsNotLast};
 
 use mf_store_schema::EntryRow;
@@ -24,10 +24,10 @@ fn is_same_loan(row: &EntryRow, other: &EntryRow) -> bool
 fn outlasts(row: &EntryRow, seal: &EntryRow) -> bool
     ensures some { IsTrue result → (e : Entry) → IsReadable e → entry_in seal.now.office seal.now.loan e ≡ seal.now →
         (f : Entry) × (entry_in seal.now.office seal.now.loan f ≡ row.now) × (f.seq ≢ e.seq) × (f.reversed ≡ false)
-        × (comes_before f e ≡ false) }
+        × (is_before f e ≡ false) }
     ensures every { (e f : Entry) → IsReadable e → entry_in seal.now.office seal.now.loan e ≡ seal.now → IsReadable f →
         entry_in seal.now.office seal.now.loan f ≡ row.now → f.seq ≢ e.seq → f.reversed ≡ false →
-        comes_before f e ≡ false → IsTrue result }
+        is_before f e ≡ false → IsTrue result }
 {
     if !is_same_loan(row, seal) {
         return false;
@@ -40,7 +40,7 @@ fn outlasts(row: &EntryRow, seal: &EntryRow) -> bool
 
 /// Rows of a table's, among them all those of the loan of one of them where the table is in order.
 fn around<'a>(rows: &'a [EntryRow], row: &EntryRow) -> &'a [EntryRow]
-    ensures { (other : AnyRow) → Contains result.now other → Contains rows.now other }
+    ensures { (other : EntryRow) → Contains result.now other → Contains rows.now other }
 {
     let loan = (row.office, row.loan);
     let first = rows.partition_point(|other| (other.office, other.loan) < loan);
@@ -52,7 +52,7 @@ fn around<'a>(rows: &'a [EntryRow], row: &EntryRow) -> &'a [EntryRow]
 /// Whether a row is of a write-off or a refund that stands.
 fn is_standing_seal(row: &EntryRow) -> bool
     ensures { (x m : ℕ) (e : Entry) → entry_in x m e ≡ row.now →
-        IsTrue result ↔ ((is_seal_kind e.kind ≡ true) × (e.reversed ≡ false)) }
+        IsTrue result ↔ ((is_seal e.kind ≡ true) × (e.reversed ≡ false)) }
 {
     if is_reversed(row) {
         return false;

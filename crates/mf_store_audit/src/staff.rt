@@ -2,7 +2,7 @@
 
 ghost use Rattle.std.specs.Prelude.{◌≡◌, ◌≢◌, ◌==◌, ◌↔◌, IsTrue, option_copied};
 ghost use Rattle.mf_store_schema.specs.Rows.{by_staff};
-ghost use Rattle.mf_store_schema.specs.declared.staff.StaffRow.{StaffRow as AnyMember};
+ghost use Rattle.mf_store_schema.specs.declared.staff.StaffRow.{StaffRow};
 ghost use Rattle.mf_store_audit.specs.Offices.{BreaksStaff};
 ghost use Rattle.mf_store_audit.specs.Places.{IsAfter, number_within};
 
@@ -36,7 +36,7 @@ fn is_out_of_order(row: &StaffRow, before: Option<&StaffRow>) -> bool
 /// Whether a member of staff is not numbered next after the row before, or by 1 as the first of an office.
 fn is_misnumbered(row: &StaffRow, before: Option<&StaffRow>) -> bool
     ensures { IsTrue result ↔ (row.now.number ≢
-        number_within (λ (s : AnyMember). s.office == row.now.office) (λ s. s.number) (option_copied before.entry)) }
+        number_within (λ (s : StaffRow). s.office == row.now.office) (λ s. s.number) (option_copied before.entry)) }
 {
     match before {
         Some(before) if before.office == row.office => { is_not_after(row.number, before.number) }

@@ -9,7 +9,7 @@ ghost use Rattle.mf_store_values.specs.Flat.{charge_as, product_as, loan_in, ent
 ghost use Rattle.mf_store_values.specs.Flat.{numbered_from, rows_of_loans};
 ghost use Rattle.mf_store_sound.specs.Schemas.{tables_under, without_accounts};
 ghost use Rattle.mf_store_audit.specs.OfficeSums.{IsPlain, AreRowsOfOffices};
-ghost use Rattle.mf_store_audit.specs.Sums.{sums_by_loan, sums_of, total_of, Fit, IsBalanced};
+ghost use Rattle.mf_store_audit.specs.Sums.{sums_by_loan, sums_of_office, sums_of_all, Fit, IsBalanced};
 
 use crate::sums_by_loan::loan_sums;
 use crate::totals::{OfficeSums, Sums};
@@ -62,7 +62,7 @@ fn sums_of_offices(
     ensures sums { IfOk result (λ found. (k : Catalogue) → IsSoundCatalogue k →
         numbered_from charge_as 1 k.charges ≡ charges.now → numbered_from product_as 1 k.products ≡ products.now →
         (fs : List Office) → AreRowsOfOffices k offices.now clients.now loans.now entries.now fs →
-        found.items ≡ map (sums_of k) fs) }
+        found.items ≡ map (sums_of_office k) fs) }
     ensures gives_up { IfErr result (λ fault. fault ≡ F20) }
 {
     let mut found = Vec::new(alloc);
@@ -99,12 +99,13 @@ fn sums_of_offices(
 /// accounts. The error is F20: out of memory, or sums that are too great.
 pub fn office_sums(alloc: Global, tables: &Tables) -> Result<Vec<OfficeSums>, Fault>
     ensures sums { IfOk result (λ found. (schema : ℕ) (i : Institution) → IsSound i →
-        tables_under schema i ≡ without_accounts tables.now → found.items ≡ map (sums_of i.catalogue) i.offices) }
+        tables_under schema i ≡ without_accounts tables.now
+        → found.items ≡ map (sums_of_office i.catalogue) i.offices) }
     ensures balanced { IfOk result (λ found. (schema : ℕ) (i : Institution) → IsSound i →
         tables_under schema i ≡ without_accounts tables.now →
         AllByRecursion (λ (o : OfficeSums). IsBalanced o.sums) found.items) }
     ensures fit { IfOk result (λ found. (schema : ℕ) (i : Institution) → IsSound i →
-        tables_under schema i ≡ without_accounts tables.now → Fit (total_of found.items)) }
+        tables_under schema i ≡ without_accounts tables.now → Fit (sums_of_all found.items)) }
     ensures gives_up { IfErr result (λ fault. fault ≡ F20) }
 {
     sums_of_offices(

@@ -5,7 +5,7 @@ ghost use Rattle.std.specs.Option.{SomeIff};
 ghost use Rattle.std.specs.List.{AllByRecursion};
 ghost use Rattle.mf_store_audit.specs.Sums.{loans_added, entries_added, principal_added, money_added, added};
 ghost use Rattle.mf_store_audit.specs.Sums.{FitLoans, FitEntries, FitPrincipal, FitMoney, Fit};
-ghost use Rattle.mf_store_audit.specs.Sums.{total_of, IsBalanced};
+ghost use Rattle.mf_store_audit.specs.Sums.{sums_of_all, IsBalanced};
 
 /// How many loans have each status.
 #[derive(Clone, Copy)]
@@ -139,7 +139,7 @@ pub struct Sums {
 impl Sums {
     /// Those of so many clients without loans.
     pub(crate) fn of_clients(clients: u64) -> Sums
-        ensures { result ≡ record (total_of []) { clients = clients } }
+        ensures { result ≡ record (sums_of_all []) { clients = clients } }
     {
         Sums {
             clients,
@@ -198,7 +198,7 @@ pub struct OfficeSums {
 /// What offices come to in all. None is for sums that are too great: a count that 64 bits don't hold, or an amount that
 /// 128 bits don't.
 pub fn total(offices: &[OfficeSums]) -> Option<Sums>
-    ensures value { SomeIff result (Fit (total_of offices.now)) (total_of offices.now) }
+    ensures value { SomeIff result (Fit (sums_of_all offices.now)) (sums_of_all offices.now) }
     ensures balanced { AllByRecursion (λ (o : OfficeSums). IsBalanced o.sums) offices.now → IfSome result IsBalanced }
 {
     let mut all = Sums::of_clients(0);

@@ -1,13 +1,12 @@
 -- What the commits that change a loan's account make of all rows of instalments and of shares.
 use Rattle.std.proofs.Common.{◌≡◌, ◌≤◌, ◌++◌, ℕ, List, [], map, length, Option, None, Some, refl, sym, ap, ap₂, ◌∙◌}
-use Rattle.std.proofs.Common.{nat_cmp}
-use Rattle.mf_alloc.specs.Rows.{row_at}
-use Rattle.mf_alloc.specs.Sums.{Sums}
+use Rattle.std.proofs.Common.{subst, Greater, Less}
+use Rattle.mf_alloc.specs.Sums.{Instalment}
 use Rattle.mf_account.specs.declared.entry.Entry.{Entry}
-use Rattle.mf_account.specs.declared.settled.Settled.{Settled}
+use Rattle.mf_account.specs.declared.settled.SettledPart.{SettledPart}
 use Rattle.mf_account.specs.Effect.{State}
-use Rattle.mf_account.specs.Change.{Account as Kept, IsChange, IsReplayed, settled_in}
-use Rattle.mf_account.specs.Loan.{Loan as Running, IsSound as IsSoundAccount, state_of_loan, settled_of_loan}
+use Rattle.mf_account.specs.Change.{KeptAccount, IsChange, IsReplayed, settled_in}
+use Rattle.mf_account.specs.Loan.{DisbursedLoan, IsSoundDisbursed, state_of_loan, settled_of_loan}
 use Rattle.mf_store_sql.specs.Writes.{after_all}
 use Rattle.mf_model.specs.Accounts.{account_in, of_account, running_from}
 use Rattle.mf_model.specs.Institution.{Catalogue, Ledger, Office, Rows, item_numbered, office_at, with_numbered}
@@ -19,101 +18,108 @@ use Rattle.mf_model.specs.Tree.{Ascending}
 use Rattle.mf_model.specs.declared.loan.Stage.{Stage}
 use Rattle.mf_model.proofs.AccountLemmas.{IsRunning, account_is}
 use Rattle.mf_store_schema.specs.Rows.{Lists, by_instalment}
-use Rattle.mf_store_schema.specs.Writes.{after}
+use Rattle.mf_store_schema.specs.Writes.{after_write}
 use Rattle.mf_store_commits.specs.ChangeWrites.{change_writes, instalments_put, schedule_put, shares_put}
 use Rattle.mf_store_values.specs.Flat.{instalment_in, share_in, parts_from, instalments_kept, shares_kept, kept_of}
 use Rattle.mf_store_values.specs.Flat.{instalment_rows, share_rows}
-use Rattle.mf_store_commits.proofs.AccountRowLemmas.{around_same, none_before}
+use Rattle.mf_store_commits.proofs.AccountRowLemmas.{none_before}
+use Rattle.mf_store_commits.proofs.BlockLemmas.{AroundAt, around_same}
+use Rattle.mf_store_commits.proofs.BroughtLemmas.{all_steps}
 use Rattle.mf_store_commits.proofs.ChangedRowLemmas.{instalments_changed, shares_changed, after_both}
 use Rattle.mf_store_commits.proofs.ChangedRowLemmas.{instalments_written, shares_written, schedule_written}
-use Rattle.mf_store_commits.proofs.InstalmentRowLemmas.{fresh_put, rows_put}
+use Rattle.mf_store_commits.proofs.InstalmentRowLemmas.{loan_place, instalment_step, fresh_put_around}
 use Rattle.mf_store_commits.proofs.LoanRowLemmas.{rows_around}
-use Rattle.mf_store_commits.proofs.PutAllLemmas.{put_all, put_all_around}
-use Rattle.mf_store_commits.proofs.ShareRowLemmas.{replaced_each, replaced_around}
+use Rattle.mf_store_commits.proofs.PutLemmas.{put_all}
+use Rattle.mf_store_commits.proofs.ShareRowLemmas.{share_place, share_step}
 
 -- ---- entries
 
 -- with other entries, a loan's account is the same but for these
-pub account_with : (k : Catalogue) (l : Ledger) (before : Running) (es : List Entry) → account_in k l ≡ Some before
+pub account_with : (k : Catalogue) (l : Ledger) (before : DisbursedLoan) (es : List Entry) → account_in k l
+    ≡ Some before
     → account_in k (with_entries es l) ≡ Some (record before { entries = es })
 account_with k l before es there =
     let is : IsRunning k l before = account_is k l before there in
     ap₂ (λ d t. running_from l.loan es d t) is.day_is is.terms_is
-    ∙ ap (λ (r : Running). Some (record r { entries = es })) is.account_is
+    ∙ ap (λ (r : DisbursedLoan). Some (record r { entries = es })) is.account_is
 
 -- a loan's account has other entries, and what that changed is told
-pub record IsChanged (k : Catalogue) (l : Ledger) (account : Kept) : Type 0 where
-  pub before : Running
+pub record IsChanged (k : Catalogue) (l : Ledger) (account : KeptAccount) : Type 0 where
+  pub before : DisbursedLoan
   pub was : account_in k l ≡ Some before
   pub now : account_in k (with_entries account.loan.entries l) ≡ Some account.loan
-  pub sound : IsSoundAccount before
-  pub then : IsSoundAccount account.loan
+  pub sound : IsSoundDisbursed before
+  pub then : IsSoundDisbursed account.loan
   pub same : before.periods ≡ account.loan.periods
   pub more : length before.entries ≤ length account.loan.entries
   pub kept : IsReplayed account
   pub change : IsChange before account.loan account.change
 
 -- what is kept of an account that is there
-kept_where : {A : Type 0} (read : Running → List A) (k : Catalogue) (l : Ledger) (a : Running) → account_in k l ≡ Some a
+kept_where : {A : Type 0} (read : DisbursedLoan → List A) (k : Catalogue) (l : Ledger) (a : DisbursedLoan)
+    → account_in k l ≡ Some a
     → kept_of read k l ≡ read a
 kept_where read k l a is = ap (of_account [] read) is
 
-module _ (k : Catalogue) (x n : ℕ) (l : Ledger) (account : Kept) (changed : IsChanged k l account) (new : Rows)
+module _ (k : Catalogue) (x n : ℕ) (l : Ledger) (account : KeptAccount) (changed : IsChanged k l account) (new : Rows)
     (fs : List Office) (up : Ascending fs) (at : item_numbered (rows_of (office_at x fs)).loans n ≡ Some l)
     (is : new.loans ≡ with_numbered n (with_entries account.loan.entries) (rows_of (office_at x fs)).loans) where
   abbrev later : Ledger
   later = with_entries account.loan.entries l
 
-  abbrev rows : List Sums
+  abbrev rows : List Instalment
   rows = (state_of_loan account.loan).rows
 
-  abbrev settled : ℕ → List Settled
+  abbrev settled : ℕ → List SettledPart
   settled s = settled_in s (settled_of_loan account.loan)
 
-  instalments_brought : put_all by_instalment (rows_put x n rows account.change.rows) (instalment_rows k fs)
+  instalments_brought : all_steps (instalment_step x n rows) account.change.rows (instalment_rows k fs)
       ≡ instalment_rows k (with_rows x new fs)
   instalments_brought =
-      put_all_around instalment_in by_instalment (λ a b. nat_cmp a.0 b.0) (λ x n y m a b. refl) x n (λ number. (
-        number,
-        row_at rows number,
-      )) account.change.rows (instalment_rows k fs) (instalment_rows k (with_rows x new fs))
-      (kept_of instalments_kept k l) (kept_of instalments_kept k later) (rows_around instalment_in
-      (kept_of instalments_kept k) x n (with_entries account.loan.entries) l new fs up at is)
-      (ap (λ items. put_all by_instalment (rows_put x n rows account.change.rows) (map (instalment_in x n) items))
-      (kept_where instalments_kept k l changed.before changed.was)
-      ∙ instalments_changed x n changed.before account.loan account.change changed.sound changed.then changed.same
-      changed.change
-      ∙ ap (map (instalment_in x n)) (sym (kept_where instalments_kept k later account.loan changed.now)))
+      instalments_changed x n changed.before account.loan account.change changed.sound changed.then changed.same
+      changed.change (subst (λ (b : List (ℕ × Instalment) × List (ℕ × Instalment)). AroundAt (loan_place x n)
+      (instalment_rows k fs)
+      (instalment_rows k (with_rows x new fs)) (map (instalment_in x n) b.0) (map (instalment_in x n) b.1))
+      (λ t. (
+        kept_where instalments_kept k l changed.before changed.was t,
+        kept_where instalments_kept k later
+            account.loan changed.now t,
+      )) (rows_around instalment_in (kept_of instalments_kept k) loan_place (λ x n y m a. refl) x n
+      (with_entries account.loan.entries) l new fs up at is))
 
-  shares_brought : replaced_each x n settled account.change.seqs (share_rows k fs) ≡ share_rows k (with_rows x new fs)
+  shares_brought : all_steps (share_step x n settled) account.change.seqs (share_rows k fs)
+      ≡ share_rows k (with_rows x new fs)
   shares_brought =
-      replaced_around x n settled account.change.seqs (share_rows k fs) (share_rows k (with_rows x new fs))
-      (kept_of shares_kept k l) (kept_of shares_kept k later)
-      (rows_around share_in (kept_of shares_kept k) x n (with_entries account.loan.entries) l new fs up at is)
-      (ap (λ items. replaced_each x n settled account.change.seqs (map (share_in x n) items))
-      (kept_where shares_kept k l changed.before changed.was)
-      ∙ shares_changed x n changed.before account.loan account.change changed.sound changed.more changed.change
-      ∙ ap (map (share_in x n)) (sym (kept_where shares_kept k later account.loan changed.now)))
+      shares_changed x n changed.before account.loan account.change changed.sound changed.more changed.change
+      (subst (λ (b : List (ℕ × (ℕ × SettledPart)) × List (ℕ × (ℕ × SettledPart))). AroundAt (share_place x n)
+      (share_rows k fs)
+      (share_rows k (with_rows x new fs)) (map (share_in x n) b.0) (map (share_in x n) b.1))
+      (λ t. (
+        kept_where shares_kept k l changed.before changed.was t,
+        kept_where shares_kept k later account.loan
+            changed.now t,
+      )) (rows_around share_in (kept_of shares_kept k) share_place
+      (λ x n y m a. refl) x n (with_entries account.loan.entries) l new fs up at is))
 
   -- the writes of the change bring all rows to what the replay has
   pub change_written : (lists : Lists) → lists.instalments ≡ instalment_rows k fs → lists.shares ≡ share_rows k fs
-      → after_all after (change_writes x n account) (Some lists)
+      → after_all after_write (change_writes x n account) (Some lists)
       ≡ Some (record lists {
         instalments = instalment_rows k (with_rows x new fs);
         shares = share_rows k (with_rows x new fs);
       })
   change_written lists instalments shares =
-      ap (λ ws. after_all after ws (Some lists)) (ap₂ (λ r s. instalments_put x n r account.change.rows
+      ap (λ ws. after_all after_write ws (Some lists)) (ap₂ (λ r s. instalments_put x n r account.change.rows
       ++ shares_put x n s account.change.seqs) (ap (λ (s : State). s.rows) changed.kept.state) changed.kept.settled)
       ∙ after_both (instalments_put x n rows account.change.rows) (shares_put x n (settled_of_loan account.loan)
       account.change.seqs) (Some lists)
-      ∙ ap (after_all after (shares_put x n (settled_of_loan account.loan) account.change.seqs))
+      ∙ ap (after_all after_write (shares_put x n (settled_of_loan account.loan) account.change.seqs))
       (instalments_written x n rows account.change.rows lists)
       ∙ shares_written x n (settled_of_loan account.loan) account.change.seqs _
       ∙ (λ t. Some (record lists {
-        instalments = (ap (put_all by_instalment (rows_put x n rows account.change.rows)) instalments
+        instalments = (ap (all_steps (instalment_step x n rows) account.change.rows) instalments
             ∙ instalments_brought) t;
-        shares = (ap (replaced_each x n settled account.change.seqs) shares ∙ shares_brought) t;
+        shares = (ap (all_steps (share_step x n settled) account.change.seqs) shares ∙ shares_brought) t;
       }))
 
 -- ---- stages
@@ -125,38 +131,38 @@ module _ (k : Catalogue) (x n : ℕ) (l : Ledger) (stage : Stage) (new : Rows) (
   abbrev then : Ledger
   then = with_stage stage l
 
-  fresh : (o : Option Running) → put_all by_instalment (map (instalment_in x n) (of_account [] instalments_kept o)) []
-      ≡ map (instalment_in x n) (of_account [] instalments_kept o)
-  fresh None = refl
-  fresh (Some a) = fresh_put x n (state_of_loan a).rows
-
   schedule_brought : put_all by_instalment (map (instalment_in x n) (kept_of instalments_kept k then))
       (instalment_rows k fs) ≡ instalment_rows k (with_rows x new fs)
-  schedule_brought =
-      put_all_around instalment_in by_instalment (λ a b. nat_cmp a.0 b.0) (λ x n y m a b. refl) x n (λ item. item)
-      (kept_of instalments_kept k then) (instalment_rows k fs) (instalment_rows k (with_rows x new fs))
-      (kept_of instalments_kept k l) (kept_of instalments_kept k then)
-      (rows_around instalment_in (kept_of instalments_kept k) x n (with_stage stage) l new fs up at is)
-      (ap (λ items. put_all by_instalment (map (instalment_in x n) (kept_of instalments_kept k then))
-      (map (instalment_in x n) items)) (none_before instalments_kept k l before) ∙ fresh (account_in k then))
+  schedule_brought = fresh (account_in k then) (subst (λ old. AroundAt (loan_place x n) (instalment_rows k fs)
+      (instalment_rows k (with_rows x new fs)) (map (instalment_in x n) old)
+      (map (instalment_in x n) (kept_of instalments_kept k then))) (none_before instalments_kept k l before)
+      (rows_around instalment_in (kept_of instalments_kept k) loan_place (λ x n y m a. refl) x n
+      (with_stage stage) l new fs up at is))
+    where
+      fresh : (o : Option DisbursedLoan) → AroundAt (loan_place x n) (instalment_rows k fs)
+          (instalment_rows k (with_rows x new fs)) [] (map (instalment_in x n) (of_account [] instalments_kept o))
+          → put_all by_instalment (map (instalment_in x n) (of_account [] instalments_kept o)) (instalment_rows k fs)
+          ≡ instalment_rows k (with_rows x new fs)
+      fresh None w = w.old_is ∙ sym w.new_is
+      fresh (Some a) w = fresh_put_around x n (state_of_loan a).rows w
 
   -- an account without entries has no shares
-  unshared : (o : Option Running) → account_in k then ≡ o → of_account [] shares_kept o ≡ []
+  unshared : (o : Option DisbursedLoan) → account_in k then ≡ o → of_account [] shares_kept o ≡ []
   unshared None e = refl
   unshared (Some a) e =
-      let entries : a.entries ≡ [] = sym (ap (λ (r : Running). r.entries) (account_is k then a e).account_is) ∙ none in
+      let entries : a.entries ≡ [] = sym (ap (λ (r : DisbursedLoan). r.entries) (account_is k then a e).account_is) ∙
+      none in
       ap (λ (es : List Entry). parts_from (λ s. settled_in s (settled_of_loan a)) 1 (length es)) entries
 
   pub staged_shares : share_rows k fs ≡ share_rows k (with_rows x new fs)
-  staged_shares =
-      around_same share_in x n (share_rows k fs) (share_rows k (with_rows x new fs)) (kept_of shares_kept k l)
-      (kept_of shares_kept k then)
-      (rows_around share_in (kept_of shares_kept k) x n (with_stage stage) l new fs up at is)
-      (none_before shares_kept k l before ∙ sym (unshared (account_in k then) refl))
+  staged_shares = around_same (λ s. share_place x n s ≡ Greater) (λ s. share_place x n s ≡ Less)
+      (rows_around share_in (kept_of shares_kept k) share_place (λ x n y m a. refl) x n (with_stage stage) l new fs up
+      at is)
+      (ap (map (share_in x n)) (none_before shares_kept k l before ∙ sym (unshared (account_in k then) refl)))
 
   -- the rows of the schedule bring all rows to what the replay has
   pub schedule_there : (lists : Lists) → lists.instalments ≡ instalment_rows k fs
-      → after_all after (schedule_put x n (kept_of instalments_kept k then)) (Some lists)
+      → after_all after_write (schedule_put x n (kept_of instalments_kept k then)) (Some lists)
       ≡ Some (record lists { instalments = instalment_rows k (with_rows x new fs) })
   schedule_there lists instalments =
       schedule_written x n (kept_of instalments_kept k then) lists

@@ -4,17 +4,14 @@ use Rattle.std.proofs.Common.{◌≡◌, ◌+◌, ℕ, Bool, List, [], ◌∷◌
 use Rattle.std.specs.List.{AllByRecursion}
 use Rattle.mf_catalog.specs.declared.terms.Terms.{Terms}
 use Rattle.mf_office.specs.declared.caller.Caller.{Caller}
-use Rattle.mf_account.specs.Loan.{Loan as Running}
+use Rattle.mf_account.specs.Loan.{DisbursedLoan}
 use Rattle.mf_model.specs.Accounts.{account_in, of_account, running_from, terms_in}
-use Rattle.mf_model.specs.Institution.{Catalogue, Ledger, Office, Rows, office_at, with_office, with_rows, no_rows}
+use Rattle.mf_model.specs.Institution.{Catalogue, Ledger, Office}
 use Rattle.mf_model.specs.Sound.{IsSoundLoan, IsSoundOffice}
 use Rattle.mf_model.specs.Stages.{disbursed_on}
-use Rattle.mf_model.specs.Store.{rows_of}
-use Rattle.mf_model.specs.Tree.{Ascending}
 use Rattle.mf_model.proofs.AccountLemmas.{IsRunning, account_is, account_there}
 use Rattle.mf_store_values.specs.Flat.{rows_of_loans, rows_by_loan, kept_of, instalment_in, share_in}
 use Rattle.mf_store_values.specs.Flat.{instalments_kept, shares_kept, instalment_rows, share_rows}
-use Rattle.mf_store_commits.proofs.LoanRowLemmas.{Around, HaveSame, same_by_loan, none_in_office}
 
 -- ---- as the catalogue grows
 
@@ -38,7 +35,7 @@ same_account k h staffed clients l stand sound = go (disbursed_on l.loan.stage) 
         ∙ ap (running_from l.loan l.entries (Some is.day)) (stand l.loan.product is.terms is.terms_is)
         ∙ ap Some is.account_is)
 
-module _ {A R : Type 0} (make : ℕ → ℕ → A → R) (read : Running → List A) where
+module _ {A R : Type 0} (make : ℕ → ℕ → A → R) (read : DisbursedLoan → List A) where
   loans_stand : (k h : Catalogue) (staffed : Caller → Bool) (clients : List (List ℕ)) (x n : ℕ) (ls : List Ledger)
       → TermsStand k h → AllByRecursion (IsSoundLoan k staffed clients) ls → rows_of_loans make (kept_of read k) x n ls
       ≡ rows_of_loans make (kept_of read h) x n ls
@@ -55,16 +52,11 @@ module _ {A R : Type 0} (make : ℕ → ℕ → A → R) (read : Running → Lis
   rows_stand k h staffed (f ∷ fs) stand sound = ap₂ ◌++◌ (loans_stand k h staffed f.rows.clients f.number 1 f.rows.loans
       stand sound.0.rows.loans) (rows_stand k h staffed fs stand sound.1)
 
--- ---- where a loan's rows are the same after a change
-pub around_same : {A R : Type 0} (make : ℕ → ℕ → A → R) (x n : ℕ) (old new : List R) (block changed : List A)
-    → Around make x n old new block changed → block ≡ changed → old ≡ new
-around_same make x n old new block changed w same = w.old_is ∙ ap (λ b. w.first ++ (map (make x n) b ++ w.last)) same
-    ∙ sym w.new_is
-
 -- ---- where a loan has no account
 
 -- before it is disbursed
-pub none_before : {A : Type 0} (read : Running → List A) (k : Catalogue) (l : Ledger) → disbursed_on l.loan.stage ≡ None
+pub none_before : {A : Type 0} (read : DisbursedLoan → List A) (k : Catalogue) (l : Ledger) → disbursed_on l.loan.stage
+    ≡ None
     → kept_of read k l ≡ []
 none_before read k l e = ap (λ d. of_account [] read (running_from l.loan l.entries d (terms_in k l.loan.product))) e
 
@@ -74,26 +66,6 @@ none_before read k l e = ap (λ d. of_account [] read (running_from l.loan l.ent
 pub record SameRows (k h : Catalogue) (fs gs : List Office) : Type 0 where
   pub instalments : instalment_rows k fs ≡ instalment_rows h gs
   pub shares : share_rows k fs ≡ share_rows h gs
-
--- in an office with other rows, whose loans have the same
-pub rows_same : (k : Catalogue) (x : ℕ) (new : Rows) (fs : List Office) → Ascending fs
-    → HaveSame instalment_in (kept_of instalments_kept k) (kept_of instalments_kept k) new.loans
-    (rows_of (office_at x fs)).loans
-    → HaveSame share_in (kept_of shares_kept k) (kept_of shares_kept k) new.loans (rows_of (office_at x fs)).loans
-    → SameRows k k fs (with_rows x new fs)
-rows_same k x new fs up instalments shares = record {
-  instalments = same_by_loan instalment_in (kept_of instalments_kept
-      k) x new fs up instalments;
-  shares = same_by_loan share_in (kept_of shares_kept k) x new fs up shares;
-}
-
--- with one more office
-pub office_same : (k : Catalogue) (new : Office) (fs : List Office) → new.rows ≡ no_rows
-    → SameRows k k fs (with_office new fs)
-office_same k new fs is = record {
-  instalments = none_in_office instalment_in (kept_of instalments_kept k) new fs is;
-  shares = none_in_office share_in (kept_of shares_kept k) new fs is;
-}
 
 -- as the catalogue grows
 pub catalogue_same : (k h : Catalogue) (staffed : Caller → Bool) (fs : List Office) → TermsStand k h

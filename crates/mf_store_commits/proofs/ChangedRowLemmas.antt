@@ -1,113 +1,161 @@
 -- What the writes of a change make of the rows that are kept of its loan.
 use Rattle.std.proofs.Common.{◌≡◌, ◌≢◌, ◌<◌, ◌≤◌, ◌+◌, ◌-◌, ℕ, zero, suc, List, [], ◌∷◌, ◌++◌, map, length, Some, refl}
-use Rattle.std.proofs.Common.{sym, ap, ◌∙◌, subst, arith, inl, inr}
-use Rattle.std.specs.Prelude.{◌⊎◌}
+use Rattle.std.proofs.Common.{sym, ap, ◌∙◌, subst, arith, inl, inr, cond, ◌==◌}
+use Rattle.std.specs.Prelude.{◌⊎◌, get_or}
 use Rattle.std.proofs.lemmas.Bool.{cases_eq}
 use Rattle.std.proofs.lemmas.List.Elements.{All-contains}
-use Rattle.mf_alloc.specs.Sums.{Sums}
+use Rattle.mf_alloc.specs.Sums.{Instalment}
 use Rattle.mf_account.specs.declared.settled.How.{How}
 use Rattle.mf_account.specs.declared.settled.How.TheVariants.{Paid, Waived, WrittenOff}
-use Rattle.mf_account.specs.declared.settled.Settled.{Settled}
-use Rattle.mf_account.specs.Change.{Account as Kept, ChangedNumbers, AreThose, HasOtherRow, HasOtherParts, IsChange}
+use Rattle.mf_account.specs.declared.settled.SettledPart.{SettledPart}
+use Rattle.mf_account.specs.Change.{KeptAccount, ChangedNumbers, HasOtherRow, HasOtherParts, IsChange}
 use Rattle.mf_account.specs.Change.{settled_in}
-use Rattle.mf_account.specs.Loan.{Loan as Running, IsSound, state_of_loan, settled_of_loan}
+use Rattle.mf_account.specs.Loan.{DisbursedLoan, IsSoundDisbursed, state_of_loan, settled_of_loan}
 use Rattle.mf_account.proofs.ChangeLemmas.{none-in}
 use Rattle.mf_account.proofs.SoundLemmas.{good-sound}
 use Rattle.mf_account.proofs.ToldLemmas.{parts-numbered}
 use Rattle.mf_store_sql.specs.Writes.{AllFit, after_all}
 use Rattle.mf_store_schema.specs.Rows.{Lists, by_instalment, by_share}
-use Rattle.mf_store_schema.specs.Writes.{Fits, after}
+use Rattle.mf_store_schema.specs.Writes.{FitsLists, after_write}
 use Rattle.mf_store_schema.specs.declared.writes.StoreWrite.{StoreWrite}
-use Rattle.mf_store_schema.specs.declared.writes.StoreWrite.TheVariants.{PutShare}
+use Rattle.mf_store_schema.specs.declared.writes.StoreWrite.TheVariants.{PutInstalment, PutShare}
 use Rattle.mf_store_commits.specs.ChangeWrites.{schedule_put, instalments_put, shares_replaced, shares_put}
 use Rattle.mf_store_commits.specs.ChangeWrites.{change_writes}
+use Rattle.mf_store_commits.specs.Suiting.{SuitsRows}
+use Rattle.sqlite_keyed.proofs.ListLemmas.{all-append, all-map}
 use Rattle.mf_store_values.specs.Flat.{how_number, portion_number, instalment_in, share_in, placed_parts, parts_from}
 use Rattle.mf_store_values.specs.Flat.{instalments_kept, shares_kept}
-use Rattle.mf_store_commits.proofs.InstalmentRowLemmas.{rows_put, change_put}
-use Rattle.mf_store_commits.proofs.FlatLemmas.{portion_same}
-use Rattle.mf_store_commits.proofs.PutAllLemmas.{put_all}
-use Rattle.mf_store_commits.proofs.ShareRowLemmas.{replaced_each, change_replaced}
+use Rattle.mf_store_commits.proofs.BlockLemmas.{AroundAt}
+use Rattle.mf_store_commits.proofs.BroughtLemmas.{all_steps}
+use Rattle.mf_store_commits.proofs.InstalmentRowLemmas.{loan_place, instalment_step, instalments_put_around}
+use Rattle.mf_store_commits.proofs.FlatLemmas.{portion_at, portion_read}
+use Rattle.mf_store_commits.proofs.PutLemmas.{put_all}
+use Rattle.mf_store_commits.proofs.ShareRowLemmas.{share_place, share_step, shares_replaced_around}
+use Rattle.mf_store_schema.specs.declared.instalments.InstalmentRow.{InstalmentRow}
+use Rattle.mf_store_schema.specs.declared.shares.ShareRow.{ShareRow}
+use Rattle.mf_alloc.specs.Rows.{row_at, no_row}
+use Rattle.std.specs.List.{AllByRecursion, Contains}
+use Rattle.std.specs.Prelude.{Option}
 
--- ---- a loan's instalments
+-- ---- two things are the same or not
 
-pub instalments_changed : (x n : ℕ) (before after : Running) (change : ChangedNumbers) → IsSound before → IsSound after
-    → before.periods ≡ after.periods → IsChange before after change
-    → put_all by_instalment (rows_put x n (state_of_loan after).rows change.rows)
-    (map (instalment_in x n) (instalments_kept before)) ≡ map (instalment_in x n) (instalments_kept after)
-instalments_changed x n before after change sound then same is =
-    let old = (state_of_loan before).rows in
-    let new = (state_of_loan after).rows in
-    let was = (good-sound before sound).size in
-    let now = (good-sound after then).size in
-    change_put x n old new change.rows (was ∙ same ∙ sym now) (subst (λ k. AreThose k (HasOtherRow old new) change.rows)
-    (sym now) is.rows)
+-- of each two
+abbrev AreDecided : Type 0 → Type 0
+AreDecided A = (a b : A) → (a ≡ b) ⊎ (a ≢ b)
 
--- ---- what its entries settle
-
-how_same : (a b : How) → how_number a ≡ how_number b → a ≡ b
-how_same Paid Paid e = refl
-how_same Paid Waived e = absurd (cc)
-how_same Paid WrittenOff e = absurd (cc)
-how_same Waived Paid e = absurd (cc)
-how_same Waived Waived e = refl
-how_same Waived WrittenOff e = absurd (cc)
-how_same WrittenOff Paid e = absurd (cc)
-how_same WrittenOff Waived e = absurd (cc)
-how_same WrittenOff WrittenOff e = refl
-
-either_part : (a b : Settled) → (a ≡ b) ⊎ (a ≢ b)
-either_part a b = elim (cases_eq a.seq b.seq) [
-  | inr apart ↦ inr (λ h. apart (ap (λ (s : Settled). s.seq) h))
-  | inl seq ↦
-      elim (cases_eq a.place b.place) [
-        | inr apart ↦ inr (λ h. apart (ap (λ (s : Settled). s.place) h))
-        | inl place ↦
-            elim (cases_eq a.cell.instalment b.cell.instalment) [
-              | inr apart ↦ inr (λ h. apart (ap (λ (s : Settled). s.cell.instalment) h))
-              | inl instalment ↦
-                  elim (cases_eq (portion_number a.cell.portion) (portion_number b.cell.portion)) [
-                    | inr apart ↦ inr (λ h. apart (ap (λ (s : Settled). portion_number s.cell.portion) h))
-                    | inl portion ↦
-                        elim (cases_eq (how_number a.how) (how_number b.how)) [
-                          | inr apart ↦ inr (λ h. apart (ap (λ (s : Settled). how_number s.how) h))
-                          | inl how ↦
-                              elim (cases_eq a.amount b.amount) [
-                                | inr apart ↦ inr (λ h. apart (ap (λ (s : Settled). s.amount) h))
-                                | inl amount ↦ inl (λ t. record {
-                                  seq = seq t;
-                                  place = place t;
-                                  cell = record {
-                                    instalment = instalment t;
-                                    portion = portion_same a.cell.portion b.cell.portion portion t;
-                                  };
-                                  how = how_same a.how b.how how t;
-                                  amount = amount t;
-                                })
-                              ]
-                        ]
-                  ]
-            ]
-      ]
+decided_pairs : {A B : Type 0} → AreDecided A → AreDecided B → AreDecided (A × B)
+decided_pairs p q a b = elim (p a.0 b.0) [
+  | inr apart ↦ inr (λ h. apart (ap (λ c. c.0) h))
+  | inl first ↦ elim (q a.1 b.1) [
+    | inr apart ↦ inr (λ h. apart (ap (λ c. c.1) h))
+    | inl second ↦ inl (λ t. (first t, second t))
+  ]
 ]
 
-either_parts : (xs ys : List Settled) → (xs ≡ ys) ⊎ (xs ≢ ys)
-either_parts [] [] = inl refl
-either_parts [] (y ∷ ys) = inr (λ h. absurd (cc))
-either_parts (x ∷ xs) [] = inr (λ h. absurd (cc))
-either_parts (x ∷ xs) (y ∷ ys) = elim (either_part x y) [
+-- where one is read back from the other
+decided_by : {A B : Type 0} (f : A → B) (g : B → A) → ((a : A) → g (f a) ≡ a) → AreDecided B → AreDecided A
+decided_by f g back p a b = elim (p (f a) (f b)) [
+  | inr apart ↦ inr (λ h. apart (ap f h))
+  | inl same ↦ inl (sym (back a) ∙ ap g same ∙ back b)
+]
+
+decided_lists : {A : Type 0} → AreDecided A → AreDecided (List A)
+decided_lists p [] [] = inl refl
+decided_lists p [] (y ∷ ys) = inr (λ h. absurd (cc))
+decided_lists p (x ∷ xs) [] = inr (λ h. absurd (cc))
+decided_lists p (x ∷ xs) (y ∷ ys) = elim (p x y) [
   | inr apart ↦ inr (λ h. apart (cc))
-  | inl same ↦ elim (either_parts xs ys) [
+  | inl same ↦ elim (decided_lists p xs ys) [
     | inr others ↦ inr (λ h. others (cc))
     | inl alike ↦ inl (λ t. same t ∷ alike t)
   ]
 ]
 
-parts_none : (f : ℕ → List Settled) (m c : ℕ) → ((k : ℕ) → m ≤ k → f k ≡ []) → parts_from f m c ≡ []
+decided_rows : AreDecided Instalment
+decided_rows =
+    let list : AreDecided (List ℕ) = decided_lists cases_eq in
+    decided_by (λ (s : Instalment). (s.due, (s.owed, (s.paid, (s.waived, s.written_off))))) (λ t. record {
+      due = t.0;
+      owed = t.1.0;
+      paid = t.1.1.0;
+      waived = t.1.1.1.0;
+      written_off = t.1.1.1.1;
+    }) (λ s. refl) (decided_pairs cases_eq (decided_pairs list (decided_pairs list (decided_pairs list list))))
+
+abbrev how_at : ℕ → How
+how_at n = cond (n == 1) Paid (cond (n == 2) Waived WrittenOff)
+
+how_read : (h : How) → how_at (how_number h) ≡ h
+how_read Paid = refl
+how_read Waived = refl
+how_read WrittenOff = refl
+
+decided_part : AreDecided SettledPart
+decided_part = decided_by (λ (s : SettledPart). (
+  s.seq,
+  (
+    s.place,
+    (
+      s.cell.instalment,
+      (
+        portion_number s.cell.portion,
+        (how_number s.how, s.amount),
+      ),
+    ),
+  ),
+)) (λ t. record {
+  seq = t.0;
+  place = t.1.0;
+  cell = record { instalment = t.1.1.0; portion = portion_at t.1.1.1.0 };
+  how = how_at t.1.1.1.1.0;
+  amount = t.1.1.1.1.1;
+}) (λ s t. record s {
+  cell = record { instalment = s.cell.instalment; portion = portion_read s.cell.portion t };
+  how = how_read s.how t;
+}) (decided_pairs cases_eq (decided_pairs cases_eq (decided_pairs cases_eq (decided_pairs cases_eq
+    (decided_pairs cases_eq cases_eq)))))
+
+-- ---- a loan's instalments
+
+pub instalments_changed : (x n : ℕ) (before after_write : DisbursedLoan) (change : ChangedNumbers)
+    → IsSoundDisbursed before → IsSoundDisbursed after_write
+    → before.periods ≡ after_write.periods → IsChange before after_write change → {all other : List InstalmentRow}
+    → AroundAt (loan_place x n) all other (map (instalment_in x n) (instalments_kept before))
+    (map (instalment_in x n) (instalments_kept after_write))
+    → all_steps (instalment_step x n (state_of_loan after_write).rows) change.rows all ≡ other
+instalments_changed x n before after_write change sound then same is w =
+    let was = (good-sound before sound).size in
+    let now = (good-sound after_write then).size in
+    instalments_put_around x n old new change.rows (was ∙ same ∙ sym now) (λ i low. either i low (decided_rows
+    (row_at old (i + 1)) (row_at new (i + 1))))
+    (λ k has. let all = All-contains (λ i. (1 ≤ i) × (i ≤ after_write.periods)
+    × HasOtherRow old new i) change.rows k is.rows.each has in (all.0, omega (arith, all, was, same))) w
+  where
+    old : List Instalment
+    old = (state_of_loan before).rows
+
+    new : List Instalment
+    new = (state_of_loan after_write).rows
+
+    place : (i : ℕ) → i + 1 - 1 ≡ i
+    place i = omega arith
+
+    either : (i : ℕ) → i < length old → (row_at old (i + 1) ≡ row_at new (i + 1))
+        ⊎ (row_at old (i + 1) ≢ row_at new (i + 1))
+        → (get_or old i no_row ≡ get_or new i no_row) ⊎ Contains change.rows (i + 1)
+    either i low (inl alike) =
+        inl (ap (λ j. get_or old j no_row) (sym (place i)) ∙ alike ∙ ap (λ j. get_or new j no_row) (place i))
+    either i low (inr apart) = let was = (good-sound before sound).size in
+        inr (is.rows.all (i + 1) (omega arith) (omega (arith, low, was, same)) apart)
+
+-- ---- what its entries settle
+
+parts_none : (f : ℕ → List SettledPart) (m c : ℕ) → ((k : ℕ) → m ≤ k → f k ≡ []) → parts_from f m c ≡ []
 parts_none f m zero none = refl
 parts_none f m (suc c) none = ap (λ ps. placed_parts m ps ++ parts_from f (m + 1) c) (none m (omega arith))
     ∙ parts_none f (m + 1) c (λ k low. none k (omega (arith, low)))
 
-parts_longer : (f : ℕ → List Settled) (m a d : ℕ) → ((k : ℕ) → m + a ≤ k → f k ≡ []) → parts_from f m (a + d)
+parts_longer : (f : ℕ → List SettledPart) (m a d : ℕ) → ((k : ℕ) → m + a ≤ k → f k ≡ []) → parts_from f m (a + d)
     ≡ parts_from f m a
 parts_longer f m zero d none = ap (parts_from f m) (let same : 0 + d ≡ d = omega arith in same)
     ∙ parts_none f m d (λ k low. none k (omega (arith, low)))
@@ -116,105 +164,113 @@ parts_longer f m (suc a) d none =
     ∙ ap (λ rest. placed_parts m (f m) ++ rest) (parts_longer f (m + 1) a d (λ k low. none k (omega (arith, low))))
 
 -- no entry past the last settles anything
-none_settled : (a : Running) (k : ℕ) → IsSound a → length a.entries < k → settled_in k (settled_of_loan a) ≡ []
+none_settled : (a : DisbursedLoan) (k : ℕ) → IsSoundDisbursed a → length a.entries < k
+    → settled_in k (settled_of_loan a) ≡ []
 none_settled a k sound past = none-in k (settled_of_loan a) (λ i d within. let is = parts-numbered a sound i d within in
     let most = is.1 in λ same. absurd (omega (arith, past, most, same)))
 
-pub shares_changed : (x n : ℕ) (before after : Running) (change : ChangedNumbers) → IsSound before
-    → length before.entries ≤ length after.entries → IsChange before after change
-    → replaced_each x n (λ s. settled_in s (settled_of_loan after)) change.seqs (map (share_in x n)
-    (shares_kept before)) ≡ map (share_in x n) (shares_kept after)
-shares_changed x n before after change sound more is =
-    let c = length after.entries in
+pub shares_changed : (x n : ℕ) (before after_write : DisbursedLoan) (change : ChangedNumbers) → IsSoundDisbursed before
+    → length before.entries ≤ length after_write.entries → IsChange before after_write change
+    → {all other : List ShareRow}
+    → AroundAt (share_place x n) all other (map (share_in x n) (shares_kept before))
+    (map (share_in x n) (shares_kept after_write))
+    → all_steps (share_step x n (λ s. settled_in s (settled_of_loan after_write))) change.seqs all ≡ other
+shares_changed x n before after_write change sound more is {all} {other} w =
+    let c = length after_write.entries in
     let a = length before.entries in
     let whole : a + (c - a) ≡ c = omega (arith, more) in
     let same = ap (parts_from old 1) (sym whole) ∙ parts_longer old 1 a (c - a)
     (λ k low. none_settled before k sound (omega (arith, low))) in
-    ap (λ ps. replaced_each x n new change.seqs (map (share_in x n) ps)) (sym same)
-    ∙ change_replaced x n c old new change.seqs
+    shares_replaced_around x n c old new change.seqs
     (λ s has. let all = All-contains (λ i. (1 ≤ i) × (i ≤ c) × HasOtherParts (settled_of_loan before)
-    (settled_of_loan after) i) change.seqs s is.seqs.each has in (all.0, all.1))
-    (λ k first last. elim (either_parts (old k) (new k)) [
+    (settled_of_loan after_write) i) change.seqs s is.seqs.each has in (all.0, all.1))
+    (λ k first last. elim (decided_lists decided_part (old k) (new k)) [
       | inl alike ↦ inl alike
-      | inr apart ↦ inr
-          (is.seqs.all k first last apart)
+      | inr apart ↦ inr (is.seqs.all k first last apart)
     ])
+    (subst (λ ps. AroundAt (share_place x n) all other (map (share_in x n) ps)
+    (map (share_in x n) (shares_kept after_write)))
+    (sym same) w)
   where
-    old : ℕ → List Settled
+    old : ℕ → List SettledPart
     old s = settled_in s (settled_of_loan before)
 
-    new : ℕ → List Settled
-    new s = settled_in s (settled_of_loan after)
+    new : ℕ → List SettledPart
+    new s = settled_in s (settled_of_loan after_write)
 
 -- ---- the writes
 
 -- two lists of writes, one after the other
-pub after_both : (us ws : List StoreWrite) (lists : _) → after_all after (us ++ ws) lists
-    ≡ after_all after ws (after_all after us lists)
+pub after_both : (us ws : List StoreWrite) (lists : _) → after_all after_write (us ++ ws) lists
+    ≡ after_all after_write ws (after_all after_write us lists)
 after_both [] ws lists = refl
-after_both (u ∷ us) ws lists = after_both us ws (after u lists)
+after_both (u ∷ us) ws lists = after_both us ws (after_write u lists)
 
-pub instalments_written : (x n : ℕ) (rows : List Sums) (ks : List ℕ) (lists : Lists)
-    → after_all after (instalments_put x n rows ks) (Some lists)
-    ≡ Some (record lists { instalments = put_all by_instalment (rows_put x n rows ks) lists.instalments })
+pub instalments_written : (x n : ℕ) (rows : List Instalment) (ks : List ℕ) (lists : Lists)
+    → after_all after_write (instalments_put x n rows ks) (Some lists)
+    ≡ Some (record lists { instalments = all_steps (instalment_step x n rows) ks lists.instalments })
 instalments_written x n rows [] lists = refl
 instalments_written x n rows (k ∷ ks) lists = instalments_written x n rows ks _
 
-parts_written : (x n : ℕ) (placed : List (ℕ × (ℕ × Settled))) (lists : Lists)
-    → after_all after (map (λ (p : ℕ × (ℕ × Settled)). PutShare (share_in x n p)) placed) (Some lists)
+parts_written : (x n : ℕ) (placed : List (ℕ × (ℕ × SettledPart))) (lists : Lists)
+    → after_all after_write (map (λ (p : ℕ × (ℕ × SettledPart)). PutShare (share_in x n p)) placed) (Some lists)
     ≡ Some (record lists { shares = put_all by_share (map (share_in x n) placed) lists.shares })
 parts_written x n [] lists = refl
 parts_written x n (p ∷ placed) lists = parts_written x n placed _
 
-pub shares_written : (x n : ℕ) (settled : List Settled) (ss : List ℕ) (lists : Lists)
-    → after_all after (shares_put x n settled ss) (Some lists)
-    ≡ Some (record lists { shares = replaced_each x n (λ s. settled_in s settled) ss lists.shares })
+pub shares_written : (x n : ℕ) (settled : List SettledPart) (ss : List ℕ) (lists : Lists)
+    → after_all after_write (shares_put x n settled ss) (Some lists)
+    ≡ Some (record lists { shares = all_steps (share_step x n (λ s. settled_in s settled)) ss lists.shares })
 shares_written x n settled [] lists = refl
 shares_written x n settled (s ∷ ss) lists =
     after_both (shares_replaced x n settled s) (shares_put x n settled ss) (Some lists)
-    ∙ ap (after_all after (shares_put x n settled ss)) (parts_written x n (placed_parts s (settled_in s settled)) _)
+    ∙ ap (after_all after_write (shares_put x n settled ss))
+    (parts_written x n (placed_parts s (settled_in s settled)) _)
     ∙ shares_written x n settled ss _
 
-pub schedule_written : (x n : ℕ) (numbered : List (ℕ × Sums)) (lists : Lists)
-    → after_all after (schedule_put x n numbered) (Some lists) ≡ Some
+pub schedule_written : (x n : ℕ) (numbered : List (ℕ × Instalment)) (lists : Lists)
+    → after_all after_write (schedule_put x n numbered) (Some lists) ≡ Some
     (record lists { instalments = put_all by_instalment (map (instalment_in x n) numbered) lists.instalments })
 schedule_written x n [] lists = refl
 schedule_written x n (item ∷ numbered) lists = schedule_written x n numbered _
 
--- ---- they fit tables that are there
+-- ---- they fit and suit any tables that are there
 
-pub fit_both : (us ws : List StoreWrite) (lists : _) → AllFit after Fits us lists
-    → AllFit after Fits ws (after_all after us lists) → AllFit after Fits (us ++ ws) lists
+pub fit_both : (us ws : List StoreWrite) (lists : _) → AllFit after_write FitsLists us lists
+    → AllFit after_write FitsLists ws (after_all after_write us lists) → AllFit after_write FitsLists (us ++ ws) lists
 fit_both [] ws lists first then = then
-fit_both (u ∷ us) ws lists first then = (first.0, fit_both us ws (after u lists) first.1 then)
+fit_both (u ∷ us) ws lists first then = (first.0, fit_both us ws (after_write u lists) first.1 then)
 
-instalments_fit : (x n : ℕ) (rows : List Sums) (ks : List ℕ) (lists : Lists)
-    → AllFit after Fits (instalments_put x n rows ks) (Some lists)
-instalments_fit x n rows [] lists = tt
-instalments_fit x n rows (k ∷ ks) lists = (refl, instalments_fit x n rows ks _)
+-- the write puts or removes rows in any tables, whatever they hold
+abbrev pub IsPlain : StoreWrite → Type 0
+IsPlain w = (lists : Lists) → (next : Lists) × (after_write w (Some lists) ≡ Some next) × FitsLists w (Some lists)
+    × SuitsRows lists w
 
-pub schedule_fits : (x n : ℕ) (numbered : List (ℕ × Sums)) (lists : Lists)
-    → AllFit after Fits (schedule_put x n numbered) (Some lists)
-schedule_fits x n [] lists = tt
-schedule_fits x n (item ∷ numbered) lists = (refl, schedule_fits x n numbered _)
+pub all_plain : (Fit : StoreWrite → Option Lists → Type 0)
+    → ((w : StoreWrite) (lists : Lists) → FitsLists w (Some lists) → SuitsRows lists w → Fit w (Some lists))
+    → (ws : List StoreWrite) → AllByRecursion IsPlain ws → (lists : Lists) → AllFit after_write Fit ws (Some lists)
+all_plain Fit fit [] plain lists = tt
+all_plain Fit fit (w ∷ ws) plain lists =
+    let is = plain.0 lists in
+    (fit w lists is.2 is.3, subst (AllFit after_write Fit ws) (sym is.1) (all_plain Fit fit ws plain.1 is.0))
 
-parts_fit : (x n : ℕ) (placed : List (ℕ × (ℕ × Settled))) (lists : Lists)
-    → AllFit after Fits (map (λ (p : ℕ × (ℕ × Settled)). PutShare (share_in x n p)) placed) (Some lists)
-parts_fit x n [] lists = tt
-parts_fit x n (p ∷ placed) lists = (refl, parts_fit x n placed _)
+pub schedule_plain : (x n : ℕ) (numbered : List (ℕ × Instalment)) → AllByRecursion IsPlain (schedule_put x n numbered)
+schedule_plain x n numbered =
+    all-map IsPlain (λ item. PutInstalment (instalment_in x n item)) (λ item lists. (_, refl, refl, tt)) numbered
 
-shares_fit : (x n : ℕ) (settled : List Settled) (ss : List ℕ) (lists : Lists)
-    → AllFit after Fits (shares_put x n settled ss) (Some lists)
-shares_fit x n settled [] lists = tt
-shares_fit x n settled (s ∷ ss) lists =
-    fit_both (shares_replaced x n settled s) (shares_put x n settled ss) (Some lists)
-    (refl, parts_fit x n (placed_parts s (settled_in s settled)) _)
-    (subst (AllFit after Fits (shares_put x n settled ss))
-    (sym (parts_written x n (placed_parts s (settled_in s settled)) _)) (shares_fit x n settled ss _))
-
-pub change_fits : (x n : ℕ) (a : Kept) (lists : Lists) → AllFit after Fits (change_writes x n a) (Some lists)
-change_fits x n a lists =
-    fit_both (instalments_put x n a.state.rows a.change.rows) (shares_put x n a.settled a.change.seqs) (Some lists)
-    (instalments_fit x n a.state.rows a.change.rows lists)
-    (subst (AllFit after Fits (shares_put x n a.settled a.change.seqs))
-    (sym (instalments_written x n a.state.rows a.change.rows lists)) (shares_fit x n a.settled a.change.seqs _))
+pub change_plain : (x n : ℕ) (a : KeptAccount) → AllByRecursion IsPlain (change_writes x n a)
+change_plain x n a =
+    let rows = a.state.rows in
+    all-append IsPlain (instalments_put x n rows a.change.rows) (shares_put x n a.settled a.change.seqs)
+    (all-map IsPlain (λ k. PutInstalment (instalment_in x n (k, row_at rows k))) (λ k lists. (_, refl, refl, tt))
+    a.change.rows) (shares_plain a.change.seqs)
+  where
+    shares_plain : (seqs : List ℕ) → AllByRecursion IsPlain (shares_put x n a.settled seqs)
+    shares_plain [] = tt
+    shares_plain (s ∷ seqs) =
+        all-append IsPlain (shares_replaced x n a.settled s) (shares_put x n a.settled seqs) (
+          (λ lists. (_, refl, refl, tt)),
+          all-map IsPlain (λ placed. PutShare (share_in x n placed)) (λ placed lists. (_, refl, refl, tt))
+              (placed_parts s (settled_in s a.settled)),
+        )
+        (shares_plain seqs)

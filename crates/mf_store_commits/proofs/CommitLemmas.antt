@@ -10,12 +10,13 @@ use Rattle.mf_office.specs.Tree.{IsTreeOf}
 use Rattle.mf_office.proofs.KeyLemmas.{key_of-child}
 use Rattle.mf_store_sql.specs.Keep.{put_item}
 use Rattle.mf_model.specs.declared.commit.Commit.TheVariants.{AddOffice, AddStaff, AddClient}
-use Rattle.mf_model.specs.Institution.{Institution, Office, Rows, office_at, with_rows, with_office, new_office}
+use Rattle.mf_model.specs.Institution.{Institution, Ledger, Office, Rows, office_at, with_rows, with_office, new_office}
 use Rattle.mf_model.specs.Desk.{staff_added, client_added}
 use Rattle.mf_model.specs.Sound.{IsSound}
 use Rattle.mf_model.specs.Store.{after_commit, rows_at}
 use Rattle.mf_model.specs.Tree.{parent_of, is_there, Above, Ascending}
-use Rattle.mf_store_schema.specs.Rows.{Lists, by_office, by_staff, by_client, by_loan}
+use Rattle.mf_model.proofs.Offices.{parent_of_with_rows, parent_of_with_office, is_there_with_office}
+use Rattle.mf_store_schema.specs.Rows.{Lists, by_office, by_staff, by_client}
 use Rattle.mf_store_schema.specs.declared.offices.OfficeRow.{OfficeRow}
 use Rattle.mf_store_schema.specs.declared.staff.StaffRow.{StaffRow}
 use Rattle.mf_store_schema.specs.declared.clients.ClientRow.{ClientRow}
@@ -25,57 +26,19 @@ use Rattle.mf_store_schema.specs.declared.receipts.ReceiptRow.{ReceiptRow}
 use Rattle.mf_store_schema.specs.declared.instalments.InstalmentRow.{InstalmentRow}
 use Rattle.mf_store_schema.specs.declared.shares.ShareRow.{ShareRow}
 use Rattle.mf_store_values.specs.Flat.{tables_of, office_under, key_at, staff_in, client_in, loan_in, loans_of}
-use Rattle.mf_store_values.specs.Flat.{entry_in, own_entries}
+use Rattle.mf_store_values.specs.Flat.{entry_in, own_entries, all_rows, rows_of_loans, kept_of, instalments_kept}
+use Rattle.mf_store_values.specs.Flat.{shares_kept, instalment_in, share_in}
+use Rattle.mf_store_values.specs.Flat.{entry_rows, instalment_rows, share_rows}
+use Rattle.mf_store_values.specs.ReceiptRows.{receipt_rows}
+use Rattle.mf_model.specs.Receipts.{uses_from}
 use Rattle.mf_store_schema.specs.declared.writes.StoreWrite.TheVariants.{PutOffice, PutStaff, PutClient}
 use Rattle.mf_store_commits.specs.Becoming.{Becomes}
-use Rattle.mf_store_commits.proofs.AccountRowLemmas.{SameRows, rows_same, office_same}
 use Rattle.mf_store_commits.proofs.LoanRowLemmas.{same_by_loan, none_in_office}
-use Rattle.mf_store_commits.proofs.FlatLemmas.{put_row_of, same_rows_of, no_rows_of, put_first, put_past}
+use Rattle.mf_store_commits.proofs.FlatLemmas.{put_row_of, same_rows_of, no_rows_of}
+use Rattle.mf_store_commits.proofs.PutLemmas.{put_first, put_past}
 use Rattle.mf_store_commits.proofs.ReceiptRowLemmas.{same_receipts_of, no_receipts_in}
 
--- ---- from the calls to the commit
-
--- the rows of the offices, where the catalogue's are as they were
-pub same_lists : (i : Institution) {o p : List OfficeRow} {s t : List StaffRow} {c d : List ClientRow}
-    {l m : List LoanRow} {e f : List EntryRow} {q r : List ReceiptRow} {v w : List InstalmentRow} {y z : List ShareRow}
-    → o ≡ p → s ≡ t → c ≡ d → l ≡ m → e ≡ f → q ≡ r → v ≡ w → y ≡ z
-    → ◌≡◌ {A = Lists} (record (tables_of i) {
-      offices = o;
-      staff = s;
-      clients = c;
-      loans = l;
-      entries = e;
-      receipts = q;
-      instalments = v;
-      shares = y;
-    }) (record (tables_of i) {
-      offices = p;
-      staff = t;
-      clients = d;
-      loans = m;
-      entries =
-          f;
-      receipts = r;
-      instalments = w;
-      shares = z;
-    })
-same_lists i a b e h j u v y = λ k. record (tables_of i) {
-  offices = a k;
-  staff = b k;
-  clients = e k;
-  loans = h k;
-  entries = j k;
-  receipts = u k;
-  instalments = v k;
-  shares = y k;
-}
-
 -- ---- one more row of an office
-
-parent_of-with_rows : (x : ℕ) (new : Rows) (fs : List Office) (y : ℕ) → parent_of (with_rows x new fs) y
-    ≡ parent_of fs y
-parent_of-with_rows x new [] y = refl
-parent_of-with_rows x new (f ∷ fs) y = ap (λ o. cond (f.number == y) f.parent o) (parent_of-with_rows x new fs y)
 
 under-with_rows : (ps : ℕ → Option ℕ) (x : ℕ) (new : Rows) (fs : List Office) → map (office_under ps) fs
     ≡ map (office_under ps) (with_rows x new fs)
@@ -85,52 +48,89 @@ under-with_rows ps x new (f ∷ fs) = ap (λ l. office_under ps f ∷ l) (under-
 pub offices-with_rows : (x : ℕ) (new : Rows) (fs : List Office) → map (office_under (parent_of fs)) fs
     ≡ map (office_under (parent_of (with_rows x new fs))) (with_rows x new fs)
 offices-with_rows x new fs = under-with_rows (parent_of fs) x new fs
-    ∙ (λ k. map (office_under (λ y. sym (parent_of-with_rows x new fs y) k)) (with_rows x new fs))
+    ∙ (λ k. map (office_under (λ y. sym (parent_of_with_rows x new fs y) k)) (with_rows x new fs))
+
+-- where one office has other rows, of which some tables say nothing
+module _ (x : ℕ) (new : Rows) (i : Institution) (before : IsSound i) where
+  abbrev now : List Office
+  now = with_rows x new i.offices
+
+  abbrev up : Ascending i.offices
+  up = before.tree.ascending
+
+  -- other staff or clients: the loans are the same
+  people_become : {s : List StaffRow} {c : List ClientRow} → new.loans ≡ (rows_at x i).loans
+      → s ≡ all_rows staff_in (λ rows. rows.staff) now → c ≡ all_rows client_in (λ rows. rows.clients) now
+      → ◌≡◌ {A = Lists} (record (tables_of i) { staff = s; clients = c }) (tables_of (record i { offices = now }))
+  people_become loans staff clients = λ t. record (tables_of i) {
+    offices = offices-with_rows x new i.offices t;
+    staff = staff t;
+    clients = clients t;
+    loans = same_rows_of loan_in loans_of refl x new i.offices up (ap (map (λ (l : Ledger). l.loan)) loans) t;
+    entries = same_by_loan entry_in own_entries x new i.offices up
+        (λ y n. ap (rows_of_loans entry_in own_entries y n) loans) t;
+    receipts = same_receipts_of x new i.offices up (ap (uses_from 1) loans) t;
+    instalments = same_by_loan instalment_in (kept_of instalments_kept i.catalogue) x new i.offices up
+        (λ y n. ap (rows_of_loans instalment_in (kept_of instalments_kept i.catalogue) y n) loans) t;
+    shares = same_by_loan share_in (kept_of shares_kept i.catalogue) x new i.offices up
+        (λ y n. ap (rows_of_loans share_in (kept_of shares_kept i.catalogue) y n) loans) t;
+  }
+
+  -- other loans: staff and clients are the same
+  pub loans_become : {l : List LoanRow} {e : List EntryRow} {q : List ReceiptRow} {v : List InstalmentRow}
+      {y : List ShareRow} → new.staff ≡ (rows_at x i).staff → new.clients ≡ (rows_at x i).clients
+      → l ≡ all_rows loan_in loans_of now → e ≡ entry_rows now → q ≡ receipt_rows now
+      → v ≡ instalment_rows i.catalogue now → y ≡ share_rows i.catalogue now
+      → ◌≡◌ {A = Lists} (record (tables_of i) {
+        loans = l;
+        entries = e;
+        receipts = q;
+        instalments = v;
+        shares = y;
+      }) (tables_of (record i { offices = now }))
+  loans_become staff clients loans entries receipts instalments shares = λ t. record (tables_of i) {
+    offices = offices-with_rows x new i.offices t;
+    staff = same_rows_of staff_in (λ rows. rows.staff) refl x new i.offices up staff t;
+    clients = same_rows_of client_in (λ rows. rows.clients) refl x new i.offices up clients t;
+    loans = loans t;
+    entries = entries t;
+    receipts = receipts t;
+    instalments = instalments t;
+    shares = shares t;
+  }
 
 pub client_becomes : (x : ℕ) (name : List ℕ) (i : Institution) (c : ClientRow) → IsSound i
     → IsSound (after_commit (AddClient x name) i) → is_there i.offices x ≡ true
     → c ≡ client_in x (length (rows_at x i).clients + 1) name
     → Becomes (PutClient c ∷ []) i (after_commit (AddClient x name) i)
-client_becomes x name i c before sound there is = record {
-  sound = sound;
-  fits = (refl, tt);
-  is = ap Some (same_lists i (offices-with_rows x new i.offices) (same_rows_of staff_in (λ rows. rows.staff) refl
-      by_staff (λ x n y m a b. refl) x new i.offices before.tree.ascending refl)
-      (ap (λ r. put_item by_client r (tables_of i).clients) is ∙ put_row_of client_in (λ rows. rows.clients) refl
-      by_client (λ x n y m a b. refl) x name new i.offices before.tree.ascending there refl)
-      (same_rows_of loan_in loans_of refl by_loan (λ x n y m a b. refl) x new i.offices before.tree.ascending refl)
-      (same_by_loan entry_in own_entries x new i.offices before.tree.ascending (λ y n. refl))
-      (same_receipts_of x new i.offices before.tree.ascending refl) accounts.instalments accounts.shares);
-}
-  where
-    new : Rows
-    new = client_added name (rows_at x i)
-
-    accounts : SameRows i.catalogue i.catalogue i.offices (with_rows x new i.offices)
-    accounts = rows_same i.catalogue x new i.offices before.tree.ascending (λ y n. refl) (λ y n. refl)
+client_becomes x name i c before sound there is =
+    let new = client_added name (rows_at x i) in
+    let up = before.tree.ascending in
+    record {
+      sound = sound;
+      fits = (refl, tt);
+      is = ap Some (people_become x new i before refl (same_rows_of staff_in (λ rows. rows.staff) refl x new i.offices
+          up refl) (ap (λ r. put_item by_client r (tables_of i).clients) is
+          ∙ put_row_of client_in (λ rows. rows.clients)
+          refl by_client (λ x n y m a b. refl) x name new i.offices up there refl));
+    }
 
 pub staff_becomes : (x : ℕ) (name : List ℕ) (role : Role) (i : Institution) (s : StaffRow) → IsSound i
     → IsSound (after_commit (AddStaff x name role) i) → is_there i.offices x ≡ true
     → s ≡ staff_in x (length (rows_at x i).staff + 1) (record { name = name; role = role })
     → Becomes (PutStaff s ∷ []) i (after_commit (AddStaff x name role) i)
-staff_becomes x name role i s before sound there is = record {
-  sound = sound;
-  fits = (refl, tt);
-  is = ap Some (same_lists i (offices-with_rows x new i.offices)
-      (ap (λ r. put_item by_staff r (tables_of i).staff) is ∙ put_row_of staff_in (λ rows. rows.staff) refl by_staff
-      (λ x n y m a b. refl) x (record { name = name; role = role }) new i.offices before.tree.ascending there refl)
-      (same_rows_of client_in (λ rows. rows.clients) refl by_client (λ x n y m a b. refl) x new i.offices
-      before.tree.ascending refl)
-      (same_rows_of loan_in loans_of refl by_loan (λ x n y m a b. refl) x new i.offices before.tree.ascending refl)
-      (same_by_loan entry_in own_entries x new i.offices before.tree.ascending (λ y n. refl))
-      (same_receipts_of x new i.offices before.tree.ascending refl) accounts.instalments accounts.shares);
-}
-  where
-    new : Rows
-    new = staff_added name role (rows_at x i)
-
-    accounts : SameRows i.catalogue i.catalogue i.offices (with_rows x new i.offices)
-    accounts = rows_same i.catalogue x new i.offices before.tree.ascending (λ y n. refl) (λ y n. refl)
+staff_becomes x name role i s before sound there is =
+    let new = staff_added name role (rows_at x i) in
+    let up = before.tree.ascending in
+    record {
+      sound = sound;
+      fits = (refl, tt);
+      is = ap Some (people_become x new i before refl (ap (λ r. put_item by_staff r (tables_of i).staff) is
+          ∙ put_row_of staff_in (λ rows. rows.staff) refl by_staff (λ x n y m a b. refl) x (record {
+            name = name;
+            role = role;
+          }) new i.offices up there refl) (same_rows_of client_in (λ rows. rows.clients) refl x new i.offices up refl));
+    }
 
 -- ---- a new office
 
@@ -150,44 +150,22 @@ key_kept (suc n) ps qs there closed alike x h =
     go (Some p) e more = ap (λ o. key_under o (λ p. key_within n qs p) x) (alike x h ∙ e) ∙ ap (λ k. child_key k x)
         (more p e) ∙ sym (ap (λ o. key_under o (λ p. key_within n ps p) x) e)
 
-parent_of-with_office : (new : Office) (fs : List Office) (y : ℕ) → (new.number == y) ≡ false
-    → parent_of (with_office new fs) y ≡ parent_of fs y
-parent_of-with_office new [] y h = rw h
-parent_of-with_office new (f ∷ fs) y h = go (nat_lt new.number f.number) (parent_of-with_office new fs y h)
-  where
-    go : (b : Bool) → parent_of (with_office new fs) y ≡ parent_of fs y
-        → parent_of (cond b (new ∷ f ∷ fs) (f ∷ with_office new fs)) y ≡ parent_of (f ∷ fs) y
-    go true more = rw h
-    go false more = ap (λ o. cond (f.number == y) f.parent o) more
+-- what stands of a new office, and of the others
+module _ (new : Office) (fs : List Office) (free : office_at new.number fs ≡ None) where
+  same : (new.number == new.number) ≡ true
+  same = grind (arith, nat_tests)
 
-parent_of-new : (new : Office) (fs : List Office) → office_at new.number fs ≡ None
-    → parent_of (with_office new fs) new.number ≡ new.parent
-parent_of-new new [] h = let same : (new.number == new.number) ≡ true = grind (arith, nat_tests) in rw same
-parent_of-new new (f ∷ fs) h = go (nat_lt new.number f.number) (f.number == new.number) refl h (parent_of-new new fs)
-  where
-    go : (b d : Bool) → (f.number == new.number) ≡ d → cond d (Some f) (office_at new.number fs) ≡ None
-        → (office_at new.number fs ≡ None → parent_of (with_office new fs) new.number ≡ new.parent)
-        → parent_of (cond b (new ∷ f ∷ fs) (f ∷ with_office new fs)) new.number ≡ new.parent
-    go true d e h more = let same : (new.number == new.number) ≡ true = grind (arith, nat_tests) in rw same
-    go false true e h more = absurd (let k : Some f ≡ None = h in cc)
-    go false false e h more = rw e (more h)
+  parent_of-other : (y : ℕ) → (new.number == y) ≡ false → parent_of (with_office new fs) y ≡ parent_of fs y
+  parent_of-other y h = parent_of_with_office new fs y (ap is_some free)
+      ∙ ap (λ b. cond b new.parent (parent_of fs y)) h
 
-new_there : (new : Office) (fs : List Office) → is_there (with_office new fs) new.number ≡ true
-new_there new [] = let same : (new.number == new.number) ≡ true = grind (arith, nat_tests) in rw same
-new_there new (f ∷ fs) = go (nat_lt new.number f.number) (f.number == new.number) (new_there new fs)
-  where
-    first : (gs : List Office) → is_there (new ∷ gs) new.number ≡ true
-    first gs = let same : (new.number == new.number) ≡ true = grind (arith, nat_tests) in rw same
+  parent_of-new : parent_of (with_office new fs) new.number ≡ new.parent
+  parent_of-new = parent_of_with_office new fs new.number (ap is_some free)
+      ∙ ap (λ b. cond b new.parent (parent_of fs new.number)) same
 
-    rest : (d : Bool) → is_there (with_office new fs) new.number ≡ true
-        → is_some (cond d (Some f) (office_at new.number (with_office new fs))) ≡ true
-    rest true h = refl
-    rest false h = h
-
-    go : (b d : Bool) → is_there (with_office new fs) new.number ≡ true
-        → is_there (cond b (new ∷ f ∷ fs) (f ∷ with_office new fs)) new.number ≡ true
-    go true d h = first (f ∷ fs)
-    go false d h = rest (f.number == new.number) h
+  new_there : is_there (with_office new fs) new.number ≡ true
+  new_there = is_there_with_office new fs new.number (ap is_some free)
+      ∙ ap (λ b. cond b true (is_there fs new.number)) same
 
 -- an office that is there is another than one that isn't
 apart : (x y : ℕ) (fs : List Office) → office_at x fs ≡ None → is_there fs y ≡ true → (x == y) ≡ false
@@ -263,7 +241,7 @@ office_key_kept x parent name i before free y here =
     let fs = i.offices in
     let new = new_office x parent name in
     key_kept 5 (parent_of fs) (parent_of (with_office new fs)) (is_there fs) (λ z p h e. before.tree.parents_there z p
-    e) (λ z h. parent_of-with_office new fs z (apart x z fs free h)) y here
+    e) (λ z h. parent_of-other new fs free z (apart x z fs free h)) y here
 
 pub office_becomes : (x parent : ℕ) (name key : List ℕ) (i : Institution) (o : OfficeRow) → IsSound i
     → IsSound (after_commit (AddOffice x parent name) i) → ((j : Institution) → IsSound j
@@ -275,14 +253,16 @@ unfolding key_of
 office_becomes x parent name key i o before sound trees free there key_is is = record {
   sound = sound;
   fits = (refl, tt);
-  is = ap Some (same_lists i (ap (λ r. put_item by_office r (map (office_under ps) fs)) (is ∙ row_is)
-      ∙ ap (put_item by_office (office_under qs new)) (under_alike ps qs fs (all_there fs fs (λ f. key_of qs f.number
-      ≡ key_of ps f.number) before.tree.ascending (λ f here. kept_key f.number here)))
-      ∙ office_put qs new fs before.tree.ascending free) (no_rows_of staff_in (λ rows. rows.staff) refl by_staff
-      (λ x n y m a b. refl) new fs refl) (no_rows_of client_in (λ rows. rows.clients) refl by_client (λ x n y m a b.
-      refl) new fs refl) (no_rows_of loan_in loans_of refl by_loan (λ x n y m a b. refl) new fs refl)
-      (none_in_office entry_in own_entries new fs refl) (no_receipts_in new fs refl) accounts.instalments
-      accounts.shares);
+  is = λ t. Some (record (tables_of i) {
+    offices = offices t;
+    staff = no_rows_of staff_in (λ rows. rows.staff) refl new fs refl t;
+    clients = no_rows_of client_in (λ rows. rows.clients) refl new fs refl t;
+    loans = no_rows_of loan_in loans_of refl new fs refl t;
+    entries = none_in_office entry_in own_entries new fs refl t;
+    receipts = no_receipts_in new fs refl t;
+    instalments = none_in_office instalment_in (kept_of instalments_kept i.catalogue) new fs refl t;
+    shares = none_in_office share_in (kept_of shares_kept i.catalogue) new fs refl t;
+  });
 }
   where
     fs : List Office
@@ -291,9 +271,6 @@ office_becomes x parent name key i o before sound trees free there key_is is = r
     new : Office
     new = new_office x parent name
 
-    accounts : SameRows i.catalogue i.catalogue fs (with_office new fs)
-    accounts = office_same i.catalogue new fs refl
-
     ps : ℕ → Option ℕ
     ps = parent_of fs
 
@@ -301,14 +278,19 @@ office_becomes x parent name key i o before sound trees free there key_is is = r
     qs = parent_of (with_office new fs)
 
     kept_key : (y : ℕ) → is_there fs y ≡ true → key_of qs y ≡ key_of ps y
-    kept_key y here = key_kept 5 ps qs (is_there fs) (λ z p h e. before.tree.parents_there z p e)
-        (λ z h. parent_of-with_office new fs z (apart x z fs free h)) y here
+    kept_key y here = office_key_kept x parent name i before free y here
 
     row_is : record { number = x; parent = Some parent; hkey = child_key key x; name = name } ≡ office_under qs new
     row_is = ap (λ k. record { number = x; parent = Some parent; hkey = k; name = name })
         (ap (λ k. child_key k x) (key_is ∙ sym (kept_key parent there))
         ∙ sym (key_of-child (is_there (with_office new fs)) qs (trees (after_commit (AddOffice x parent name) i) sound)
-        x parent (new_there new fs) (parent_of-new new fs free)))
+        x parent (new_there new fs free) (parent_of-new new fs free)))
+
+    offices : put_item by_office o (map (office_under ps) fs) ≡ map (office_under qs) (with_office new fs)
+    offices = ap (λ r. put_item by_office r (map (office_under ps) fs)) (is ∙ row_is)
+        ∙ ap (put_item by_office (office_under qs new)) (under_alike ps qs fs (all_there fs fs (λ f. key_of qs f.number
+        ≡ key_of ps f.number) before.tree.ascending (λ f here. kept_key f.number here)))
+        ∙ office_put qs new fs before.tree.ascending free
 
 -- ---- the rows that the code makes
 

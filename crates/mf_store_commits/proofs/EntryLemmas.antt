@@ -13,25 +13,18 @@ use Rattle.mf_model.specs.Loans.{with_entries}
 use Rattle.mf_model.specs.Store.{rows_of}
 use Rattle.mf_model.specs.Tree.{Ascending}
 use Rattle.mf_store_schema.specs.Rows.{by_entry, is_entry_of}
-use Rattle.mf_store_values.specs.Flat.{entry_in, own_entries, entry_rows, entries_of, reversed_entry}
-use Rattle.mf_store_commits.proofs.FlatLemmas.{put_past, put_over}
-use Rattle.mf_store_commits.proofs.LoanRowLemmas.{put_past_all, loan_shown, rows_around, put_around}
+use Rattle.mf_store_values.specs.Flat.{entry_in, own_entries, entry_rows, ledger_entries, reversed_entry}
+use Rattle.mf_store_commits.proofs.PutLemmas.{put_past, put_over}
+use Rattle.mf_store_commits.proofs.InstalmentRowLemmas.{decided, own_key}
+use Rattle.mf_store_commits.proofs.LoanRowLemmas.{loan_shown, rows_around}
+use Rattle.mf_store_commits.proofs.PutLemmas.{put_past_all, put_around}
 
 -- the rows of a loan are those of its entries
 pub entries_shown : (x n : ℕ) (fs : List Office) → Ascending fs → filter (is_entry_of x n) (entry_rows fs)
-    ≡ map (entry_in x n) (entries_of (item_numbered (rows_of (office_at x fs)).loans n))
+    ≡ map (entry_in x n) (ledger_entries (item_numbered (rows_of (office_at x fs)).loans n))
 entries_shown x n fs up = loan_shown entry_in own_entries is_entry_of (λ x n y m e. refl) x n fs up
 
 -- ---- one row put among those of its loan
-
-after_entry : (x n s t : ℕ) → t < s → ordering_then (nat_cmp x x) (ordering_then (nat_cmp n n) (nat_cmp s t)) ≡ Greater
-after_entry x n s t h = grind (arith, nat_tests)
-
-before_entry : (x n s t : ℕ) → s < t → ordering_then (nat_cmp x x) (ordering_then (nat_cmp n n) (nat_cmp s t)) ≡ Less
-before_entry x n s t h = grind (arith, nat_tests)
-
-same_entry : (x n s : ℕ) → ordering_then (nat_cmp x x) (ordering_then (nat_cmp n n) (nat_cmp s s)) ≡ Equal
-same_entry x n s = grind (arith, nat_tests)
 
 -- a row put makes the one list of a loan's entries of the other
 abbrev pub PutsEntry : ℕ → ℕ → Entry → List Entry → List Entry → Type 0
@@ -44,7 +37,9 @@ AreEarlier seq entries = AllByRecursion (λ (e : Entry). e.seq < seq) entries
 earlier_rows : (x n : ℕ) (e : Entry) (es : List Entry) → AreEarlier e.seq es
     → AllByRecursion (λ r. by_entry (entry_in x n e) r ≡ Greater) (map (entry_in x n) es)
 earlier_rows x n e [] a = tt
-earlier_rows x n e (d ∷ es) a = (after_entry x n e.seq d.seq a.0, earlier_rows x n e es a.1)
+earlier_rows x n e (d ∷ es) a =
+    let low : d.seq < e.seq = a.0 in
+    (own_key x n e.seq d.seq Greater (grind (arith, nat_tests, low)), earlier_rows x n e es a.1)
 
 -- one more entry
 pub puts_last : (x n : ℕ) (e : Entry) (es : List Entry) → AreEarlier e.seq es → PutsEntry x n e es (es ++ e ∷ [])
@@ -64,8 +59,7 @@ later_rows : (x n m : ℕ) (e : Entry) (es : List Entry) → e.seq ≤ m → Are
     → AllByRecursion (λ r. by_entry (entry_in x n e) r ≡ Less) (map (entry_in x n) es)
 later_rows x n m e [] low are = tt
 later_rows x n m e (d ∷ es) low are = let first = are 0 (omega arith) in (
-  before_entry x n e.seq d.seq
-      (omega (arith, first, low)),
+  own_key x n e.seq d.seq Less (grind (arith, nat_tests, first, low)),
   later_rows x n (m + 1) e es (omega (arith, low)) (later_numbered m d es are),
 )
 
@@ -75,13 +69,14 @@ pub puts_reversed : (x n m k : ℕ) (es : List Entry) → AreNumbered m es → k
 puts_reversed x n m k [] are low = absurd (omega (arith, low))
 puts_reversed x n m zero (e ∷ es) are low =
     let first = are 0 (omega arith) in
-    put_over by_entry (entry_in x n (reversed_entry e)) (entry_in x n e) (map (entry_in x n) es) (same_entry x n e.seq)
+    put_over by_entry (entry_in x n (reversed_entry e)) (entry_in x n e) (map (entry_in x n) es)
+    (own_key x n e.seq e.seq Equal (grind (arith, nat_tests)))
     (later_rows x n (m + 1) (reversed_entry e) es (omega (arith, first)) (later_numbered m e es are))
 puts_reversed x n m (suc k) (e ∷ es) are low =
     let first = are 0 (omega arith) in
     let this = are (suc k) low in
     put_past by_entry (entry_in x n (reversed_entry (entry_at es k))) (entry_in x n e) (map (entry_in x n) es)
-    (after_entry x n (entry_at es k).seq e.seq (omega (arith, first, this)))
+    (own_key x n (entry_at es k).seq e.seq Greater (grind (arith, nat_tests, first, this)))
     ∙ ap (λ rows. entry_in x n e ∷ rows) (puts_reversed x n (m + 1) k es (later_numbered m e es are)
     (omega (arith, low)))
 
@@ -106,6 +101,8 @@ pub entry_put : (x n : ℕ) (e : Entry) (es : List Entry) (l : Ledger) (new : Ro
     (rows_of (office_at x fs)).loans → PutsEntry x n e l.entries es
     → put_item by_entry (entry_in x n e) (entry_rows fs) ≡ entry_rows (with_rows x new fs)
 entry_put x n e es l new fs up at is puts =
-    put_around entry_in by_entry (λ a b. nat_cmp a.seq b.seq) (λ x n y m a b. refl) x n e (entry_rows fs)
-    (entry_rows (with_rows x new fs)) l.entries es (rows_around entry_in own_entries x n (with_entries es) l new fs
-    up at is) puts
+    put_around by_entry (entry_in x n e) (λ s h. decided Greater (nat_cmp x s.office) (nat_cmp n s.loan)
+    (nat_cmp e.seq s.seq) refl h) (λ s h. decided Less (nat_cmp x s.office) (nat_cmp n s.loan)
+    (nat_cmp e.seq s.seq) refl
+    h) (rows_around entry_in own_entries (λ x n s. ordering_then (nat_cmp x s.office) (nat_cmp n s.loan))
+    (λ x n y m a. refl) x n (with_entries es) l new fs up at is) puts

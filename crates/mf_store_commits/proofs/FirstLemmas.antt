@@ -9,9 +9,6 @@ use Rattle.mf_store_schema.specs.declared.writes.StoreWrite.{StoreWrite}
 use Rattle.mf_store_schema.specs.declared.writes.StoreWrite.TheVariants.{MakeTables, PutMeta, PutOffice, PutStaff}
 use Rattle.mf_store_commits.specs.Becoming.{Begins}
 
-first_list : MetaRow → OfficeRow → StaffRow → List StoreWrite
-first_list m o s = MakeTables ∷ PutMeta m ∷ PutOffice o ∷ PutStaff s ∷ []
-
 pub begins : (writes : List StoreWrite) (day : ℕ) (m : MetaRow) (o : OfficeRow) (s : StaffRow) → writes ≡ MakeTables
     ∷ PutMeta m ∷ PutOffice o ∷ PutStaff s ∷ []
     → m.one ≡ 1 → m.schema ≡ 2 → m.day ≡ day_text day → o.number ≡ 1 → o.parent ≡ None → o.hkey ≡ codes "."

@@ -8,9 +8,9 @@ use Rattle.mf_account.specs.declared.entry.Entry.{Entry}
 use Rattle.mf_model.specs.Institution.{Institution, Ledger, item_numbered}
 use Rattle.mf_model.specs.Sound.{IsSound}
 use Rattle.mf_model.specs.Store.{rows_at}
-use Rattle.mf_store_schema.specs.Rows.{is_entry, is_entry_of}
+use Rattle.mf_store_schema.specs.Rows.{is_row_of_entry, is_entry_of}
 use Rattle.mf_store_schema.specs.declared.entries.EntryRow.{EntryRow}
-use Rattle.mf_store_values.specs.Flat.{entry_in, entries_of, tables_of}
+use Rattle.mf_store_values.specs.Flat.{entry_in, ledger_entries, tables_of}
 use Rattle.mf_store_commits.proofs.EntryLemmas.{AreEarlier, AreNumbered, later_numbered, entries_shown}
 
 find_filtered : {A : Type 0} (p q r : A → Bool) → ((x : A) → r x ≡ (p x && q x)) → (xs : List A)
@@ -41,12 +41,13 @@ has_seq s row = is_eq (nat_cmp s row.seq)
 
 -- it is found among the rows of its loan
 pub entry_by_number : (x n s : ℕ) (l : Ledger) (i : Institution) → IsSound i → item_numbered (rows_at x i).loans n
-    ≡ Some l → find (is_entry x n s) (tables_of i).entries ≡ find (has_seq s) (map (entry_in x n) l.entries)
+    ≡ Some l → find (is_row_of_entry x n s) (tables_of i).entries ≡ find (has_seq s) (map (entry_in x n) l.entries)
 entry_by_number x n s l i sound there =
-    find_filtered (is_entry_of x n) (has_seq s) (is_entry x n s) (λ y. three (nat_cmp x y.office) (nat_cmp n y.loan)
+    find_filtered (is_entry_of x n) (has_seq s) (is_row_of_entry x n s)
+    (λ y. three (nat_cmp x y.office) (nat_cmp n y.loan)
     (nat_cmp s y.seq)) (tables_of i).entries
     ∙ ap (find (has_seq s)) (entries_shown x n i.offices sound.tree.ascending
-    ∙ ap (λ o. map (entry_in x n) (entries_of o)) there)
+    ∙ ap (λ o. map (entry_in x n) (ledger_entries o)) there)
 
 -- a number that is greater than all is free
 pub number_free : (x n s : ℕ) (es : List Entry) → AreEarlier s es → find (has_seq s) (map (entry_in x n) es) ≡ None

@@ -1,7 +1,9 @@
+pub mod BlockLemmas
+pub mod PutLemmas
 pub mod FlatLemmas
 pub mod LoanRowLemmas
-pub mod PutAllLemmas
 pub mod PushLemmas
+pub mod BroughtLemmas
 pub mod InstalmentRowLemmas
 pub mod ShareRowLemmas
 pub mod AccountRowLemmas

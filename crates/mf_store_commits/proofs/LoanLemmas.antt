@@ -5,7 +5,7 @@ use Rattle.std.specs.Option.{option_map}
 use Rattle.std.proofs.lemmas.List.{map-append, length-map}
 use Rattle.std.proofs.lemmas.Option.{slice_get-map}
 use Rattle.mf_account.specs.declared.entry.Entry.{Entry}
-use Rattle.mf_account.specs.Change.{Account as Kept}
+use Rattle.mf_account.specs.Change.{KeptAccount}
 use Rattle.mf_account.specs.Standing.{entry_at, with_mark}
 use Rattle.mf_office.specs.declared.account.Account.{Account}
 use Rattle.mf_store_sql.specs.Keep.{put_item}
@@ -20,26 +20,27 @@ use Rattle.mf_model.specs.Receipts.{uses_from, AreApart}
 use Rattle.mf_model.specs.Sound.{IsSound}
 use Rattle.mf_model.specs.Stages.{disbursed_on}
 use Rattle.mf_model.specs.Store.{after_commit, rows_at, ledger_at}
-use Rattle.mf_model.specs.Tree.{is_there}
+use Rattle.mf_model.specs.Tree.{is_there, Ascending}
 use Rattle.mf_model.proofs.Growing.{with_same_at}
 use Rattle.mf_model.proofs.ReceiptLemmas.{uses_with, uses_marked, uses_push}
-use Rattle.mf_store_schema.specs.Rows.{Lists, by_staff, by_client, by_loan, by_entry}
+use Rattle.mf_store_schema.specs.Rows.{Lists, by_loan, by_entry}
 use Rattle.mf_store_schema.specs.declared.loans.LoanRow.{LoanRow}
 use Rattle.mf_store_schema.specs.declared.entries.EntryRow.{EntryRow}
 use Rattle.mf_store_schema.specs.declared.receipts.ReceiptRow.{ReceiptRow}
-use Rattle.mf_store_values.specs.Flat.{tables_of, staff_in, client_in, loan_in, loans_of, entry_in, entry_rows}
+use Rattle.mf_store_values.specs.Flat.{tables_of, loan_in, loans_of, entry_in, entry_rows}
 use Rattle.mf_store_values.specs.Flat.{own_entries, reversed_entry, instalment_in, share_in, instalments_kept}
-use Rattle.mf_store_values.specs.Flat.{shares_kept, kept_of, instalment_rows, share_rows}
+use Rattle.mf_account.specs.Loan.{DisbursedLoan}
+use Rattle.mf_store_values.specs.Flat.{rows_by_loan, shares_kept, kept_of, instalment_rows, share_rows}
 use Rattle.mf_store_commits.specs.ChangeWrites.{schedule_put, change_writes}
-use Rattle.mf_store_schema.specs.Writes.{Fits, after}
+use Rattle.mf_store_schema.specs.Writes.{FitsLists, after_write}
 use Rattle.mf_store_schema.specs.declared.writes.StoreWrite.{StoreWrite}
 use Rattle.mf_store_schema.specs.declared.writes.StoreWrite.TheVariants as write
 use Rattle.mf_store_values.specs.ReceiptRows.{receipt_rows, receipt_added, entry_added}
 use Rattle.mf_store_commits.specs.Becoming.{Becomes}
 use Rattle.mf_store_commits.proofs.AccountCommitLemmas.{IsChanged, change_written, schedule_there, staged_shares}
-use Rattle.mf_store_commits.proofs.AccountRowLemmas.{SameRows, rows_same, none_before}
-use Rattle.mf_store_commits.proofs.ChangedRowLemmas.{after_both, fit_both, change_fits, schedule_fits}
-use Rattle.mf_store_commits.proofs.CommitLemmas.{same_lists, offices-with_rows}
+use Rattle.mf_store_commits.proofs.AccountRowLemmas.{none_before}
+use Rattle.mf_store_commits.proofs.ChangedRowLemmas.{after_both, fit_both, all_plain, change_plain, schedule_plain}
+use Rattle.mf_store_commits.proofs.CommitLemmas.{loans_become}
 use Rattle.mf_store_commits.proofs.EntryLemmas.{AreEarlier, AreNumbered, PutsEntry, puts_last, puts_reversed, entry_put}
 use Rattle.mf_store_commits.proofs.LoanRowLemmas.{same_by_loan, one_more_loan, change_alone}
 use Rattle.mf_store_commits.proofs.FlatLemmas.{put_row_of, put_over_of, same_rows_of}
@@ -59,31 +60,27 @@ numbered_loan ls n = go (n == 0)
     go true = refl
     go false = slice_get-map loan_of ls (n - 1)
 
-loans_staged : (n : ℕ) (stage : Stage) (ls : List Ledger) → map loan_of (with_numbered n (with_stage stage) ls)
-    ≡ with_numbered n (λ (l : Loan). record l { stage = stage }) (map loan_of ls)
-loans_staged n stage [] = refl
-loans_staged n stage (l ∷ ls) = go (n == 1) (loans_staged (n - 1) stage ls)
+-- what is read off each thing, where one of them is changed
+map_changed : {A B : Type 0} (g : A → B) (f : A → A) (h : B → B) → ((a : A) → g (f a) ≡ h (g a)) → (n : ℕ) (xs : List A)
+    → map g (with_numbered n f xs) ≡ with_numbered n h (map g xs)
+map_changed g f h is n [] = refl
+map_changed g f h is n (x ∷ xs) = go (n == 1) (map_changed g f h is (n - 1) xs)
   where
-    change : Loan → Loan
-    change k = record k { stage = stage }
+    go : (b : Bool) → map g (with_numbered (n - 1) f xs) ≡ with_numbered (n - 1) h (map g xs)
+        → map g (cond b (f x ∷ xs) (x ∷ with_numbered (n - 1) f xs))
+        ≡ cond b (h (g x) ∷ map g xs) (g x ∷ with_numbered (n - 1) h (map g xs))
+    go true more = ap (λ b. b ∷ map g xs) (is x)
+    go false more = ap (λ rest. g x ∷ rest) more
 
-    go : (b : Bool) → map loan_of (with_numbered (n - 1) (with_stage stage) ls) ≡ with_numbered (n - 1) change
-        (map loan_of ls)
-        → map loan_of (cond b (with_stage stage l ∷ ls) (l ∷ with_numbered (n - 1) (with_stage stage) ls))
-        ≡ cond b (change l.loan ∷ map loan_of ls) (l.loan ∷ with_numbered (n - 1) change (map loan_of ls))
-    go true more = refl
-    go false more = ap (λ rest. l.loan ∷ rest) more
-
-loans_entered : (n : ℕ) (es : List Entry) (ls : List Ledger) → map loan_of (with_numbered n (with_entries es) ls)
-    ≡ map loan_of ls
-loans_entered n es [] = refl
-loans_entered n es (l ∷ ls) = go (n == 1) (loans_entered (n - 1) es ls)
+-- a change that changes nothing
+none_changed : {A : Type 0} (n : ℕ) (xs : List A) → with_numbered n (λ x. x) xs ≡ xs
+none_changed n [] = refl
+none_changed n (x ∷ xs) = go (n == 1) (none_changed (n - 1) xs)
   where
-    go : (b : Bool) → map loan_of (with_numbered (n - 1) (with_entries es) ls) ≡ map loan_of ls
-        → map loan_of (cond b (with_entries es l ∷ ls) (l ∷ with_numbered (n - 1) (with_entries es) ls))
-        ≡ map loan_of (l ∷ ls)
+    go : (b : Bool) → with_numbered (n - 1) (λ x. x) xs ≡ xs
+        → cond b (x ∷ xs) (x ∷ with_numbered (n - 1) (λ x. x) xs) ≡ x ∷ xs
     go true more = refl
-    go false more = ap (λ rest. l.loan ∷ rest) more
+    go false more = ap (λ rest. x ∷ rest) more
 
 -- ---- the commits
 
@@ -93,17 +90,13 @@ pub loan_becomes : (x : ℕ) (l : Loan) (i : Institution) (r : LoanRow) → IsSo
 loan_becomes x l i r before sound there none is = record {
   sound = sound;
   fits = (refl, tt);
-  is = ap Some (same_lists i (offices-with_rows x new i.offices) (same_rows_of staff_in (λ rows. rows.staff) refl
-      by_staff (λ x n y m a b. refl) x new i.offices before.tree.ascending refl)
-      (same_rows_of client_in (λ rows. rows.clients) refl by_client (λ x n y m a b. refl) x new i.offices
-      before.tree.ascending refl)
-      (ap (λ r. put_item by_loan r (tables_of i).loans) (is ∙ ap (λ n. loan_in x (n + 1) l)
-      (sym (length-map loans loan_of)))
-      ∙ put_row_of loan_in loans_of refl by_loan (λ x n y m a b. refl) x l new i.offices before.tree.ascending there
+  is = ap Some (loans_become x new i before refl refl (ap (λ r. put_item by_loan r (tables_of i).loans) (is
+      ∙ ap (λ n. loan_in x (n + 1) l) (sym (length-map loans loan_of)))
+      ∙ put_row_of loan_in loans_of refl by_loan (λ x n y m a b. refl) x l new i.offices up there
       (map-append loan_of loans (added ∷ [])))
-      (same_by_loan entry_in own_entries x new i.offices before.tree.ascending (one_more_loan entry_in own_entries added
-      loans refl)) (same_receipts_of x new i.offices before.tree.ascending (uses_push 1 l loans))
-      accounts.instalments accounts.shares);
+      (same_by_loan entry_in own_entries x new i.offices up (one_more_loan entry_in own_entries added loans refl))
+      (same_receipts_of x new i.offices up (uses_push 1 l loans))
+      (unkept instalment_in instalments_kept) (unkept share_in shares_kept));
 }
   where
     loans : List Ledger
@@ -115,12 +108,13 @@ loan_becomes x l i r before sound there none is = record {
     new : Rows
     new = loan_added l (rows_at x i)
 
-    accounts : SameRows i.catalogue i.catalogue i.offices (with_rows x new i.offices)
-    accounts =
-        let k = i.catalogue in
-        rows_same k x new i.offices before.tree.ascending (one_more_loan instalment_in (kept_of instalments_kept k)
-        added loans (none_before instalments_kept k added none))
-        (one_more_loan share_in (kept_of shares_kept k) added loans (none_before shares_kept k added none))
+    up : Ascending i.offices
+    up = before.tree.ascending
+
+    unkept : {A R : Type 0} (make : ℕ → ℕ → A → R) (read : DisbursedLoan → List A) → rows_by_loan make
+        (kept_of read i.catalogue) i.offices ≡ rows_by_loan make (kept_of read i.catalogue) (with_rows x new i.offices)
+    unkept make read = same_by_loan make (kept_of read i.catalogue) x new i.offices up (one_more_loan make
+        (kept_of read i.catalogue) added loans (none_before read i.catalogue added none))
 
 -- where a loan that was not disbursed comes to a stage, its row is put, and those of its instalments
 module _ (account : Account) (stage : Stage) (l : Ledger) (i : Institution) (before : IsSound i)
@@ -140,20 +134,17 @@ module _ (account : Account) (stage : Stage) (l : Ledger) (i : Institution) (bef
   }) (tables_of (after_commit (SetStage account stage) i))
   row_staged =
       let x = account.office in
-      same_lists i (offices-with_rows x staged_rows i.offices) (same_rows_of staff_in (λ rows. rows.staff) refl by_staff
-      (λ x n y m a b. refl) x staged_rows i.offices before.tree.ascending refl)
-      (same_rows_of client_in (λ rows. rows.clients) refl by_client (λ x n y m a b. refl) x staged_rows i.offices
-      before.tree.ascending refl)
+      let up = before.tree.ascending in
+      loans_become x staged_rows i before refl refl
       (put_over_of loan_in loans_of refl by_loan (λ x n y m a b. refl) (λ l. record l { stage = stage }) l.loan x
-      account.number staged_rows i.offices before.tree.ascending (numbered_loan (rows_at x i).loans account.number
-      ∙ ap (option_map loan_of) there) (loans_staged account.number stage (rows_at x i).loans))
-      (same_by_loan entry_in own_entries x staged_rows i.offices before.tree.ascending
+      account.number staged_rows i.offices up (numbered_loan (rows_at x i).loans account.number
+      ∙ ap (option_map loan_of) there) (map_changed loan_of (with_stage stage) (λ l. record l { stage = stage })
+      (λ l. refl) account.number (rows_at x i).loans))
+      (same_by_loan entry_in own_entries x staged_rows i.offices up
       (change_alone entry_in own_entries account.number (with_stage stage) (rows_at x i).loans (λ k. refl)))
-      (same_receipts_of x staged_rows i.offices before.tree.ascending (uses_with account.number 1 (with_stage stage)
-      (rows_at x i).loans (λ l k. refl)))
-      refl
-      (staged_shares i.catalogue x account.number l stage staged_rows i.offices before.tree.ascending there refl none
-      without)
+      (same_receipts_of x staged_rows i.offices up (uses_with account.number 1 (with_stage stage)
+      (rows_at x i).loans (λ l k. refl))) refl
+      (staged_shares i.catalogue x account.number l stage staged_rows i.offices up there refl none without)
 
   abbrev pub schedule : List StoreWrite
   schedule = schedule_put account.office account.number (kept_of instalments_kept i.catalogue (with_stage stage l))
@@ -164,15 +155,16 @@ module _ (account : Account) (stage : Stage) (l : Ledger) (i : Institution) (bef
     sound = sound;
     fits = (
       refl,
-      schedule_fits account.office account.number (kept_of instalments_kept i.catalogue
-          (with_stage stage l)) _,
+      all_plain FitsLists (λ w ls fits suits. fits) schedule (schedule_plain account.office account.number
+          (kept_of instalments_kept i.catalogue (with_stage stage l))) _,
     );
     is = schedule_there i.catalogue account.office account.number l stage staged_rows i.offices before.tree.ascending
         there refl none without _ refl ∙ ap Some row_staged;
   }
 
 -- what a change of a loan's entries leaves of the rows of its office
-module _ (loan : Account) (account : Kept) (l : Ledger) (i : Institution) (before : IsSound i) (there : ledger_at loan i
+module _ (loan : Account) (account : KeptAccount) (l : Ledger) (i : Institution) (before : IsSound i)
+    (there : ledger_at loan i
     ≡ Some l) (changed : IsChanged i.catalogue l account) where
   abbrev x : ℕ
   x = loan.office
@@ -191,21 +183,18 @@ module _ (loan : Account) (account : Kept) (l : Ledger) (i : Institution) (befor
             now;
         shares = share_rows i.catalogue now;
       }) (tables_of (after_commit (AddEntry loan account) i))
-  entries_changed entries receipts = same_lists i (offices-with_rows x new i.offices)
-      (same_rows_of staff_in (λ rows. rows.staff) refl by_staff (λ x n y m a b. refl) x new i.offices
-      before.tree.ascending refl)
-      (same_rows_of client_in (λ rows. rows.clients) refl by_client (λ x n y m a b. refl) x new i.offices
-      before.tree.ascending refl)
-      (same_rows_of loan_in loans_of refl by_loan (λ x n y m a b. refl) x new i.offices before.tree.ascending
-      (loans_entered loan.number account.loan.entries (rows_at x i).loans))
-      entries receipts refl refl
+  entries_changed entries receipts = loans_become x new i before refl refl (same_rows_of loan_in loans_of refl x new
+      i.offices before.tree.ascending (map_changed loan_of (with_entries account.loan.entries) (λ l. l) (λ l. refl)
+      loan.number (rows_at x i).loans ∙ none_changed loan.number (map loan_of (rows_at x i).loans))) entries
+      receipts refl refl
 
   abbrev change : List StoreWrite
   change = change_writes x loan.number account
 
   -- these writes and then those of the change
   with_change : (writes : List StoreWrite) (lists : Lists) → IsSound (after_commit (AddEntry loan account) i)
-      → AllFit after Fits writes (Some (tables_of i)) → after_all after writes (Some (tables_of i)) ≡ Some lists
+      → AllFit after_write FitsLists writes (Some (tables_of i)) → after_all after_write writes (Some (tables_of i))
+      ≡ Some lists
       → lists.instalments ≡ instalment_rows i.catalogue i.offices → lists.shares ≡ share_rows i.catalogue i.offices
       → ◌≡◌ {A = Lists} (record lists {
         instalments = instalment_rows i.catalogue now;
@@ -214,9 +203,9 @@ module _ (loan : Account) (account : Kept) (l : Ledger) (i : Institution) (befor
       → Becomes (writes ++ change) i (after_commit (AddEntry loan account) i)
   with_change writes lists sound fits first instalments shares is = record {
     sound = sound;
-    fits = fit_both writes change (Some (tables_of i)) fits (subst (AllFit after Fits change) (sym first)
-        (change_fits x loan.number account lists));
-    is = after_both writes change (Some (tables_of i)) ∙ ap (after_all after change) first
+    fits = fit_both writes change (Some (tables_of i)) fits (subst (AllFit after_write FitsLists change) (sym first)
+        (all_plain FitsLists (λ w ls fits suits. fits) change (change_plain x loan.number account) lists));
+    is = after_both writes change (Some (tables_of i)) ∙ ap (after_all after_write change) first
         ∙ change_written i.catalogue x loan.number l account changed new i.offices before.tree.ascending there refl
         lists instalments shares ∙ ap Some is;
   }
@@ -239,8 +228,8 @@ module _ (loan : Account) (account : Kept) (l : Ledger) (i : Institution) (befor
         x loan.number e account.loan.entries l new i.offices before.tree.ascending there refl are none))
     row_becomes (Some r) some =
         with_change (write.AddEntry row ∷ receipt_added row (Some r)) _ sound (refl, (refl, tt)) refl refl refl
-        (entries_changed row_put (receipt_put x loan.number e account.loan.entries l new i.offices r
-        before.tree.ascending there refl are some apart))
+        (entries_changed row_put (receipt_put x loan.number e account.loan.entries l new i.offices
+        before.tree.ascending there refl are r some apart))
 
     pub entry_becomes : (r : EntryRow) → r ≡ row → Becomes (entry_added r ++ change) i
         (after_commit (AddEntry loan account) i)

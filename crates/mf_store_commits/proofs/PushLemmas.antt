@@ -1,23 +1,11 @@
 -- Writes that are added to a list in turn.
-use Rattle.std.proofs.Common.{◌≡◌, ◌<◌, ◌≤◌, ◌+◌, ℕ, zero, suc, List, [], ◌∷◌, ◌++◌, map, length, take, get_or, sym, ap}
+use Rattle.std.proofs.Common.{◌≡◌, ◌<◌, ◌+◌, ℕ, zero, suc, List, [], ◌∷◌, ◌++◌, map, length, take, get_or, sym, ap}
 use Rattle.std.proofs.Common.{ap₂, ◌∙◌, arith}
-use Rattle.std.proofs.lemmas.List.{take_more, map-append, append_assoc, append-nil, take_all}
-use Rattle.mf_account.specs.declared.settled.Settled.{Settled}
+use Rattle.std.proofs.lemmas.List.{take_more, map-append, append_assoc, append-nil}
+use Rattle.mf_account.specs.declared.settled.SettledPart.{SettledPart}
 use Rattle.mf_store_schema.specs.declared.writes.StoreWrite.{StoreWrite}
 use Rattle.mf_store_commits.specs.ChangeWrites.{shares_put, shares_replaced}
 use Rattle.mf_store_values.specs.Flat.{numbered_from}
-
--- one more write
-pub pushed_more : {A B : Type 0} (f : A → B) (xs : List A) (n : ℕ) (x : A) (first old new : List B) → n < length xs → x
-    ≡ get_or xs n x → new ≡ old ++ f x ∷ [] → old ≡ first ++ map f (take n xs) → new ≡ first ++ map f (take (n + 1) xs)
-pushed_more f xs n x first old new low is more before =
-    more ∙ ap (λ l. l ++ f x ∷ []) before ∙ append_assoc first (map f (take n xs)) (f x ∷ [])
-    ∙ ap (λ l. first ++ l) (ap (λ y. map f (take n xs) ++ f y ∷ []) is ∙ sym (ap (map f) (take_more xs n x low)
-    ∙ map-append f (take n xs) (get_or xs n x ∷ [])))
-
-pub pushed_all : {A B : Type 0} (f : A → B) (xs : List A) (n : ℕ) (first old : List B) → length xs ≤ n → old ≡ first
-    ++ map f (take n xs) → old ≡ first ++ map f xs
-pushed_all f xs n first old past before = before ∙ ap (λ l. first ++ map f l) (take_all n xs past)
 
 numbered_more : {A R : Type 0} (make : ℕ → A → R) (m n : ℕ) (xs : List A) (x : A) → n < length xs
     → numbered_from make m (take (suc n) xs) ≡ numbered_from make m (take n xs) ++ make (m + n) (get_or xs n x) ∷ []
@@ -41,20 +29,15 @@ numbered_pushed f make xs n x first old new low is more before =
     ∙ ap (map f) (numbered_more make 1 n xs x low) ∙ map-append f (numbered_from make 1 (take n xs))
     (make (1 + n) (get_or xs n x) ∷ [])))
 
-pub numbered_whole : {A R B : Type 0} (f : R → B) (make : ℕ → A → R) (xs : List A) (n : ℕ) (first old : List B)
-    → length xs ≤ n → old ≡ first ++ map f (numbered_from make 1 (take n xs)) → old ≡ first
-    ++ map f (numbered_from make 1 xs)
-numbered_whole f make xs n first old past before =
-    before ∙ ap (λ l. first ++ map f (numbered_from make 1 l)) (take_all n xs past)
-
-shares_more : (x n : ℕ) (settled : List Settled) (seqs : List ℕ) (seq : ℕ) → shares_put x n settled (seqs ++ seq ∷ [])
+shares_more : (x n : ℕ) (settled : List SettledPart) (seqs : List ℕ) (seq : ℕ)
+    → shares_put x n settled (seqs ++ seq ∷ [])
     ≡ shares_put x n settled seqs ++ shares_replaced x n settled seq
 shares_more x n settled [] seq = append-nil (shares_replaced x n settled seq)
 shares_more x n settled (s ∷ seqs) seq = ap (λ l. shares_replaced x n settled s ++ l) (shares_more x n settled seqs seq)
     ∙ sym (append_assoc (shares_replaced x n settled s) (shares_put x n settled seqs) (shares_replaced x n settled seq))
 
 -- the writes of one entry more
-pub shares_pushed : (x n : ℕ) (settled : List Settled) (seqs : List ℕ) (k seq : ℕ) (first old new : List StoreWrite)
+pub shares_pushed : (x n : ℕ) (settled : List SettledPart) (seqs : List ℕ) (k seq : ℕ) (first old new : List StoreWrite)
     → k < length seqs → seq ≡ get_or seqs k seq → new ≡ old ++ shares_replaced x n settled seq → old ≡ first
     ++ shares_put x n settled (take k seqs) → new ≡ first ++ shares_put x n settled (take (k + 1) seqs)
 shares_pushed x n settled seqs k seq first old new low is more before =
@@ -63,8 +46,3 @@ shares_pushed x n settled seqs k seq first old new low is more before =
     ∙ ap (λ l. first ++ l) (ap (λ s. shares_put x n settled (take k seqs) ++ shares_replaced x n settled s) is
     ∙ sym (ap (shares_put x n settled) (take_more seqs k seq low) ∙ shares_more x n settled (take k seqs)
     (get_or seqs k seq)))
-
-pub shares_whole : (x n : ℕ) (settled : List Settled) (seqs : List ℕ) (k : ℕ) (first old : List StoreWrite)
-    → length seqs ≤ k → old ≡ first ++ shares_put x n settled (take k seqs) → old ≡ first ++ shares_put x n settled seqs
-shares_whole x n settled seqs k first old past before =
-    before ∙ ap (λ l. first ++ shares_put x n settled l) (take_all k seqs past)

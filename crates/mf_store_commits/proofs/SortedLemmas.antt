@@ -5,19 +5,17 @@ use Rattle.std.specs.List.{AllByRecursion}
 use Rattle.std.specs.Cmp.{IsTotalOrder}
 use Rattle.std.specs.Ordering.{ordering_reverse}
 use Rattle.sqlite_keyed.specs.Lists.{insert_sorted, sort_by}
-use Rattle.mf_store_sql.specs.Keep.{put_item, drop_item}
+use Rattle.mf_store_sql.specs.Keep.{put_item}
 use Rattle.mf_store_values.proofs.SortedLemmas.{all_sorted}
+use Rattle.mf_store_commits.proofs.PutLemmas.{none_dropped}
 
 module _ {X : Type 0} (cmp : X → X → Ordering) where
-  none_dropped : (r : X) (xs : List X) → AllByRecursion (λ y. is_eq (cmp r y) ≡ false) xs → drop_item cmp r xs ≡ xs
-  none_dropped r [] all = refl
-  none_dropped r (x ∷ xs) all = rw (all.0, none_dropped r xs all.1)
-
   -- a row with a new key is put as the sorting puts it
   put_new : (r : X) (xs : List X) → AllByRecursion (λ y. is_eq (cmp r y) ≡ false) xs → put_item cmp r (sort_by cmp xs)
       ≡ sort_by cmp (r ∷ xs)
   put_new r xs all =
-      ap (insert_sorted cmp r) (none_dropped r (sort_by cmp xs) (all_sorted cmp (λ y. is_eq (cmp r y) ≡ false) xs all))
+      ap (insert_sorted cmp r) (none_dropped cmp r (sort_by cmp xs)
+      (all_sorted cmp (λ y. is_eq (cmp r y) ≡ false) xs all))
 
   module _ (p : X → Bool) where
     insert_same : (r : X) (xs : List X) → p r ≡ true → AllByRecursion (λ y. p y ≡ false) xs
@@ -106,14 +104,13 @@ module _ {X : Type 0} (cmp : X → X → Ordering) where
         go false true d e more = let above : is_gt (cmp s r) ≡ true = above_both s r x e d in rw (above, d, e)
         go false false d e more = last (is_gt (cmp r s)) (is_gt (cmp s r)) (turned r s h) refl refl d e
 
-    moved : (r : X) (xs ys : List X) → AllByRecursion (λ y. is_eq (cmp r y) ≡ false) xs → sort_by cmp (r ∷ (xs ++ ys))
-        ≡ sort_by cmp (xs ++ r ∷ ys)
+    moved : (r : X) (xs ys : List X) → AllByRecursion (λ y. is_eq (cmp r y) ≡ false) (xs ++ ys)
+        → sort_by cmp (r ∷ (xs ++ ys)) ≡ sort_by cmp (xs ++ r ∷ ys)
     moved r [] ys all = refl
     moved r (x ∷ xs) ys all = inserted_twice r x (sort_by cmp (xs ++ ys)) all.0 ∙ ap (insert_sorted cmp x)
         (moved r xs ys all.1)
 
     -- one row more in the list that is sorted, with a new key
-    pub put_among : (r : X) (xs ys : List X) → AllByRecursion (λ y. is_eq (cmp r y) ≡ false) xs
-        → AllByRecursion (λ y. is_eq (cmp r y) ≡ false) (xs ++ ys) → put_item cmp r (sort_by cmp (xs ++ ys))
-        ≡ sort_by cmp (xs ++ r ∷ ys)
-    put_among r xs ys first all = put_new r (xs ++ ys) all ∙ moved r xs ys first
+    pub put_among : (r : X) (xs ys : List X) → AllByRecursion (λ y. is_eq (cmp r y) ≡ false) (xs ++ ys)
+        → put_item cmp r (sort_by cmp (xs ++ ys)) ≡ sort_by cmp (xs ++ r ∷ ys)
+    put_among r xs ys all = put_new r (xs ++ ys) all ∙ moved r xs ys all

@@ -1,13 +1,15 @@
 -- What soundness says of the rows of an office, and which of its numbers are there.
 use Rattle.std.proofs.Common.{◌≡◌, ◌<◌, ◌≤◌, ◌-◌, ℕ, zero, suc, Bool, true, false, cond, List, [], ◌∷◌, length}
-use Rattle.std.proofs.Common.{slice_get, Some, refl, sym, subst, arith, ◌==◌, IsTrue, ◌↔◌, ◌≢◌, true≢false}
-use Rattle.std.specs.Option.{is_some}
+use Rattle.std.proofs.Common.{slice_get, Option, None, Some, refl, sym, ap, ◌∙◌, subst, arith, ◌==◌, IsTrue, ◌↔◌, ◌≢◌}
+use Rattle.std.proofs.Common.{true≢false}
+use Rattle.std.specs.Option.{is_some, option_map}
 use Rattle.std.specs.List.{AllByRecursion}
 use Rattle.mf_office.specs.declared.caller.Caller.{Caller}
 use Rattle.mf_model.specs.Institution.{Catalogue, Office, office_at, item_numbered, Rows, with_rows}
 use Rattle.mf_model.specs.Sound.{IsSoundOffice, IsSoundRows}
 use Rattle.mf_model.specs.Store.{rows_of}
 use Rattle.mf_model.specs.Tree.{is_there}
+use Rattle.mf_model.proofs.StaffLemmas.{rows_found}
 
 placed : {A : Type 0} (xs : List A) (d : ℕ) → (IsTrue (is_some (slice_get xs d)) → d < length xs)
     × (d < length xs → IsTrue (is_some (slice_get xs d)))
@@ -47,11 +49,8 @@ office_sound k s x (f ∷ fs) all = go (f.number == x) (office_sound k s x fs al
 
 pub own_rows : (x : ℕ) (new : Rows) (fs : List Office) → is_there fs x ≡ true
     → rows_of (office_at x (with_rows x new fs)) ≡ new
-own_rows x new [] there = absurd (true≢false (sym there))
-own_rows x new (f ∷ fs) there = go (f.number == x) there (λ h. own_rows x new fs h)
+own_rows x new fs there = ap rows_of (rows_found x new fs) ∙ go (office_at x fs) there
   where
-    go : (b : Bool) → is_some (cond b (Some f) (office_at x fs)) ≡ true
-        → (is_there fs x ≡ true → rows_of (office_at x (with_rows x new fs)) ≡ new)
-        → rows_of (cond b (Some (record f { rows = cond b new f.rows })) (office_at x (with_rows x new fs))) ≡ new
-    go true h more = refl
-    go false h more = more h
+    go : (o : Option Office) → is_some o ≡ true → rows_of (option_map (λ (f : Office). record f { rows = new }) o) ≡ new
+    go None h = absurd (true≢false (sym h))
+    go (Some f) h = refl

@@ -1,5 +1,5 @@
 -- What tables stand for after a query and after a commit.
-use Rattle.std.proofs.Common.{◌≡◌, inl, inr, List, [], ◌∷◌, Some, Result, Ok, Err, IfOk, OnOk, IfErr, OnErr, IsTrue}
+use Rattle.std.proofs.Common.{◌≡◌, inl, inr, List, [], ◌∷◌, Some, Result, Ok, Err, IfOk, OnOk, OnErr, IsTrue}
 use Rattle.std.proofs.Common.{refl, sym, ap, ◌∙◌, subst, arith}
 use Rattle.sqlite.specs.Tree.{Trees}
 use Rattle.sqlite.specs.Effect.{Database}
@@ -13,8 +13,8 @@ use Rattle.mf_store_sql.specs.Writes.{Serves, AllFit, after_all, Turns, IsSettle
 use Rattle.mf_model.specs.Institution.{Institution}
 use Rattle.mf_store_schema.specs.Tables.{schema}
 use Rattle.mf_store_values.specs.Flat.{tables_of}
-use Rattle.mf_store_schema.specs.Calls.{IsUnchanged}
-use Rattle.mf_store_schema.specs.Writes.{schema_of, Holds, after, Fits}
+use Rattle.mf_store_schema.specs.Calls.{IsAsBefore}
+use Rattle.mf_store_schema.specs.Writes.{schema_of, Holds, after_write, FitsLists}
 use Rattle.mf_store_schema.specs.declared.writes.StoreWrite.{StoreWrite}
 use Rattle.mf_store_commits.specs.Tabled.{IsTabled, HasGoodDisk, LeavesTables, StayTabled}
 use Rattle.mf_store_commits.specs.Becoming.{Becomes}
@@ -29,14 +29,6 @@ module _ {A : Type 0} (answer : Result A Error) (r : Result A Fault) where
       go : (a : Result A Error) → answer ≡ a → IfOk a (λ x. r ≡ Ok x) → OnErr a (r ≡ Err F20) → P
       go (Ok x) is ok err = on_ok x is ok
       go (Err e) is ok err = on_err e is err
-
-  pub gives_up : IfOk answer (λ x. r ≡ Ok x) → OnErr answer (r ≡ Err F20) → IfErr r (λ fault. fault ≡ F20)
-  gives_up ok err = cases ok err (λ x a b. subst (λ o. IfErr o (λ fault. fault ≡ F20)) (sym b) tt)
-      (λ e a b. subst (λ o. IfErr o (λ fault. fault ≡ F20)) (sym b) refl)
-
-  pub if_ok : (P : A → Type 0) → IfOk answer (λ x. r ≡ Ok x) → OnErr answer (r ≡ Err F20) → IfOk answer P → IfOk r P
-  if_ok P ok err h = cases ok err (λ x a b. subst (λ o. IfOk o P) (sym b) (subst (λ o. IfOk o P) a h))
-      (λ e a b. subst (λ o. IfOk o P) (sym b) tt)
 
   pub on_ok : (P : Type 0) → IfOk answer (λ x. r ≡ Ok x) → OnErr answer (r ≡ Err F20) → OnOk answer P → OnOk r P
   on_ok P ok err h = cases ok err (λ x a b. subst (λ o. OnOk o P) (sym b) (subst (λ o. OnOk o P) a h))
@@ -57,7 +49,7 @@ module _ {S : Type 0} (g : Ghosts S) where
     earlier : {P : Trees → Type 0} → Survives was is P → HasGoodDisk g new → HasGoodDisk g old
     earlier survives clean = omega (arith, survives.clean, clean)
 
-    pub unchanged_stays : IsUnchanged was is → StayTabled g old new
+    pub unchanged_stays : IsAsBefore was is → StayTabled g old new
     unchanged_stays u = record {
       premise = u.premise;
       shuts = u.shuts;
@@ -75,10 +67,11 @@ module _ {S : Type 0} (g : Ghosts S) where
 
     module _ (writes : List StoreWrite) where
       abbrev Change : Database → Database → Type 0
-      Change = Turns (Serves schema_of Holds) (AllFit after Fits writes) (after_all after writes)
+      Change = Turns (Serves schema_of Holds) (AllFit after_write FitsLists writes) (after_all after_write writes)
 
       abbrev MayLeave : Trees → Type 0
-      MayLeave = MayHold (Serves schema_of Holds) Holds (AllFit after Fits writes) (after_all after writes) was
+      MayLeave = MayHold (Serves schema_of Holds) Holds (AllFit after_write FitsLists writes)
+          (after_all after_write writes) was
 
       pub made_stands : (IsTrue is.is_open → IsTrue was.is_open) → Change was.now is.now → (i j : Institution)
           → IsTabled g old i → Becomes writes i j → IsTabled g new j

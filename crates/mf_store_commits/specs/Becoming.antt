@@ -4,17 +4,17 @@ use Rattle.mf_store_sql.specs.Writes.{AllFit, after_all}
 use Rattle.mf_model.specs.Institution.{Institution, newly_made}
 use Rattle.mf_model.specs.Sound.{IsSound}
 use Rattle.mf_store_values.specs.Flat.{tables_of}
-use Rattle.mf_store_schema.specs.Writes.{after, Fits}
+use Rattle.mf_store_schema.specs.Writes.{after_write, FitsLists}
 use Rattle.mf_store_schema.specs.declared.writes.StoreWrite.{StoreWrite}
 
 -- the writes make the one sound institution's rows of the other's
 pub record Becomes (writes : List StoreWrite) (i j : Institution) : Type 0 where
   pub sound : IsSound j
-  pub fits : AllFit after Fits writes (Some (tables_of i))
-  pub is : after_all after writes (Some (tables_of i)) ≡ Some (tables_of j)
+  pub fits : AllFit after_write FitsLists writes (Some (tables_of i))
+  pub is : after_all after_write writes (Some (tables_of i)) ≡ Some (tables_of j)
 
 -- the writes make a new institution on this day where there were no tables
 pub record Begins (writes : List StoreWrite) (day : ℕ) : Type 0 where
   pub some : 0 < length writes
-  pub fits : AllFit after Fits writes None
-  pub is : after_all after writes None ≡ Some (tables_of (newly_made day))
+  pub fits : AllFit after_write FitsLists writes None
+  pub is : after_all after_write writes None ≡ Some (tables_of (newly_made day))

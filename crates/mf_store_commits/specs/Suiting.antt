@@ -7,7 +7,7 @@ use Rattle.mf_model.specs.declared.commit.Commit.{Commit}
 use Rattle.mf_store_values.specs.Flat.{tables_of}
 use Rattle.mf_store_schema.specs.Rows.{Lists, IsNew, IsThere, by_office, by_staff, by_client, by_charge, by_product}
 use Rattle.mf_store_schema.specs.Rows.{by_loan, by_entry, by_receipt}
-use Rattle.mf_store_schema.specs.Writes.{after}
+use Rattle.mf_store_schema.specs.Writes.{after_write}
 use Rattle.mf_store_schema.specs.declared.writes.StoreWrite.{StoreWrite}
 use Rattle.mf_store_schema.specs.declared.writes.StoreWrite.TheVariants.{PutOffice, PutStaff, PutClient, PutCharge}
 use Rattle.mf_store_schema.specs.declared.writes.StoreWrite.TheVariants.{AddProduct, PutProduct, AddLoan, PutLoan}
@@ -37,7 +37,7 @@ Suits write (Some lists) = SuitsRows lists write
 
 -- each of the writes suits the rows that those before it leave
 abbrev pub AllSuit : List StoreWrite → Lists → Type 0
-AllSuit writes lists = AllFit after Suits writes (Some lists)
+AllSuit writes lists = AllFit after_write Suits writes (Some lists)
 
 -- the writes make the commit's change of the institution, and suit its rows
 pub record Carries (commit : Commit) (writes : List StoreWrite) (i : Institution) : Type 0 where

@@ -7,7 +7,7 @@ ghost use Rattle.mf_store_values.specs.Flat.{charge_as, product_as};
 use mf_base::{Choice, Fault, Name};
 use mf_catalog::{Calc, ChargeKind, ProductMembers};
 use mf_store_schema::{ChargeRow, ProductRow, Text};
-use mf_store_values::signed;
+use mf_store_values::to_signed;
 
 /// The row of a charge.
 pub fn charge_row(
@@ -25,7 +25,7 @@ pub fn charge_row(
     })) }
     ensures gives_up { IfErr result (λ fault. fault ≡ F20) }
 {
-    let cents = signed(value)?;
+    let cents = to_signed(value)?;
     Ok(ChargeRow {
         number,
         name: Text::of_name(name),
@@ -40,8 +40,8 @@ pub fn product_row(number: u32, members: ProductMembers) -> Result<ProductRow, F
     ensures row { IfOk result (λ row. row ≡ product_as number (record { members = members; retired = false })) }
     ensures gives_up { IfErr result (λ fault. fault ≡ F20) }
 {
-    let min_principal = signed(members.min_principal)?;
-    let max_principal = signed(members.max_principal)?;
+    let min_principal = to_signed(members.min_principal)?;
+    let max_principal = to_signed(members.max_principal)?;
     Ok(ProductRow {
         number,
         name: Text::of_name(members.name),
@@ -64,7 +64,7 @@ pub fn product_row(number: u32, members: ProductMembers) -> Result<ProductRow, F
 }
 
 /// The row of the same product, retired.
-pub fn retired(row: ProductRow) -> ProductRow
+pub fn retire(row: ProductRow) -> ProductRow
     ensures { result ≡ record row { retired = 1 } }
 {
     let mut row = row;

@@ -8,8 +8,8 @@ ghost use Rattle.mf_store_values.specs.Flat.{instalment_in, numbered_from, share
 ghost use Rattle.mf_store_commits.specs.ChangeWrites.{schedule_put, instalments_put, shares_replaced, shares_put};
 ghost use Rattle.mf_store_commits.specs.ChangeWrites.{change_writes};
 
-use mf_account::{LoanAccount, Settled};
-use mf_alloc::Row;
+use mf_account::{LoanAccount, SettledPart};
+use mf_alloc::Instalment;
 use mf_base::Fault;
 use mf_store_schema::{EntryKey, InstalmentRow, StoreWrite};
 use mf_store_values::{instalment_row, share_row};
@@ -20,7 +20,7 @@ pub fn put_schedule(
     alloc: Global,
     office: u32,
     loan: u32,
-    rows: &[Row],
+    rows: &[Instalment],
     writes: &mut Vec<StoreWrite>,
 ) -> Result<(), Fault>
     ensures writes { OnOk result (writes.new.items ≡ writes.old.items
@@ -45,7 +45,7 @@ fn instalment_at(
     office: u32,
     loan: u32,
     number: u32,
-    rows: &[Row],
+    rows: &[Instalment],
 ) -> Result<InstalmentRow, Fault>
     ensures row { IfOk result (λ stored. stored ≡ instalment_in office loan (number, row_at rows.now number)) }
     ensures gives_up { IfErr result (λ fault. fault ≡ F20) }
@@ -62,7 +62,7 @@ fn put_instalments(
     alloc: Global,
     office: u32,
     loan: u32,
-    rows: &[Row],
+    rows: &[Instalment],
     numbers: &[u32],
     writes: &mut Vec<StoreWrite>,
 ) -> Result<(), Fault>
@@ -82,7 +82,7 @@ fn put_parts(
     office: u32,
     loan: u32,
     seq: u32,
-    parts: &[Settled],
+    parts: &[SettledPart],
     writes: &mut Vec<StoreWrite>,
 ) -> Result<(), Fault>
     ensures writes { OnOk result (writes.new.items ≡ writes.old.items
@@ -114,7 +114,7 @@ fn replace_shares(
         seq) }
     ensures gives_up { IfErr result (λ fault. fault ≡ F20) }
 {
-    let parts = account.settled(alloc, seq)?;
+    let parts = account.settled_in(alloc, seq)?;
     writes.push(StoreWrite::RemoveShares(EntryKey { office, loan, seq }))?;
     put_parts(office, loan, seq, &parts, writes)
 }

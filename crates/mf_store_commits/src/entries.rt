@@ -9,7 +9,7 @@ use crate::loans::text_of_day;
 use mf_account::{Entry, LoanAccount, Receipt};
 use mf_base::{Choice, Fault};
 use mf_store_schema::{EntryRow, Text};
-use mf_store_values::signed;
+use mf_store_values::to_signed;
 use std::alloc::Global;
 
 /// The text of a receipt, where there is one.
@@ -32,7 +32,7 @@ fn entry_row(alloc: Global, office: u32, loan: u32, entry: &Entry) -> Result<Ent
     ensures gives_up { IfErr result (λ fault. fault ≡ F20) }
 {
     let day = text_of_day(alloc, entry.day)?;
-    let amount = signed(entry.amount)?;
+    let amount = to_signed(entry.amount)?;
     let receipt = receipt_text(alloc, &entry.receipt)?;
     let staff = entry.staff.text(alloc)?;
     Ok(EntryRow {

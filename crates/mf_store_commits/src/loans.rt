@@ -8,7 +8,7 @@ ghost use Rattle.mf_store_values.specs.Flat.{loan_in, approval_text, disbursal_t
 use mf_base::{Day, Fault};
 use mf_model::{Loan, Stage};
 use mf_store_schema::{LoanRow, Text};
-use mf_store_values::signed;
+use mf_store_values::to_signed;
 use std::alloc::Global;
 
 /// The text of a day.
@@ -47,7 +47,7 @@ pub fn loan_row(alloc: Global, office: u32, number: u32, loan: Loan) -> Result<L
     ensures row { IfOk result (λ row. row ≡ loan_in office number loan) }
     ensures gives_up { IfErr result (λ fault. fault ≡ F20) }
 {
-    let principal = signed(loan.principal)?;
+    let principal = to_signed(loan.principal)?;
     let approved = approval(alloc, loan.stage)?;
     let disbursed = disbursal(alloc, loan.stage)?;
     Ok(LoanRow {
@@ -64,7 +64,7 @@ pub fn loan_row(alloc: Global, office: u32, number: u32, loan: Loan) -> Result<L
 }
 
 /// A loan, brought to a stage.
-pub fn staged(loan: &Loan, stage: Stage) -> Loan
+pub fn with_stage(loan: &Loan, stage: Stage) -> Loan
     ensures { result ≡ record loan.now { stage = stage } }
 {
     Loan {

@@ -5,7 +5,7 @@ use Rattle.sqlite.specs.Tree.{Trees}
 use Rattle.sqlite_trees.specs.declared.store.Store.{Ghosts}
 use Rattle.mf_model.specs.Institution.{Institution}
 use Rattle.mf_model.specs.Sound.{IsSound}
-use Rattle.mf_store_schema.specs.Calls.{IsUnchanged, OnlyFaultsShut}
+use Rattle.mf_store_schema.specs.Calls.{OnlyFaultsShut}
 use Rattle.mf_store_schema.specs.Rows.{Lists}
 use Rattle.mf_store_schema.specs.Writes.{Holds}
 use Rattle.mf_store_values.specs.Flat.{tables_of}
@@ -14,44 +14,17 @@ use Rattle.mf_store_schema.specs.Tables.{first_schema}
 use Rattle.mf_store_schema.specs.Whole.{HaveFirstRowids}
 use Rattle.mf_store_sound.specs.Schemas.{first_tables_of}
 use Rattle.mf_store_sql.specs.Writes.{Serves}
-use Rattle.mf_store_schema.specs.Upgrade.{First as Kept_first, schema_kept, HoldsKept}
+use Rattle.mf_store_schema.specs.Upgrade.{First, schema_kept, HoldsKept}
 use Rattle.mf_store_schema.specs.Upgraded.{IsKeepingFirst, IsUpgradedTo}
 use Rattle.mf_store.specs.Facts.{KnownStore}
 use Rattle.mf_store_commits.specs.Tabled.{HasGoodDisk, IsTabled}
 use Rattle.mf_store.specs.Stands.{StandsFor, IsClean, IsOpen, Leaves}
-use Rattle.mf_store_commits.proofs.StandLemmas.{unchanged_stays}
 use Rattle.mf_store_files.specs.First.{IsTabledFirst, IsLeftFirst}
 use Rattle.mf_store_files.specs.Held.{HoldsSoundFirst}
-
-module _ {S : Type 0} (g : Ghosts S) (old new : Held S) (u : IsUnchanged (state g old) (state g new))
-    (store : KnownStore S) (same : store.connection ≡ new) where
-  pub stands_over : ((i : Institution) → IsTabled g new i → StandsFor g store i) → IsClean g store → (i : Institution)
-      → IsTabled g old i → StandsFor g store i
-  stands_over stands clean i was =
-      stands i ((unchanged_stays g old new u).same (subst (HasGoodDisk g) same clean) i was)
-
-  pub leaves_over : (IsOpen g store → (i : Institution) → IsTabled g new i → Leaves g store (i ∷ []))
-      → (HasGoodDisk g new → IsTrue (state g new).is_open) → IsClean g store → (i : Institution) → IsTabled g old i
-      → Leaves g store (i ∷ [])
-  leaves_over leaves live clean i was =
-      let good = subst (HasGoodDisk g) same clean in
-      leaves (subst (λ h. IsTrue (state g h).is_open) (sym same) (live good)) i ((unchanged_stays g old new u).same good
-      i was)
 
 -- ---- tables of the first schema
 
 module _ {S : Type 0} (g : Ghosts S) (old mid : Held S) (u : IsUnchangedUnder IsFirst (state g old) (state g mid)) where
-  -- where nothing was written, nothing is left but what was
-  pub left_as_it_was : (state g old).now.schema ≡ first_schema → IsLeftFirst g old mid
-  left_as_it_was its = record {
-    premise = u.premise;
-    was_open = u.was_open;
-    same = λ clean live. u.same clean live its;
-    shuts = u.shuts;
-    stop = λ clean i was trees may. inl (u.stop clean (λ live. its) trees may);
-    refused = λ clean rowids none_held trees may. u.stop clean (λ live. its) trees may;
-  }
-
   module _ (lists : Lists) (live : HasGoodDisk g mid → IsTrue (state g mid).is_open) (rows : HasGoodDisk g mid
       → (state g old).now.schema ≡ first_schema → (held : HoldsSoundFirst (state g old).now.trees)
       → first_tables_of held.institution ≡ lists) where
@@ -59,7 +32,7 @@ module _ {S : Type 0} (g : Ghosts S) (old mid : Held S) (u : IsUnchangedUnder Is
         (first_tables_of i)
     still_keeps clean i was now =
         let before = was.keeps (u.was_open clean now) in
-        subst (λ d. Serves schema_kept HoldsKept d (Kept_first (first_tables_of i)))
+        subst (λ d. Serves schema_kept HoldsKept d (First (first_tables_of i)))
         (sym (u.same clean now before.schema_is)) before
 
     -- the lists read are the rows of the institution that the tables hold

@@ -10,7 +10,7 @@ use Rattle.sqlite_disk.specs.declared.Disk.{Ghosts}
 use Rattle.sqlite_disk.specs.declared.Files.{Files}
 use Rattle.sqlite_store.specs.FileStore as files
 use Rattle.sqlite_store.specs.declared.store.FileStore.{FileStore}
-use Rattle.sqlite_trees.specs.View.{IsClean as IsCleanView}
+use Rattle.sqlite_trees.specs.View.{IsClean}
 use Rattle.sqlite_wal.specs.Files.{outcomes}
 use Rattle.sqlite_wal.specs.Recovery.{Image}
 use Rattle.mf_model.specs.Institution.{Institution}
@@ -48,7 +48,7 @@ module _ {D : Type 0} {g : Ghosts D} (c : Held (FileStore D g)) (settled : IsTru
 
 -- where closing failed, a stop leaves nothing more
 pub kept : {D : Type 0} {g : Ghosts D} (c : Held (FileStore D g)) (last : FileStore D g) → IsClosed c last
-    → IsCleanView (files.view last)
+    → IsClean (files.view last)
     → (is : List Institution) → LeavesTables over_files c is → (trees : Trees) → files.recovers last trees
     → HoldsOneOf is trees
 kept c last closed clean is leaves trees may =
@@ -57,7 +57,7 @@ kept c last closed clean is leaves trees may =
 
 -- where closing failed, the disk was good before if it still is
 pub was_good : {D : Type 0} {g : Ghosts D} (c : Held (FileStore D g)) (last : FileStore D g) → IsClosed c last
-    → IsCleanView (files.view last) → HasGoodDisk over_files c
+    → IsClean (files.view last) → HasGoodDisk over_files c
 was_good c last closed clean =
     let counts = closed.quiet.clean in
     omega (arith, counts, clean)

@@ -1,34 +1,34 @@
 -- The rows that the accounts of a sound institution leave, its instalments and its shares, are ones that records can
 -- hold.
-use Rattle.std.proofs.Common.{◌≡◌, ◌≤◌, ◌<◌, ◌+◌, ◌*◌, ◌^◌, ◌/◌, ◌%◌, ◌==◌, pos, ℕ, zero, suc, Bool, true, false, cond}
-use Rattle.std.proofs.Common.{List, [], ◌∷◌, ◌++◌, map, filter, length, Option, Some, None, refl, sym, ap, ◌∙◌, subst}
+use Rattle.std.proofs.Common.{◌≡◌, ◌≤◌, ◌<◌, ◌+◌, ◌*◌, ◌^◌, ◌==◌, pos, ℕ, zero, suc, Bool, true, false, cond}
+use Rattle.std.proofs.Common.{List, [], ◌∷◌, map, filter, length, Option, Some, None, refl, sym, ap, ◌∙◌, subst}
 use Rattle.std.proofs.Common.{arith}
 use Rattle.std.specs.List.{AllByRecursion, range_with_len}
-use Rattle.std.specs.Str.{IsUtf8}
-use Rattle.std.proofs.lemmas.List.{length-map, length-append}
+use Rattle.std.proofs.lemmas.List.{length-map, length-append, map-append}
+use Rattle.std.proofs.lemmas.List.FromFn.{length-map-range_with_len}
 use Rattle.std.proofs.lemmas.List.Elements.{recursion_from_All}
 use Rattle.std.proofs.lemmas.Nat.{mul-le}
-use Rattle.std.proofs.lemmas.Str.{IsUtf8-from_ascii}
-use Rattle.sqlite_keyed.proofs.ListLemmas.{all-append, all_weaker}
+use Rattle.sqlite_keyed.proofs.ListLemmas.{all-append, all-filter, all_map, all_weaker}
 use Rattle.mf_base.specs.Calendar.{date_of, months_on, day_after}
-use Rattle.mf_base.specs.DayText.{two_digits, date_text, day_text, last_day, last_entered_day}
+use Rattle.mf_base.specs.DayText.{day_text, last_day, last_entered_day}
 use Rattle.mf_base.specs.declared.day.Freq.{Freq}
 use Rattle.mf_base.specs.declared.day.Freq.TheVariants.{Weeks, Months}
 use Rattle.mf_base.proofs.CalendarLemmas.{IsDate-date_of}
-use Rattle.mf_base.proofs.DayTextLemmas.{IsShort-date, year-date_of, entered_year-date_of, last_year, date_text-day}
+use Rattle.mf_base.proofs.DayTextLemmas.{entered_year-date_of, last_year}
 use Rattle.mf_base.proofs.DueDayLemmas.{IsDate-months_on}
 use Rattle.mf_catalog.specs.Limits.{longest_step}
 use Rattle.mf_catalog.specs.declared.terms.Terms.{Terms}
 use Rattle.mf_schedule.specs.Fresh.{instalment_of}
 use Rattle.mf_alloc.specs.declared.row.Cell.{Cell}
 use Rattle.mf_alloc.specs.Order.{dues_of}
-use Rattle.mf_alloc.specs.Sums.{Sums}
-use Rattle.mf_account.specs.Account.{Orders, first_state, row_of, parts_numbered as numbered_parts, settled_by}
+use Rattle.mf_alloc.specs.Sums.{Instalment}
+use Rattle.mf_account.specs.Account.{Orders, first_state, row_of, parts_numbered, settled_by}
 use Rattle.mf_account.specs.Applicable.{HasInstalment}
 use Rattle.mf_account.specs.Change.{settled_in}
-use Rattle.mf_account.specs.Effect.{Part, State, after, is_some_part, whole_part, parts_by, parts_cleared, parts_of}
+use Rattle.mf_account.specs.Effect.{Part, State, after_entry, is_some_part, whole_part, parts_by, parts_cleared}
+use Rattle.mf_account.specs.Effect.{parts_of}
 use Rattle.mf_account.specs.Effect.{parts_paid, paid_at, own_share, later_share}
-use Rattle.mf_account.specs.Loan.{Loan as Running, IsSound as IsSoundAccount, schedule_of, orders_of, state_of_loan}
+use Rattle.mf_account.specs.Loan.{DisbursedLoan, IsSoundDisbursed, schedule_of, orders_of, state_of_loan}
 use Rattle.mf_account.specs.Loan.{settled_of_loan}
 use Rattle.mf_account.specs.Standing.{standing_entries}
 use Rattle.mf_account.specs.declared.entry.Entry.{Entry}
@@ -36,14 +36,14 @@ use Rattle.mf_account.specs.declared.entry.Kind.{Kind}
 use Rattle.mf_account.specs.declared.entry.Kind.TheVariants as kind
 use Rattle.mf_account.specs.declared.settled.How.{How}
 use Rattle.mf_account.specs.declared.settled.How.TheVariants.{Paid, Waived, WrittenOff}
-use Rattle.mf_account.specs.declared.settled.Settled.{Settled}
+use Rattle.mf_account.specs.declared.settled.SettledPart.{SettledPart}
 use Rattle.mf_account.proofs.DueLemmas.{dues-after, dues-after_all, size-dues}
 use Rattle.mf_account.proofs.GoodLemmas.{IsReplayable}
 use Rattle.mf_account.proofs.SoundLemmas.{each-standing, good-sound, lawful-of, length-schedule, length-standing-le}
 use Rattle.mf_office.specs.declared.caller.Caller.{Caller}
 use Rattle.mf_model.specs.Accounts.{account_in, of_account}
-use Rattle.mf_model.specs.Institution.{Institution, Catalogue, Ledger, Office}
-use Rattle.mf_model.specs.Sound.{IsSound, IsSoundOffice, IsSoundCatalogue, IsSoundLoan, is_staff}
+use Rattle.mf_model.specs.Institution.{Institution, Catalogue, Ledger}
+use Rattle.mf_model.specs.Sound.{IsSound, IsSoundCatalogue, IsSoundLoan, is_staff}
 use Rattle.mf_model.proofs.AccountLemmas.{account_sound}
 use Rattle.mf_store_schema.specs.Tables as table
 use Rattle.mf_store_schema.specs.Fields.{HasFields}
@@ -52,31 +52,11 @@ use Rattle.mf_store_schema.specs.declared.instalments.InstalmentRow.{InstalmentR
 use Rattle.mf_store_schema.specs.declared.shares.ShareRow.{ShareRow}
 use Rattle.mf_store_values.specs.Flat.{numbered_from, tables_of, instalment_in, share_in, how_number, portion_number}
 use Rattle.mf_store_values.specs.Flat.{instalments_kept, shares_kept, placed_parts, parts_from, kept_of}
-use Rattle.mf_store_values.specs.Flat.{rows_of_loans, rows_by_loan}
-use Rattle.mf_store_files.proofs.HeldLemmas.{is_number, is_amount, is_text, stored_held, low_bytes, digits_low}
-use Rattle.mf_store_files.proofs.HeldLemmas.{portion_low}
+use Rattle.mf_store_files.specs.Held.{CanHoldRows}
+use Rattle.mf_store_files.proofs.TableLemmas.{◌also◌}
+use Rattle.mf_store_files.proofs.HeldLemmas.{is_number, is_amount, is_text, day_utf8, portion_low, by_loan_held}
 
 -- ---- instalments
-
--- a day whose year has four digits
-utf8_by : (day : ℕ) → day ≤ last_day → IsUtf8 (day_text day)
-utf8_by day h =
-    let date = date_of day in
-    let short = IsShort-date date (IsDate-date_of day) (year-date_of day h) in
-    let low = λ (b : ℕ). b < 128 in
-    let years = digits_low (date.year / 100) (let y = year-date_of day h in omega (arith, y)) in
-    let year = digits_low (date.year % 100) (omega arith) in
-    let month = digits_low date.month (let m = (IsDate-date_of day).last_month in omega (arith, m)) in
-    let its_day = digits_low date.day (let d = short.day in omega (arith, d)) in
-    let after_month : AllByRecursion low (45 ∷ two_digits date.day) = (omega arith, its_day) in
-    let from_month = all-append low (two_digits date.month) (45 ∷ two_digits date.day) month after_month in
-    let after_year : AllByRecursion low (45 ∷ (two_digits date.month ++ 45 ∷ two_digits date.day)) =
-    (omega arith, from_month) in
-    let from_year = all-append low (two_digits (date.year % 100))
-    (45 ∷ (two_digits date.month ++ 45 ∷ two_digits date.day)) year after_year in
-    let bytes : AllByRecursion low (date_text date) = all-append low (two_digits (date.year / 100))
-    (two_digits (date.year % 100) ++ 45 ∷ (two_digits date.month ++ 45 ∷ two_digits date.day)) years from_year in
-    subst IsUtf8 (sym (date_text-day day)) (IsUtf8-from_ascii (date_text date) (low_bytes (date_text date) bytes))
 
 -- no loan is due later
 due_by_then : (day : ℕ) (freq : Freq) (count : ℕ) → day ≤ last_entered_day → count ≤ 20_000 → day_after day freq count
@@ -106,7 +86,7 @@ steps_low terms most = go terms.freq most
     go Weeks h = h
     go Months h = omega (arith, h)
 
-account_dues : (a : Running) → IsSoundAccount a → AllByRecursion (λ (due : ℕ). due ≤ last_day)
+account_dues : (a : DisbursedLoan) → IsSoundDisbursed a → AllByRecursion (λ (due : ℕ). due ≤ last_day)
     (dues_of (state_of_loan a).rows)
 account_dues a sound =
     let first = first_state (schedule_of a) in
@@ -117,67 +97,26 @@ account_dues a sound =
     (dues_first a.terms a.principal a.periods a.day sound.day (steps_low a.terms sound.limits.terms_limits.longest) 1
     a.periods (omega (arith, periods)))
 
-account_size : (a : Running) → IsSoundAccount a → length (state_of_loan a).rows ≤ 360
+account_size : (a : DisbursedLoan) → IsSoundDisbursed a → length (state_of_loan a).rows ≤ 360
 account_size a sound = let size = (good-sound a sound).size in let periods =
     sound.limits.most_periods in omega (arith, size, periods)
 
 abbrev HeldInstalment : InstalmentRow → Type 0
 HeldInstalment x = HasFields (table.instalments).columns (instalment_row x)
 
-instalment_held : (x m n : ℕ) (row : Sums) → x ≤ 9999 → m ≤ 999999 → n ≤ 360 → row.due ≤ last_day
+instalment_held : (x m n : ℕ) (row : Instalment) → x ≤ 9999 → m ≤ 999999 → n ≤ 360 → row.due ≤ last_day
     → HeldInstalment (instalment_in x m (n, row))
 instalment_held x m n row low_x low_m low_n due =
     record {
       width = refl;
-      values = (
-        is_number x (omega (arith, low_x)),
-        (
-          is_number m (omega (arith, low_m)),
-          (
-            is_number n (omega (arith, low_n)),
-            (
-              is_text (day_text row.due) (utf8_by row.due due),
-              (
-                is_amount _,
-                (
-                  is_amount _,
-                  (
-                    is_amount _,
-                    (
-                      is_amount _,
-                      (
-                        is_amount _,
-                        (
-                          is_amount _,
-                          (
-                            is_amount _,
-                            (
-                              is_amount _,
-                              (
-                                is_amount _,
-                                (
-                                  is_amount _,
-                                  (
-                                    is_amount _,
-                                    (is_amount _, (is_amount _, (is_amount _, (is_amount _, (is_amount _, tt))))),
-                                  ),
-                                ),
-                              ),
-                            ),
-                          ),
-                        ),
-                      ),
-                    ),
-                  ),
-                ),
-              ),
-            ),
-          ),
-        ),
-      );
+      values = is_number x (omega (arith, low_x)) also is_number m (omega (arith, low_m))
+          also is_number n (omega (arith, low_n)) also is_text (day_text row.due) (day_utf8 row.due due)
+          also is_amount _ also is_amount _ also is_amount _ also is_amount _ also is_amount _ also is_amount _
+          also is_amount _ also is_amount _ also is_amount _ also is_amount _ also is_amount _ also is_amount _
+          also is_amount _ also is_amount _ also is_amount _ also is_amount _ also tt;
     }
 
-instalments_held : (x m n : ℕ) (rows : List Sums) → x ≤ 9999 → m ≤ 999999 → n + length rows ≤ 361
+instalments_held : (x m n : ℕ) (rows : List Instalment) → x ≤ 9999 → m ≤ 999999 → n + length rows ≤ 361
     → AllByRecursion (λ (due : ℕ). due ≤ last_day) (dues_of rows)
     → AllByRecursion HeldInstalment (map (instalment_in x m) (numbered_from (λ at row. (at, row)) n rows))
 instalments_held x m n [] low_x low_m few dues = tt
@@ -187,44 +126,32 @@ instalments_held x m n (row ∷ rows) low_x low_m few dues = (
       (omega (arith, few)) dues.1,
 )
 
--- what the accounts of loans leave, where that of each sound account is held
-module _ {A R : Type 0} (make : ℕ → ℕ → A → R) (read : Running → List A) (H : R → Type 0) (held : (x m : ℕ)
-    (a : Running) → x ≤ 9999 → m ≤ 999999 → IsSoundAccount a → AllByRecursion H (map (make x m) (read a)))
-    (k : Catalogue) (sound : IsSoundCatalogue k) (staffed : Caller → Bool) where
-  kept_of_loan : (clients : List (List ℕ)) (x m : ℕ) (l : Ledger) → x ≤ 9999 → m ≤ 999999 → IsSoundLoan k staffed
-      clients l → (o : Option Running) → account_in k l ≡ o → AllByRecursion H (map (make x m) (of_account [] read o))
-  kept_of_loan clients x m l low_x low_m is None e = tt
-  kept_of_loan clients x m l low_x low_m is (Some a) e =
-      held x m a low_x low_m (account_sound k staffed clients l a sound is e)
+-- what the account of a sound loan leaves, where that of each sound account is held
+kept_held : {A R : Type 0} (make : ℕ → ℕ → A → R) (read : DisbursedLoan → List A) (H : R → Type 0)
+    → ((x m : ℕ) (a : DisbursedLoan)
+    → x ≤ 9999 → m ≤ 999999 → IsSoundDisbursed a → AllByRecursion H (map (make x m) (read a))) → (k : Catalogue)
+    → IsSoundCatalogue k → (staffed : Caller → Bool) (x m : ℕ) (clients : List (List ℕ)) (l : Ledger) → x ≤ 9999
+    → m ≤ 999999 → IsSoundLoan k staffed clients l → AllByRecursion H (map (make x m) (kept_of read k l))
+kept_held make read H held k sound staffed x m clients l low_x low_m is = go (account_in k l) refl
+  where
+    go : (o : Option DisbursedLoan) → account_in k l ≡ o → AllByRecursion H (map (make x m) (of_account [] read o))
+    go None e = tt
+    go (Some a) e = held x m a low_x low_m (account_sound k staffed clients l a sound is e)
 
-  kept_of_loans : (clients : List (List ℕ)) (x m : ℕ) (ls : List Ledger) → x ≤ 9999 → m + length ls ≤ 1000000
-      → AllByRecursion (IsSoundLoan k staffed clients) ls
-      → AllByRecursion H (rows_of_loans make (kept_of read k) x m ls)
-  kept_of_loans clients x m [] low_x few all = tt
-  kept_of_loans clients x m (l ∷ ls) low_x few all =
-      all-append H (map (make x m) (kept_of read k l)) (rows_of_loans make (kept_of read k) x (m + 1) ls)
-      (kept_of_loan clients x m l low_x (omega (arith, few)) all.0 (account_in k l) refl)
-      (kept_of_loans clients x (m + 1) ls low_x (omega (arith, few)) all.1)
-
-  kept_of_offices : (fs : List Office) → AllByRecursion (IsSoundOffice k staffed) fs
-      → AllByRecursion H (rows_by_loan make (kept_of read k) fs)
-  kept_of_offices [] all = tt
-  kept_of_offices (f ∷ fs) all =
-      all-append H (rows_of_loans make (kept_of read k) f.number 1 f.rows.loans) (rows_by_loan make (kept_of read k) fs)
-      (kept_of_loans f.rows.clients f.number 1 f.rows.loans all.0.number.1 (let most = all.0.rows.loan_limit in
-      omega (arith, most)) all.0.rows.loans) (kept_of_offices fs all.1)
-
-account_instalments : (x m : ℕ) (a : Running) → x ≤ 9999 → m ≤ 999999 → IsSoundAccount a
+account_instalments : (x m : ℕ) (a : DisbursedLoan) → x ≤ 9999 → m ≤ 999999 → IsSoundDisbursed a
     → AllByRecursion HeldInstalment (map (instalment_in x m) (instalments_kept a))
 account_instalments x m a low_x low_m sound = let size = account_size a sound in instalments_held x m 1
     (state_of_loan a).rows low_x low_m (omega (arith, size)) (account_dues a sound)
 
-pub held_instalments : (i : Institution) → IsSound i → AllByRecursion (HasFields (table.instalments).columns)
-    (map instalment_row (tables_of i).instalments)
+pub held_instalments : (i : Institution) → IsSound i → CanHoldRows (table.instalments).columns instalment_row
+    (tables_of i).instalments
 held_instalments i sound =
-    stored_held (HasFields (table.instalments).columns) instalment_row (tables_of i).instalments
-    (kept_of_offices instalment_in instalments_kept HeldInstalment account_instalments i.catalogue sound.catalogue
-    (is_staff i.offices) i.offices sound.each)
+    let k = i.catalogue in
+    let staffed = is_staff i.offices in
+    all_map (HasFields (table.instalments).columns) instalment_row (tables_of i).instalments (by_loan_held instalment_in
+    (kept_of instalments_kept k) HeldInstalment k staffed (kept_held instalment_in instalments_kept HeldInstalment
+    account_instalments k
+    sound.catalogue staffed) i.offices sound.each)
 
 -- ---- shares
 
@@ -236,47 +163,25 @@ how_low Paid = omega arith
 how_low Waived = omega arith
 how_low WrittenOff = omega arith
 
-share_held : (x m seq place : ℕ) (s : Settled) → x ≤ 9999 → m ≤ 999999 → seq ≤ 9999 → place < 2 ^ 32 → s.cell.instalment
+share_held : (x m seq place : ℕ) (s : SettledPart) → x ≤ 9999 → m ≤ 999999 → seq ≤ 9999 → place < 2 ^ 32
+    → s.cell.instalment
     < 2 ^ 32 → HeldShare (share_in x m (seq, (place, s)))
 share_held x m seq place s low_x low_m low_seq low_place low =
     record {
       width = refl;
-      values = (
-        is_number x (omega (arith, low_x)),
-        (
-          is_number m (omega (arith, low_m)),
-          (
-            is_number seq (omega (arith, low_seq)),
-            (
-              is_number place low_place,
-              (
-                is_number s.cell.instalment low,
-                (
-                  is_number (portion_number s.cell.portion) (portion_low s.cell.portion),
-                  (is_number (how_number s.how) (how_low s.how), (is_amount (pos s.amount), tt)),
-                ),
-              ),
-            ),
-          ),
-        ),
-      );
+      values = is_number x (omega (arith, low_x)) also is_number m (omega (arith, low_m))
+          also is_number seq (omega (arith, low_seq)) also is_number place low_place
+          also is_number s.cell.instalment low
+          also is_number (portion_number s.cell.portion) (portion_low s.cell.portion)
+          also is_number (how_number s.how) (how_low s.how) also is_amount (pos s.amount) also tt;
     }
 
 -- a part of a cell of one of n instalments
 abbrev IsPartOf : ℕ → Part → Type 0
 IsPartOf n p = p.cell.instalment ≤ n
 
-abbrev IsSettledOf : ℕ → Settled → Type 0
+abbrev IsSettledOf : ℕ → SettledPart → Type 0
 IsSettledOf n s = s.cell.instalment ≤ n
-
-all_filtered : {A : Type 0} (P : A → Type 0) (p : A → Bool) (xs : List A) → AllByRecursion P xs
-    → AllByRecursion P (filter p xs)
-all_filtered P p [] all = tt
-all_filtered P p (x ∷ xs) all = go (p x) (all_filtered P p xs all.1)
-  where
-    go : (b : Bool) → AllByRecursion P (filter p xs) → AllByRecursion P (cond b (x ∷ filter p xs) (filter p xs))
-    go true more = (all.0, more)
-    go false more = more
 
 few_filtered : {A : Type 0} (p : A → Bool) (xs : List A) → length (filter p xs) ≤ length xs
 few_filtered p [] = omega arith
@@ -292,25 +197,22 @@ range_parts : (n : ℕ) (f : ℕ → Part) (a m : ℕ) → ((k : ℕ) → k < a 
 range_parts n f a zero h = tt
 range_parts n f a (suc m) h = (h a (omega arith), range_parts n f (a + 1) m (λ k low. h k (omega (arith, low))))
 
-range_size : {A : Type 0} (f : ℕ → A) (a m : ℕ) → length (map f (range_with_len a m)) ≡ m
-range_size f a zero = refl
-range_size f a (suc m) = let more = range_size f (a + 1) m in omega (arith, more)
-
 module _ (n : ℕ) (order : ℕ → Cell) (cells : (k : ℕ) → k < 4 * n → (order k).instalment ≤ n) where
-  cleared_of : (k : Kind) (e : Entry) (rows : List Sums) → length rows ≡ n → HasInstalment k e n
+  cleared_of : (k : Kind) (e : Entry) (rows : List Instalment) → length rows ≡ n → HasInstalment k e n
       → AllByRecursion (IsPartOf n) (parts_by k order e rows)
   cleared_of kind.Repay e rows size there = tt
   cleared_of kind.Fee e rows size there = tt
   cleared_of kind.Penalty e rows size there = tt
-  cleared_of kind.Waive e rows size there = all_filtered (IsPartOf n) is_some_part
+  cleared_of kind.Waive e rows size there = all-filter (IsPartOf n) is_some_part
       (whole_part Waived rows (record { instalment = e.instalment; portion = e.portion }) ∷ []) (there.1, tt)
   cleared_of kind.WriteOff e rows size there =
-      all_filtered (IsPartOf n) is_some_part (map (λ k. whole_part WrittenOff rows (order k))
+      all-filter (IsPartOf n) is_some_part (map (λ k. whole_part WrittenOff rows (order k))
       (range_with_len 0 (4 * length rows))) (range_parts n (λ k. whole_part WrittenOff rows (order k)) 0
       (4 * length rows) (λ k low. cells k (omega (arith, low, size))))
   cleared_of kind.Refund e rows size there = tt
 
-  cleared_few : (k : Kind) (e : Entry) (rows : List Sums) → length rows ≡ n → length (parts_by k order e rows) ≤ 4 * n
+  cleared_few : (k : Kind) (e : Entry) (rows : List Instalment) → length rows ≡ n → length (parts_by k order e rows)
+      ≤ 4 * n
       + 1
   cleared_few kind.Repay e rows size = omega arith
   cleared_few kind.Fee e rows size = omega arith
@@ -320,7 +222,7 @@ module _ (n : ℕ) (order : ℕ → Cell) (cells : (k : ℕ) → k < 4 * n → (
   cleared_few kind.WriteOff e rows size =
       let few = few_filtered is_some_part (map (λ k. whole_part WrittenOff rows (order k))
       (range_with_len 0 (4 * length rows))) in
-      let all = range_size (λ k. whole_part WrittenOff rows (order k)) 0 (4 * length rows) in
+      let all = length-map-range_with_len (λ k. whole_part WrittenOff rows (order k)) 0 (4 * length rows) in
       omega (arith, few, all, size)
   cleared_few kind.Refund e rows size = omega arith
 
@@ -335,7 +237,7 @@ module _ (n : ℕ) (order : ℕ → Cell) (cells : (k : ℕ) → k < 4 * n → (
     parts_low there =
         all-append (IsPartOf n) (parts_cleared order e before.rows) (parts_paid order e before)
         (cleared_of e.kind e before.rows size there)
-        (all_filtered (IsPartOf n) is_some_part paid_all (range_parts n (paid_at order amount_paid) 0
+        (all-filter (IsPartOf n) is_some_part paid_all (range_parts n (paid_at order amount_paid) 0
         (4 * length before.rows) (λ k low. cells k (omega (arith, low, size)))))
 
     parts_few : length (parts_of order e before) ≤ 8 * n + 1
@@ -343,15 +245,15 @@ module _ (n : ℕ) (order : ℕ → Cell) (cells : (k : ℕ) → k < 4 * n → (
         let both = length-append (parts_cleared order e before.rows) (parts_paid order e before) in
         let cleared = cleared_few e.kind e before.rows size in
         let paid = few_filtered is_some_part paid_all in
-        let all = range_size (paid_at order amount_paid) 0 (4 * length before.rows) in
+        let all = length-map-range_with_len (paid_at order amount_paid) 0 (4 * length before.rows) in
         omega (arith, both, cleared, paid, all, size)
 
 numbered_low : (n seq place : ℕ) (parts : List Part) → AllByRecursion (IsPartOf n) parts
-    → AllByRecursion (IsSettledOf n) (numbered_parts seq place parts)
+    → AllByRecursion (IsSettledOf n) (parts_numbered seq place parts)
 numbered_low n seq place [] all = tt
 numbered_low n seq place (p ∷ parts) all = (all.0, numbered_low n seq (place + 1) parts all.1)
 
-numbered_size : (seq place : ℕ) (parts : List Part) → length (numbered_parts seq place parts) ≡ length parts
+numbered_size : (seq place : ℕ) (parts : List Part) → length (parts_numbered seq place parts) ≡ length parts
 numbered_size seq place [] = refl
 numbered_size seq place (p ∷ parts) = ap suc (numbered_size seq (place + 1) parts)
 
@@ -362,10 +264,10 @@ module _ (n : ℕ) (short : n ≤ 360) (orders : Orders) (cells : (e : Entry) (k
       × (length (settled_by orders es before) ≤ 2881 * length es)
   settled_low [] before size each = (tt, omega arith)
   settled_low (e ∷ es) before size each =
-      let next = after (orders e) e before in
+      let next = after_entry (orders e) e before in
       let still : length next.rows ≡ n = size-dues next.rows before.rows (dues-after (orders e) e before) ∙ size in
       let more = settled_low es next still each.1 in
-      let own = numbered_parts e.seq 1 (parts_of (orders e) e before) in
+      let own = parts_numbered e.seq 1 (parts_of (orders e) e before) in
       let both = length-append own (settled_by orders es next) in
       let count = numbered_size e.seq 1 (parts_of (orders e) e before) in
       let few = parts_few n (orders e) (cells e) e before size in
@@ -383,7 +285,7 @@ module _ (n : ℕ) (short : n ≤ 360) (orders : Orders) (cells : (e : Entry) (k
         ),
       )
 
-account_settled : (a : Running) → IsSoundAccount a → AllByRecursion (IsSettledOf 360) (settled_of_loan a)
+account_settled : (a : DisbursedLoan) → IsSoundDisbursed a → AllByRecursion (IsSettledOf 360) (settled_of_loan a)
     × (length (settled_of_loan a) < 2 ^ 31)
 account_settled a sound =
     let periods = sound.limits.most_periods in
@@ -399,7 +301,7 @@ account_settled a sound =
       omega (arith, few, standing_few, all_few),
     )
 
-placed_held : (x m seq place : ℕ) (parts : List Settled) → x ≤ 9999 → m ≤ 999999 → seq ≤ 9999 → place + length parts
+placed_held : (x m seq place : ℕ) (parts : List SettledPart) → x ≤ 9999 → m ≤ 999999 → seq ≤ 9999 → place + length parts
     < 2 ^ 32 → AllByRecursion (IsSettledOf 360) parts → AllByRecursion HeldShare (map (share_in x m)
     (numbered_from (λ at part. (seq, (at, part))) place parts))
 placed_held x m seq place [] low_x low_m low_seq few all = tt
@@ -408,35 +310,32 @@ placed_held x m seq place (s ∷ parts) low_x low_m low_seq few all = (
   placed_held x m seq (place + 1) parts low_x low_m low_seq (omega (arith, few)) all.1,
 )
 
-mapped_append : {A B : Type 0} (f : A → B) (xs ys : List A) → map f (xs ++ ys) ≡ map f xs ++ map f ys
-mapped_append f [] ys = refl
-mapped_append f (x ∷ xs) ys = ap (λ l. f x ∷ l) (mapped_append f xs ys)
-
-shares_held : (x m : ℕ) (settled : List Settled) (seq count : ℕ) → x ≤ 9999 → m ≤ 999999 → seq + count ≤ 10000
+shares_held : (x m : ℕ) (settled : List SettledPart) (seq count : ℕ) → x ≤ 9999 → m ≤ 999999 → seq + count ≤ 10000
     → length settled < 2 ^ 31 → AllByRecursion (IsSettledOf 360) settled
     → AllByRecursion HeldShare (map (share_in x m) (parts_from (λ s. settled_in s settled) seq count))
 shares_held x m settled seq zero low_x low_m most few all = tt
 shares_held x m settled seq (suc count) low_x low_m most few all =
     let own = settled_in seq settled in
-    let fewer = few_filtered (λ (s : Settled). s.seq == seq) settled in
-    subst (AllByRecursion HeldShare) (sym (mapped_append (share_in x m) (placed_parts seq own)
+    let fewer = few_filtered (λ (s : SettledPart). s.seq == seq) settled in
+    subst (AllByRecursion HeldShare) (sym (map-append (share_in x m) (placed_parts seq own)
     (parts_from (λ s. settled_in s settled) (seq + 1) count)))
     (all-append HeldShare (map (share_in x m) (placed_parts seq own))
     (map (share_in x m) (parts_from (λ s. settled_in s settled) (seq + 1) count))
     (placed_held x m seq 1 own low_x low_m (omega (arith, most)) (omega (arith, fewer, few))
-    (all_filtered (IsSettledOf 360) (λ (s : Settled). s.seq == seq) settled all))
+    (all-filter (IsSettledOf 360) (λ (s : SettledPart). s.seq == seq) settled all))
     (shares_held x m settled (seq + 1) count low_x low_m (omega (arith, most)) few all))
 
-account_shares : (x m : ℕ) (a : Running) → x ≤ 9999 → m ≤ 999999 → IsSoundAccount a
+account_shares : (x m : ℕ) (a : DisbursedLoan) → x ≤ 9999 → m ≤ 999999 → IsSoundDisbursed a
     → AllByRecursion HeldShare (map (share_in x m) (shares_kept a))
 account_shares x m a low_x low_m sound =
     let its = account_settled a sound in
     let few = sound.entries.few in
     shares_held x m (settled_of_loan a) 1 (length a.entries) low_x low_m (omega (arith, few)) its.1 its.0
 
-pub held_shares : (i : Institution) → IsSound i → AllByRecursion (HasFields (table.shares).columns)
-    (map share_row (tables_of i).shares)
+pub held_shares : (i : Institution) → IsSound i → CanHoldRows (table.shares).columns share_row (tables_of i).shares
 held_shares i sound =
-    stored_held (HasFields (table.shares).columns) share_row (tables_of i).shares
-    (kept_of_offices share_in shares_kept HeldShare account_shares i.catalogue sound.catalogue
-    (is_staff i.offices) i.offices sound.each)
+    let k = i.catalogue in
+    let staffed = is_staff i.offices in
+    all_map (HasFields (table.shares).columns) share_row (tables_of i).shares (by_loan_held share_in
+    (kept_of shares_kept k) HeldShare k staffed (kept_held share_in shares_kept HeldShare account_shares k
+    sound.catalogue staffed) i.offices sound.each)

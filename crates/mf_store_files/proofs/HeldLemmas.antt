@@ -10,14 +10,15 @@ use Rattle.std.specs.Fmt.{decimal}
 use Rattle.std.proofs.lemmas.Bool.{and_parts}
 use Rattle.std.proofs.lemmas.Bool.Decides.{nat_tests}
 use Rattle.std.proofs.lemmas.Fmt.{IsAscii-decimal}
+use Rattle.std.proofs.lemmas.List.{length-map}
 use Rattle.std.proofs.lemmas.List.Elements.{recursion_from_All}
 use Rattle.std.proofs.lemmas.Option.{slice_get_within}
 use Rattle.std.proofs.lemmas.Str.{IsUtf8-append, IsUtf8-from_ascii}
-use Rattle.sqlite_keyed.proofs.ListLemmas.{all-append}
+use Rattle.sqlite_keyed.proofs.ListLemmas.{all-append, all_map, all_weaker, all-slice_get}
 use Rattle.sqlite.specs.declared.types.Value.TheVariants.{Int, Text as Words}
 use Rattle.mf_base.specs.Calendar.{date_of}
 use Rattle.mf_base.specs.Choices.{frequency_number}
-use Rattle.mf_base.specs.DayText.{two_digits, date_text, day_text, last_entered_day}
+use Rattle.mf_base.specs.DayText.{two_digits, date_text, day_text, last_day, last_entered_day}
 use Rattle.mf_base.specs.declared.day.Freq.{Freq}
 use Rattle.mf_base.specs.declared.day.Freq.TheVariants.{Weeks, Months}
 use Rattle.mf_base.proofs.CalendarLemmas.{IsDate-date_of}
@@ -48,7 +49,8 @@ use Rattle.mf_account.specs.declared.entry.Kind.{Kind}
 use Rattle.mf_account.specs.declared.entry.Kind.TheVariants as kind
 use Rattle.mf_alloc.specs.declared.row.Portion.{Portion}
 use Rattle.mf_alloc.specs.declared.row.Portion.TheVariants as portion
-use Rattle.mf_model.specs.Institution.{Institution, Catalogue, Charge, Ledger, Offer, Office, Rows, Staff, office_at}
+use Rattle.mf_model.specs.Institution.{Institution, Catalogue, ListedCharge, Ledger, ListedProduct, Office, Rows, Staff}
+use Rattle.mf_model.specs.Institution.{office_at}
 use Rattle.mf_model.specs.Institution.{item_numbered, charge_def, charge_in, product_of, product_in}
 use Rattle.mf_account.specs.Receipts.{IsReceipt}
 use Rattle.mf_account.proofs.ReceiptLemmas.{receipt_is_text}
@@ -79,8 +81,10 @@ use Rattle.mf_store_schema.specs.declared.receipts.ReceiptRow.{ReceiptRow}
 use Rattle.mf_store_values.specs.Flat.{numbered_from, all_rows, schema_number, tables_of, office_under, client_in}
 use Rattle.mf_store_values.specs.Flat.{staff_in, charge_as, product_as, loan_in, entry_in, entry_kind_number}
 use Rattle.mf_store_values.specs.Flat.{portion_number, flag_number, approval_text, disbursal_text, loans_of}
-use Rattle.mf_store_values.specs.Flat.{rows_of_loans, own_entries, entry_rows}
+use Rattle.mf_store_values.specs.Flat.{rows_of_loans, rows_by_loan, own_entries}
 use Rattle.mf_store_values.specs.ReceiptRows.{receipt_in, receipts_carried}
+use Rattle.mf_store_files.specs.Held.{CanHoldRows}
+use Rattle.mf_store_files.proofs.TableLemmas.{◌also◌}
 use Rattle.mf_model.proofs.StaffLemmas.{staff_are_callers}
 use Rattle.mf_store_commits.proofs.FlatLemmas.{numbered-suc}
 use Rattle.mf_store_commits.proofs.SoundLemmas.{has_number}
@@ -105,11 +109,6 @@ may_be_text : (o : Option (List ℕ)) → IfSome o IsUtf8 → CanHold MaybeText 
 may_be_text None utf8 = inl refl
 may_be_text (Some t) utf8 = inr (t, refl, utf8)
 
-pub stored_held : {X Y : Type 0} (H : Y → Type 0) (stored : X → Y) (xs : List X) → AllByRecursion (λ x. H (stored x)) xs
-    → AllByRecursion H (map stored xs)
-stored_held H stored [] all = tt
-stored_held H stored (x ∷ xs) all = (all.0, stored_held H stored xs all.1)
-
 -- ---- rows of one kind
 
 module _ {A R : Type 0} (P : A → Type 0) (H : R → Type 0) where
@@ -132,45 +131,58 @@ module _ {A R : Type 0} (P : A → Type 0) (H : R → Type 0) where
       (numbered_held limit (make f.number) (λ n a low p. held f.number n a its.0 low p) 1 (of f.rows)
       (let most = its.1 in omega arith) its.2) (rows_held S limit make of held each fs all.1)
 
+-- what the loans have, where what each sound loan has is held
+module _ {A R : Type 0} (make : ℕ → ℕ → A → R) (of : Ledger → List A) (H : R → Type 0) (k : Catalogue)
+    (staffed : Caller → Bool) (held : (x m : ℕ) (clients : List (List ℕ)) (l : Ledger) → x ≤ 9999 → m ≤ 999999
+    → IsSoundLoan k staffed clients l → AllByRecursion H (map (make x m) (of l))) where
+  of_loans_held : (clients : List (List ℕ)) (x n : ℕ) (ls : List Ledger) → x ≤ 9999 → n + length ls ≤ 1000000
+      → AllByRecursion (IsSoundLoan k staffed clients) ls → AllByRecursion H (rows_of_loans make of x n ls)
+  of_loans_held clients x n [] low_x few all = tt
+  of_loans_held clients x n (l ∷ ls) low_x few all =
+      all-append H (map (make x n) (of l)) (rows_of_loans make of x (n + 1) ls) (held x n clients l low_x
+      (omega (arith, few)) all.0) (of_loans_held clients x (n + 1) ls low_x (omega (arith, few)) all.1)
+
+  pub by_loan_held : (fs : List Office) → AllByRecursion (IsSoundOffice k staffed) fs
+      → AllByRecursion H (rows_by_loan make of fs)
+  by_loan_held [] all = tt
+  by_loan_held (f ∷ fs) all =
+      all-append H (rows_of_loans make of f.number 1 f.rows.loans) (rows_by_loan make of fs)
+      (of_loans_held f.rows.clients f.number 1 f.rows.loans all.0.number.1 (let most = all.0.rows.loan_limit in
+      omega (arith, most)) all.0.rows.loans) (by_loan_held fs all.1)
+
 abbrev HeldClient : ClientRow → Type 0
 HeldClient x = HasFields (table.clients).columns (client_row x)
 
-pub held_clients : (i : Institution) → IsSound i → AllByRecursion (HasFields (table.clients).columns)
-    (map client_row (tables_of i).clients)
+pub held_clients : (i : Institution) → IsSound i → CanHoldRows (table.clients).columns client_row (tables_of i).clients
 held_clients i sound =
-    stored_held (HasFields (table.clients).columns) client_row (tables_of i).clients (rows_held IsName HeldClient
+    all_map (HasFields (table.clients).columns) client_row (tables_of i).clients (rows_held IsName HeldClient
     (IsSoundOffice i.catalogue (is_staff i.offices)) 999999 client_in (λ rows. rows.clients)
     (λ x n a low_x low_n name. record {
       width = refl;
-      values = (
-        is_number x (omega arith),
-        (
-          is_number n (omega arith),
-          (is_text a name.text, tt),
-        ),
-      );
+      values = is_number x (omega arith) also is_number n (omega arith) also is_text a name.text also tt;
     })
     (λ f is. (is.number.1, is.rows.client_limit, is.rows.client_names)) i.offices sound.each)
 
 -- ---- texts
 
-pub low_bytes : (bs : List ℕ) → AllByRecursion (λ (b : ℕ). b < 128) bs → IsAscii bs
+low_bytes : (bs : List ℕ) → AllByRecursion (λ (b : ℕ). b < 128) bs → IsAscii bs
 low_bytes [] all i = omega arith
 low_bytes (b ∷ bs) all zero = all.0
 low_bytes (b ∷ bs) all (suc i) = low_bytes bs all.1 i
 
-pub digits_low : (n : ℕ) → n < 100 → AllByRecursion (λ (b : ℕ). b < 128) (two_digits n)
+digits_low : (n : ℕ) → n < 100 → AllByRecursion (λ (b : ℕ). b < 128) (two_digits n)
 digits_low n h = (omega (arith, h), (omega arith, tt))
 
-pub day_utf8 : (day : ℕ) → day ≤ last_entered_day → IsUtf8 (day_text day)
+-- a day whose year has four digits
+pub day_utf8 : (day : ℕ) → day ≤ last_day → IsUtf8 (day_text day)
 day_utf8 day h =
     let date = date_of day in
-    let short = IsShort-date date (IsDate-date_of day) (year-date_of day (omega arith)) in
+    let short = IsShort-date date (IsDate-date_of day) (year-date_of day h) in
     let low = λ (b : ℕ). b < 128 in
-    let years = digits_low (date.year / 100) (let y = year-date_of day (omega arith) in omega arith) in
+    let years = digits_low (date.year / 100) (let y = year-date_of day h in omega (arith, y)) in
     let year = digits_low (date.year % 100) (omega arith) in
-    let month = digits_low date.month (let m = (IsDate-date_of day).last_month in omega arith) in
-    let its_day = digits_low date.day (let d = short.day in omega arith) in
+    let month = digits_low date.month (let m = (IsDate-date_of day).last_month in omega (arith, m)) in
+    let its_day = digits_low date.day (let d = short.day in omega (arith, d)) in
     let after_month : AllByRecursion low (45 ∷ two_digits date.day) = (omega arith, its_day) in
     let from_month = all-append low (two_digits date.month) (45 ∷ two_digits date.day) month after_month in
     let after_year : AllByRecursion low (45 ∷ (two_digits date.month ++ 45 ∷ two_digits date.day)) =
@@ -180,6 +192,10 @@ day_utf8 day h =
     let bytes : AllByRecursion low (date_text date) = all-append low (two_digits (date.year / 100))
     (two_digits (date.year % 100) ++ 45 ∷ (two_digits date.month ++ 45 ∷ two_digits date.day)) years from_year in
     subst IsUtf8 (sym (date_text-day day)) (IsUtf8-from_ascii (date_text date) (low_bytes (date_text date) bytes))
+
+-- and one that was entered
+pub entered_utf8 : (day : ℕ) → day ≤ last_entered_day → IsUtf8 (day_text day)
+entered_utf8 day h = day_utf8 day (omega (arith, h))
 
 key_utf8 : (n : ℕ) (parents : ℕ → Option ℕ) → ((x p : ℕ) → parents x ≡ Some p → p ≤ 9999) → (x : ℕ) → x ≤ 9999
     → IsUtf8 (key_within n parents x)
@@ -225,18 +241,12 @@ own_parents (f ∷ fs) up = (
 
 -- ---- the other tables
 
-pub held_meta : (i : Institution) → IsSound i → AllByRecursion (HasFields (table.meta).columns)
-    (map meta_row (tables_of i).meta)
+pub held_meta : (i : Institution) → IsSound i → CanHoldRows (table.meta).columns meta_row (tables_of i).meta
 held_meta i sound = (
   record {
     width = refl;
-    values = (
-      is_number 1 (omega arith),
-      (
-        is_number schema_number (omega arith),
-        (is_text (day_text i.catalogue.day) (day_utf8 i.catalogue.day sound.catalogue.day), tt),
-      ),
-    );
+    values = is_number 1 (omega arith) also is_number schema_number (omega arith)
+        also is_text (day_text i.catalogue.day) (entered_utf8 i.catalogue.day sound.catalogue.day) also tt;
   },
   tt,
 )
@@ -244,20 +254,14 @@ held_meta i sound = (
 abbrev HeldStaff : StaffRow → Type 0
 HeldStaff x = HasFields (table.staff).columns (staff_row x)
 
-pub held_staff : (i : Institution) → IsSound i → AllByRecursion (HasFields (table.staff).columns)
-    (map staff_row (tables_of i).staff)
+pub held_staff : (i : Institution) → IsSound i → CanHoldRows (table.staff).columns staff_row (tables_of i).staff
 held_staff i sound =
-    stored_held (HasFields (table.staff).columns) staff_row (tables_of i).staff
+    all_map (HasFields (table.staff).columns) staff_row (tables_of i).staff
     (rows_held (λ (s : Staff). IsName s.name) HeldStaff (IsSoundOffice i.catalogue (is_staff i.offices)) 9999
     staff_in (λ rows. rows.staff) (λ x n s low_x low_n name. record {
       width = refl;
-      values = (
-        is_number x (omega arith),
-        (
-          is_number n (omega arith),
-          (is_text s.name name.text, (is_number (role_number s.role) (role_low s.role), tt)),
-        ),
-      );
+      values = is_number x (omega arith) also is_number n (omega arith) also is_text s.name name.text
+          also is_number (role_number s.role) (role_low s.role) also tt;
     })
     (λ f is. (is.number.1, is.rows.staff_limit, is.rows.staff_names)) i.offices sound.each)
   where
@@ -269,10 +273,9 @@ held_staff i sound =
 abbrev HeldOffice : OfficeRow → Type 0
 HeldOffice x = HasFields (table.offices).columns (office_row x)
 
-pub held_offices : (i : Institution) → IsSound i → AllByRecursion (HasFields (table.offices).columns)
-    (map office_row (tables_of i).offices)
+pub held_offices : (i : Institution) → IsSound i → CanHoldRows (table.offices).columns office_row (tables_of i).offices
 unfolding key_of
-held_offices i sound = stored_held (HasFields (table.offices).columns) office_row (tables_of i).offices
+held_offices i sound = all_map (HasFields (table.offices).columns) office_row (tables_of i).offices
     (each i.offices sound.each (own_parents i.offices sound.tree.ascending))
   where
     up : (x p : ℕ) → parent_of i.offices x ≡ Some p → p ≤ 9999
@@ -289,19 +292,10 @@ held_offices i sound = stored_held (HasFields (table.offices).columns) office_ro
     each (f ∷ fs) all own = (
       record {
         width = refl;
-        values = (
-          is_number f.number (let most = all.0.number.1 in omega arith),
-          (
-            may_be_number f.parent (parent_low f.parent f.number own.0),
-            (
-              is_text _ (key_utf8 5 (parent_of i.offices) up f.number all.0.number.1),
-              (
-                is_text f.name all.0.name.text,
-                tt,
-              ),
-            ),
-          ),
-        );
+        values = is_number f.number (let most = all.0.number.1 in omega arith)
+            also may_be_number f.parent (parent_low f.parent f.number own.0)
+            also is_text _ (key_utf8 5 (parent_of i.offices) up f.number all.0.number.1)
+            also is_text f.name all.0.name.text also tt;
       },
       each fs all.1 own.1,
     )
@@ -309,26 +303,15 @@ held_offices i sound = stored_held (HasFields (table.offices).columns) office_ro
 abbrev HeldCharge : ChargeRow → Type 0
 HeldCharge x = HasFields (table.charges).columns (charge_row x)
 
-pub held_charges : (i : Institution) → IsSound i → AllByRecursion (HasFields (table.charges).columns)
-    (map charge_row (tables_of i).charges)
+pub held_charges : (i : Institution) → IsSound i → CanHoldRows (table.charges).columns charge_row (tables_of i).charges
 held_charges i sound =
-    stored_held (HasFields (table.charges).columns) charge_row (tables_of i).charges
+    all_map (HasFields (table.charges).columns) charge_row (tables_of i).charges
     (numbered_held IsSoundCharge HeldCharge 999 charge_as
     (λ n c low is. record {
       width = refl;
-      values = (
-        is_number n (omega arith),
-        (
-          is_text c.name is.name.text,
-          (
-            is_number (kind_number c.kind) (kind_low c.kind),
-            (
-              is_number (calc_number c.calc) (calc_low c.calc),
-              (is_amount (pos c.value), tt),
-            ),
-          ),
-        ),
-      );
+      values = is_number n (omega arith) also is_text c.name is.name.text
+          also is_number (kind_number c.kind) (kind_low c.kind) also is_number (calc_number c.calc) (calc_low c.calc)
+          also is_amount (pos c.value) also tt;
     })
     1 i.catalogue.charges (let most = sound.catalogue.charge_limit in omega arith) sound.catalogue.charges)
   where
@@ -350,7 +333,7 @@ charge_low : (k : Catalogue) → length k.charges ≤ 999 → (kind : ChargeKind
 charge_low k most kind None h = tt
 charge_low k most kind (Some n) h = go (item_numbered k.charges n) refl h
   where
-    go : (o : Option Charge) → item_numbered k.charges n ≡ o → has_kind kind (option_map (charge_def n) o) ≡ true
+    go : (o : Option ListedCharge) → item_numbered k.charges n ≡ o → has_kind kind (option_map (charge_def n) o) ≡ true
         → n < 2 ^ 32
     go None e h = absurd (true≢false (sym h))
     go (Some c) e h = let low = ((has_number k.charges n).0 (ap is_some e)).1 in omega (arith, low, most)
@@ -362,7 +345,8 @@ flag_low true = omega arith
 abbrev HeldProduct : ProductRow → Type 0
 HeldProduct x = HasFields (table.products).columns (product_row x)
 
-product_held : (k : Catalogue) → IsSoundCatalogue k → (n : ℕ) (p : Offer) → n ≤ 999 → IsSoundOffer (charge_in k) p
+product_held : (k : Catalogue) → IsSoundCatalogue k → (n : ℕ) (p : ListedProduct) → n ≤ 999
+    → IsSoundOffer (charge_in k) p
     → HeldProduct (product_as n p)
 product_held k sound n p low is =
     let m = is.members.limits in
@@ -372,61 +356,23 @@ product_held k sound n p low is =
     let most = sound.charge_limit in
     record {
       width = refl;
-      values = (
-        is_number n (omega arith),
-        (
-          is_text p.members.name is.members.name.text,
-          (
-            is_number (method_number p.members.method) (method_low p.members.method),
-            (
-              is_number p.members.rate (let h = m.rate in omega arith),
-              (
-                is_number (frequency_number p.members.freq) (frequency_low p.members.freq),
-                (
-                  is_number p.members.every (let h = m.longest_step in let s = step_low p.members.freq in omega arith),
-                  (
-                    is_number p.members.principal_grace (let h = m.principal_grace in omega arith),
-                    (
-                      is_number p.members.interest_grace (let h = m.interest_grace in omega arith),
-                      (
-                        is_amount (pos p.members.min_principal),
-                        (
-                          is_amount (pos p.members.max_principal),
-                          (
-                            is_number p.members.min_periods (let h = m.most_min_periods in omega arith),
-                            (
-                              is_number p.members.max_periods (let h = m.most_max_periods in omega arith),
-                              (
-                                is_number (strategy_number p.members.strategy) (strategy_low p.members.strategy),
-                                (
-                                  may_be_number p.members.disbursement_charge (charge_low k most Disbursement
-                                      p.members.disbursement_charge first.0),
-                                  (
-                                    may_be_number p.members.instalment_charge (charge_low k most Instalment
-                                        p.members.instalment_charge others.0),
-                                    (
-                                      may_be_number p.members.overdue_charge (charge_low k most Overdue
-                                          p.members.overdue_charge others.1),
-                                      (
-                                        is_number (flag_number p.retired) (flag_low p.retired),
-                                        tt,
-                                      ),
-                                    ),
-                                  ),
-                                ),
-                              ),
-                            ),
-                          ),
-                        ),
-                      ),
-                    ),
-                  ),
-                ),
-              ),
-            ),
-          ),
-        ),
-      );
+      values = is_number n (omega arith) also is_text p.members.name is.members.name.text
+          also is_number (method_number p.members.method) (method_low p.members.method)
+          also is_number p.members.rate (let h = m.rate in omega arith)
+          also is_number (frequency_number p.members.freq) (frequency_low p.members.freq)
+          also is_number p.members.every (let h = m.longest_step in let s = step_low p.members.freq in omega arith)
+          also is_number p.members.principal_grace (let h = m.principal_grace in omega arith)
+          also is_number p.members.interest_grace (let h = m.interest_grace in omega arith)
+          also is_amount (pos p.members.min_principal) also is_amount (pos p.members.max_principal)
+          also is_number p.members.min_periods (let h = m.most_min_periods in omega arith)
+          also is_number p.members.max_periods (let h = m.most_max_periods in omega arith)
+          also is_number (strategy_number p.members.strategy) (strategy_low p.members.strategy)
+          also may_be_number p.members.disbursement_charge (charge_low k most Disbursement
+          p.members.disbursement_charge first.0)
+          also may_be_number p.members.instalment_charge (charge_low k most Instalment p.members.instalment_charge
+          others.0)
+          also may_be_number p.members.overdue_charge (charge_low k most Overdue p.members.overdue_charge others.1)
+          also is_number (flag_number p.retired) (flag_low p.retired) also tt;
     }
   where
     method_low : (m : Method) → method_number m < 2 ^ 32
@@ -448,18 +394,12 @@ product_held k sound n p low is =
     strategy_low InterestFirst = omega arith
     strategy_low DueFirst = omega arith
 
-pub held_products : (i : Institution) → IsSound i → AllByRecursion (HasFields (table.products).columns)
-    (map product_row (tables_of i).products)
+pub held_products : (i : Institution) → IsSound i → CanHoldRows (table.products).columns product_row
+    (tables_of i).products
 held_products i sound =
-    stored_held (HasFields (table.products).columns) product_row (tables_of i).products (numbered_held
+    all_map (HasFields (table.products).columns) product_row (tables_of i).products (numbered_held
     (IsSoundOffer (charge_in i.catalogue)) HeldProduct 999 product_as (product_held i.catalogue sound.catalogue)
     1 i.catalogue.products (let most = sound.catalogue.product_limit in omega arith) sound.catalogue.products)
-
-all_numbered : {A : Type 0} (P : A → Type 0) (xs : List A) (k : ℕ) (x : A) → AllByRecursion P xs → slice_get xs k
-    ≡ Some x → P x
-all_numbered P [] k x all e = absurd (cc)
-all_numbered P (y ∷ xs) zero x all e = let same : y ≡ x = cc in subst P same all.0
-all_numbered P (y ∷ xs) (suc k) x all e = all_numbered P xs k x all.1 e
 
 -- a product that lends has a number, and bounds the periods
 lends_low : (k : Catalogue) → IsSoundCatalogue k → (n principal periods : ℕ) → lends (product_in k n) principal periods
@@ -468,14 +408,15 @@ lends_low k sound zero principal periods h = absurd (true≢false (sym h))
 lends_low k sound (suc n) principal periods h = go (slice_get k.products n) refl
     (subst (λ o. lends (option_map (product_of (suc n)) o) principal periods ≡ true) (numbered-suc k.products n) h)
   where
-    go : (o : Option Offer) → slice_get k.products n ≡ o → lends (option_map (product_of (suc n)) o) principal periods
+    go : (o : Option ListedProduct) → slice_get k.products n ≡ o
+        → lends (option_map (product_of (suc n)) o) principal periods
         ≡ true → (suc n < 2 ^ 32) × (periods < 2 ^ 32)
     go None e h = absurd (true≢false (sym h))
     go (Some p) e h =
         let within = slice_get_within k.products n p e in
         let limit = sound.product_limit in
-        let bound = (all_numbered (IsSoundOffer (charge_in k)) k.products n p sound.products
-        e).members.limits.most_max_periods in
+        let bound = (all-slice_get (IsSoundOffer (charge_in k)) k.products n p e
+        sound.products).members.limits.most_max_periods in
         let last : nat_le periods p.members.max_periods ≡ true = (and_parts _ _ (and_parts _ _ h).1).1 in (
           omega (arith, within, limit),
           (let low : periods ≤ p.members.max_periods = grind (arith, nat_tests) in
@@ -507,9 +448,9 @@ stage_low Rejected = omega arith
 approved_utf8 : (today : ℕ) → today ≤ last_entered_day → (s : Stage) → IsStageBy today s
     → IfSome (approval_text s) IsUtf8
 approved_utf8 today last Submitted by = tt
-approved_utf8 today last (Approved day) by = day_utf8 day (omega (arith, by, last))
+approved_utf8 today last (Approved day) by = entered_utf8 day (omega (arith, by, last))
 approved_utf8 today last (Disbursed approved day) by = let before = by.0 in let after =
-    by.1 in day_utf8 approved (omega (arith, before, after, last))
+    by.1 in entered_utf8 approved (omega (arith, before, after, last))
 approved_utf8 today last Withdrawn by = tt
 approved_utf8 today last Rejected by = tt
 
@@ -517,7 +458,8 @@ disbursed_utf8 : (today : ℕ) → today ≤ last_entered_day → (s : Stage) �
     → IfSome (disbursal_text s) IsUtf8
 disbursed_utf8 today last Submitted by = tt
 disbursed_utf8 today last (Approved day) by = tt
-disbursed_utf8 today last (Disbursed approved day) by = let after = by.1 in day_utf8 day (omega (arith, after, last))
+disbursed_utf8 today last (Disbursed approved day) by = let after = by.1 in entered_utf8 day (omega
+    (arith, after, last))
 disbursed_utf8 today last Withdrawn by = tt
 disbursed_utf8 today last Rejected by = tt
 
@@ -526,57 +468,25 @@ loan_held : (today : ℕ) → today ≤ last_entered_day → (x n : ℕ) (l : Lo
 loan_held today last x n l low_x low_n is =
     record {
       width = refl;
-      values = (
-        is_number x (omega arith),
-        (
-          is_number n (omega arith),
-          (
-            is_number l.client is.0,
-            (
-              is_number l.product is.1,
-              (
-                is_amount (pos l.principal),
-                (
-                  is_number l.periods is.2,
-                  (
-                    is_number (stage_number l.stage) (stage_low l.stage),
-                    (
-                      may_be_text (approval_text l.stage) (approved_utf8 today last l.stage is.3),
-                      (
-                        may_be_text (disbursal_text l.stage) (disbursed_utf8 today last l.stage is.3),
-                        tt,
-                      ),
-                    ),
-                  ),
-                ),
-              ),
-            ),
-          ),
-        ),
-      );
+      values = is_number x (omega arith) also is_number n (omega arith) also is_number l.client is.0
+          also is_number l.product is.1 also is_amount (pos l.principal) also is_number l.periods is.2
+          also is_number (stage_number l.stage) (stage_low l.stage)
+          also may_be_text (approval_text l.stage) (approved_utf8 today last l.stage is.3)
+          also may_be_text (disbursal_text l.stage) (disbursed_utf8 today last l.stage is.3) also tt;
     }
 
-each_loan : (P : Ledger → Type 0) (Q : Loan → Type 0) → ((l : Ledger) → P l → Q l.loan) → (ls : List Ledger)
-    → AllByRecursion P ls → AllByRecursion Q (map (λ (l : Ledger). l.loan) ls)
-each_loan P Q so [] all = tt
-each_loan P Q so (l ∷ ls) all = (so l all.0, each_loan P Q so ls all.1)
-
-loans_count : (ls : List Ledger) → length (map (λ (l : Ledger). l.loan) ls) ≡ length ls
-loans_count [] = refl
-loans_count (l ∷ ls) = ap suc (loans_count ls)
-
-pub held_loans : (i : Institution) → IsSound i → AllByRecursion (HasFields (table.loans).columns)
-    (map loan_row (tables_of i).loans)
+pub held_loans : (i : Institution) → IsSound i → CanHoldRows (table.loans).columns loan_row (tables_of i).loans
 held_loans i sound =
     let k = i.catalogue in
     let staffed = is_staff i.offices in
-    stored_held (HasFields (table.loans).columns) loan_row (tables_of i).loans (rows_held (IsLow k.day) HeldLoan
+    all_map (HasFields (table.loans).columns) loan_row (tables_of i).loans (rows_held (IsLow k.day) HeldLoan
     (IsSoundOffice k staffed) 999999 loan_in loans_of (loan_held k.day sound.catalogue.day)
     (λ f is. (
       is.number.1,
-      subst (λ n. n ≤ 999999) (sym (loans_count f.rows.loans)) is.rows.loan_limit,
-      each_loan (IsSoundLoan k staffed f.rows.clients) (IsLow k.day) (loan_low k sound.catalogue staffed
-          f.rows.clients is.rows.client_limit) f.rows.loans is.rows.loans,
+      subst (λ n. n ≤ 999999) (sym (length-map f.rows.loans (λ (l : Ledger). l.loan))) is.rows.loan_limit,
+      all_map (IsLow k.day) (λ (l : Ledger). l.loan) f.rows.loans (all_weaker (IsSoundLoan k staffed f.rows.clients)
+          (λ (l : Ledger). IsLow k.day l.loan) (loan_low k sound.catalogue staffed f.rows.clients is.rows.client_limit)
+          f.rows.loans is.rows.loans),
     )) i.offices sound.each)
 
 -- ---- entries
@@ -640,41 +550,14 @@ module _ (today : ℕ) (last : today ≤ last_entered_day) (staffed : Caller →
   entry_held x m periods day e low_x low_m low seq is by =
       record {
         width = refl;
-        values = (
-          is_number x (omega arith),
-          (
-            is_number m (omega arith),
-            (
-              is_number e.seq (omega arith),
-              (
-                is_number (entry_kind_number e.kind) (kind_low e.kind),
-                (
-                  is_text (day_text e.day) (day_utf8 e.day (let then = by.day in omega (arith, then, last))),
-                  (
-                    is_amount (pos e.amount),
-                    (
-                      is_number e.instalment (instalment_low e.kind periods e low is.columns),
-                      (
-                        is_number (portion_number e.portion) (portion_low e.portion),
-                        (
-                          may_be_text e.receipt (receipt_utf8 e.receipt by.receipt),
-                          (
-                            is_text (caller_text e.staff.office e.staff.staff)
-                                (caller_utf8 e.staff (callers e.staff by.staff)),
-                            (
-                              is_number (flag_number e.reversed) (flag_low e.reversed),
-                              tt,
-                            ),
-                          ),
-                        ),
-                      ),
-                    ),
-                  ),
-                ),
-              ),
-            ),
-          ),
-        );
+        values = is_number x (omega arith) also is_number m (omega arith) also is_number e.seq (omega arith)
+            also is_number (entry_kind_number e.kind) (kind_low e.kind)
+            also is_text (day_text e.day) (entered_utf8 e.day (let then = by.day in omega (arith, then, last)))
+            also is_amount (pos e.amount) also is_number e.instalment (instalment_low e.kind periods e low is.columns)
+            also is_number (portion_number e.portion) (portion_low e.portion)
+            also may_be_text e.receipt (receipt_utf8 e.receipt by.receipt)
+            also is_text (caller_text e.staff.office e.staff.staff) (caller_utf8 e.staff (callers e.staff by.staff))
+            also is_number (flag_number e.reversed) (flag_low e.reversed) also tt;
       }
 
   entries_held : (x m periods day n : ℕ) (es : List Entry) → x ≤ 9999 → m ≤ 999999 → periods < 2 ^ 32 → n + length es
@@ -696,35 +579,15 @@ module _ (today : ℕ) (last : today ≤ last_entered_day) (staffed : Caller →
       (numbers_by_place 1 es are.lawful.numbers) (recursion_from_All (IsEntry periods day) es are.lawful.each)
       are.each
 
-  module _ (k : Catalogue) (sound : IsSoundCatalogue k) (is_today : k.day ≡ today) (clients : List (List ℕ)) where
-    of_loans_held : (x n : ℕ) (ls : List Ledger) → x ≤ 9999 → n + length ls ≤ 1000000
-        → AllByRecursion (IsSoundLoan k staffed clients) ls
-        → AllByRecursion HeldEntry (rows_of_loans entry_in own_entries x n ls)
-    of_loans_held x n [] low_x few all = tt
-    of_loans_held x n (l ∷ ls) low_x few all =
-        let lent = lends_low k sound l.loan.product l.loan.principal l.loan.periods all.0.product in
-        all-append HeldEntry (map (entry_in x n) l.entries) (rows_of_loans entry_in own_entries x (n + 1) ls)
-        (of_loan_held x n l.loan.periods (disbursed_on l.loan.stage) l.entries low_x (omega (arith, few)) lent.1
-        (subst (λ d. AreEntriesBy d staffed l.loan.periods (disbursed_on l.loan.stage) l.entries) is_today
-        all.0.entries))
-        (of_loans_held x (n + 1) ls low_x (omega (arith, few)) all.1)
-
-of_offices_held : (i : Institution) → IsSound i → (fs : List Office)
-    → AllByRecursion (IsSoundOffice i.catalogue (is_staff i.offices)) fs → AllByRecursion HeldEntry (entry_rows fs)
-of_offices_held i sound [] all = tt
-of_offices_held i sound (f ∷ fs) all =
-    let staffed = is_staff i.offices in
-    all-append HeldEntry (rows_of_loans entry_in own_entries f.number 1 f.rows.loans) (entry_rows fs)
-    (of_loans_held i.catalogue.day sound.catalogue.day staffed (staff_are_callers i.catalogue staffed i.offices
-    sound.each) i.catalogue sound.catalogue refl f.rows.clients f.number 1 f.rows.loans all.0.number.1 (let most =
-    all.0.rows.loan_limit in omega (arith, most)) all.0.rows.loans)
-    (of_offices_held i sound fs all.1)
-
-pub held_entries : (i : Institution) → IsSound i → AllByRecursion (HasFields (table.entries).columns)
-    (map entry_row (tables_of i).entries)
+pub held_entries : (i : Institution) → IsSound i → CanHoldRows (table.entries).columns entry_row (tables_of i).entries
 held_entries i sound =
-    stored_held (HasFields (table.entries).columns) entry_row (tables_of i).entries
-    (of_offices_held i sound i.offices sound.each)
+    let k = i.catalogue in
+    let staffed = is_staff i.offices in
+    all_map (HasFields (table.entries).columns) entry_row (tables_of i).entries
+    (by_loan_held entry_in own_entries HeldEntry k staffed (λ x m clients l low_x low_m is.
+    of_loan_held k.day sound.catalogue.day staffed (staff_are_callers k staffed i.offices sound.each) x m l.loan.periods
+    (disbursed_on l.loan.stage) l.entries low_x low_m (lends_low k sound.catalogue l.loan.product l.loan.principal
+    l.loan.periods is.product).1 is.entries) i.offices sound.each)
 
 -- ---- receipts
 
@@ -736,10 +599,8 @@ receipt_held : (x : ℕ) (u : Use) → x ≤ 9999 → u.by.loan ≤ 999999 → u
 receipt_held x u low_x low_loan low_seq utf8 =
     record {
       width = refl;
-      values = (
-        is_number x (omega arith),
-        (is_text u.receipt utf8, (is_number u.by.loan (omega arith), (is_number u.by.seq (omega arith), tt))),
-      );
+      values = is_number x (omega arith) also is_text u.receipt utf8 also is_number u.by.loan (omega arith)
+          also is_number u.by.seq (omega arith) also tt;
     }
 
 module _ (today : ℕ) (staffed : Caller → Bool) where
@@ -781,14 +642,14 @@ carried_held : (k : Catalogue) (staffed : Caller → Bool) (fs : List Office) �
 carried_held k staffed [] all = tt
 carried_held k staffed (f ∷ fs) all =
     all-append HeldReceipt (map (receipt_in f.number) (uses_from 1 f.rows.loans)) (receipts_carried fs)
-    (stored_held HeldReceipt (receipt_in f.number) (uses_from 1 f.rows.loans)
+    (all_map HeldReceipt (receipt_in f.number) (uses_from 1 f.rows.loans)
     (uses_of_loans k staffed f.rows.clients f.number 1 f.rows.loans all.0.number.1
     (let most = all.0.rows.loan_limit in omega (arith, most)) all.0.rows.loans))
     (carried_held k staffed fs all.1)
 
-pub held_receipts : (i : Institution) → IsSound i → AllByRecursion (HasFields (table.receipts).columns)
-    (map receipt_row (tables_of i).receipts)
+pub held_receipts : (i : Institution) → IsSound i → CanHoldRows (table.receipts).columns receipt_row
+    (tables_of i).receipts
 held_receipts i sound =
-    stored_held (HasFields (table.receipts).columns) receipt_row (tables_of i).receipts
+    all_map (HasFields (table.receipts).columns) receipt_row (tables_of i).receipts
     (all_sorted by_receipt HeldReceipt (receipts_carried i.offices)
     (carried_held i.catalogue (is_staff i.offices) i.offices sound.each))

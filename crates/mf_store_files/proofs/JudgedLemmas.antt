@@ -12,7 +12,8 @@ use Rattle.mf_store_sound.specs.Sound.{AreOfSound, AreOfSoundFirst}
 use Rattle.mf_store_schema.specs.Upgrade.{HoldsFirst}
 use Rattle.mf_store_files.specs.Held.{CanBeHeld, DoRise, HoldsSound, HoldsSoundFirst}
 use Rattle.mf_store_files.proofs.HeldAccountLemmas.{held_instalments, held_shares}
-use Rattle.mf_store_files.proofs.HeldLemmas.{is_number, is_text, day_utf8, held_meta, held_offices, held_staff}
+use Rattle.mf_store_files.proofs.TableLemmas.{◌also◌}
+use Rattle.mf_store_files.proofs.HeldLemmas.{is_number, is_text, entered_utf8, held_meta, held_offices, held_staff}
 use Rattle.mf_store_files.proofs.HeldLemmas.{held_clients, held_charges, held_products, held_loans, held_entries}
 use Rattle.mf_store_files.proofs.HeldLemmas.{held_receipts}
 use Rattle.mf_store_files.proofs.RiseLemmas.{meta_rises, offices_rise, staff_rise, clients_rise, charges_rise}
@@ -76,13 +77,8 @@ first_can_be_held i sound =
       meta = (
         record {
           width = refl;
-          values = (
-            is_number 1 (omega arith),
-            (
-              is_number 1 (omega arith),
-              (is_text (day_text i.catalogue.day) (day_utf8 i.catalogue.day sound.catalogue.day), tt),
-            ),
-          );
+          values = is_number 1 (omega arith) also is_number 1 (omega arith)
+              also is_text (day_text i.catalogue.day) (entered_utf8 i.catalogue.day sound.catalogue.day) also tt;
         },
         tt,
       );

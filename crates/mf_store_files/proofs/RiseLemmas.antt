@@ -4,14 +4,15 @@ use Rattle.std.proofs.Common.{Some, refl, sym, subst, arith, Ordering, Less, nat
 use Rattle.std.specs.List.{AllByRecursion}
 use Rattle.std.specs.Ordering.{ordering_then}
 use Rattle.std.proofs.lemmas.Bool.Decides.{nat_tests}
-use Rattle.sqlite_keyed.proofs.ListLemmas.{all-append, all-map, all_weaker, ascending-append}
+use Rattle.sqlite_keyed.proofs.ListLemmas.{all_of, all-append, all-map, all_weaker, ascending-append}
+use Rattle.sqlite_keyed.proofs.ListLemmas.{ascending-map, ascending_weaker}
 use Rattle.sqlite_trees.specs.Tree.{IsAscending}
 use Rattle.mf_office.specs.declared.caller.Caller.{Caller}
 use Rattle.mf_account.specs.Change.{settled_in}
-use Rattle.mf_account.specs.Loan.{Loan as Running, state_of_loan, settled_of_loan}
+use Rattle.mf_account.specs.Loan.{DisbursedLoan, state_of_loan, settled_of_loan}
 use Rattle.mf_account.specs.declared.entry.Entry.{Entry}
-use Rattle.mf_account.specs.declared.settled.Settled.{Settled}
-use Rattle.mf_alloc.specs.Sums.{Sums}
+use Rattle.mf_account.specs.declared.settled.SettledPart.{SettledPart}
+use Rattle.mf_alloc.specs.Sums.{Instalment}
 use Rattle.mf_model.specs.Accounts.{account_in, of_account}
 use Rattle.mf_model.specs.Institution.{Institution, Ledger, Office}
 use Rattle.mf_model.specs.Sound.{IsSound, IsSoundOffice, IsSoundLoan, AreEntriesBy, is_staff}
@@ -79,14 +80,11 @@ module _ {A R : Type 0} (make : ℕ → ℕ → A → R) (of : Ledger → List A
   abbrev AreRising : List A → Type 0
   AreRising = IsAscending (λ a b. key a b ≡ Less)
 
-  one_after : (x n : ℕ) (a : A) (items : List A) → AllByRecursion (λ b. key a b ≡ Less) items
-      → AllByRecursion (λ r. cmp (make x n a) r ≡ Less) (map (make x n) items)
-  one_after x n a [] h = tt
-  one_after x n a (b ∷ items) h = (ranks x n x n a b ∙ same_number x n (key a b) ∙ h.0, one_after x n a items h.1)
-
   one_loan : (x n : ℕ) (items : List A) → AreRising items → Rises (map (make x n) items)
-  one_loan x n [] up = tt
-  one_loan x n (a ∷ items) up = (one_after x n a items up.0, one_loan x n items up.1)
+  one_loan x n items up =
+      ascending-map (λ a b. cmp a b ≡ Less) (make x n) items (ascending_weaker (λ a b. key a b ≡ Less)
+      (λ a b. cmp (make x n a) (make x n b) ≡ Less) (λ a b h. ranks x n x n a b ∙ same_number x n (key a b) ∙ h)
+      items up)
 
   each_loan : (x n : ℕ) (ls : List Ledger) → AllByRecursion (λ (l : Ledger). AreRising (of l)) ls
       → Rises (rows_of_loans make of x n ls)
@@ -139,45 +137,42 @@ entries_by today staffed periods (Some day) es are = entries_up 1 es (numbers_by
 
 of_all_loans : (Q : Ledger → Type 0) → ((l : Ledger) → Q l) → (fs : List Office)
     → AllByRecursion (λ (f : Office). AllByRecursion Q f.rows.loans) fs
-of_all_loans Q h [] = tt
-of_all_loans Q h (f ∷ fs) = (each f.rows.loans, of_all_loans Q h fs)
-  where
-    each : (ls : List Ledger) → AllByRecursion Q ls
-    each [] = tt
-    each (l ∷ ls) = (h l, each ls)
+of_all_loans Q h fs = all_of (λ (f : Office). AllByRecursion Q f.rows.loans) (λ f. all_of Q h f.rows.loans) fs
 
-rises_if_there : {A : Type 0} (cmp : A → A → Ordering) (read : Running → List A)
-    → ((a : Running) → IsAscending (λ x y. cmp x y ≡ Less) (read a)) → (o : Option Running)
+rises_if_there : {A : Type 0} (cmp : A → A → Ordering) (read : DisbursedLoan → List A)
+    → ((a : DisbursedLoan) → IsAscending (λ x y. cmp x y ≡ Less) (read a)) → (o : Option DisbursedLoan)
     → IsAscending (λ x y. cmp x y ≡ Less) (of_account [] read o)
 rises_if_there cmp read h None = tt
 rises_if_there cmp read h (Some a) = h a
 
-abbrev numbered_cmp : ℕ × Sums → ℕ × Sums → Ordering
+abbrev numbered_cmp : ℕ × Instalment → ℕ × Instalment → Ordering
 numbered_cmp a b = nat_cmp a.0 b.0
 
-kept_instalments_rise : (a : Running) → IsAscending (λ x y. numbered_cmp x y ≡ Less) (instalments_kept a)
+kept_instalments_rise : (a : DisbursedLoan) → IsAscending (λ x y. numbered_cmp x y ≡ Less) (instalments_kept a)
 kept_instalments_rise a = numbered_rise (λ n row. (n, row)) numbered_cmp (λ n m x y. refl) 1 (state_of_loan a).rows
 
 -- by entry, and then by place
-abbrev placed_cmp : ℕ × (ℕ × Settled) → ℕ × (ℕ × Settled) → Ordering
+abbrev placed_cmp : ℕ × (ℕ × SettledPart) → ℕ × (ℕ × SettledPart) → Ordering
 placed_cmp a b = ordering_then (nat_cmp a.0 b.0) (nat_cmp a.1.0 b.1.0)
 
 same_entry : (seq : ℕ) (o : Ordering) → ordering_then (nat_cmp seq seq) o ≡ o
 same_entry seq o = grind (arith, nat_tests)
 
-all_placed : (Q : ℕ × (ℕ × Settled) → Type 0) (seq place : ℕ) (parts : List Settled) → ((p : ℕ × Settled) → Q (seq, p))
+all_placed : (Q : ℕ × (ℕ × SettledPart) → Type 0) (seq place : ℕ) (parts : List SettledPart)
+    → ((p : ℕ × SettledPart) → Q (seq, p))
     → AllByRecursion Q (numbered_from (λ at part. (seq, (at, part))) place parts)
 all_placed Q seq place [] h = tt
 all_placed Q seq place (part ∷ parts) h = (h (place, part), all_placed Q seq (place + 1) parts h)
 
-all_parts : (Q : ℕ × (ℕ × Settled) → Type 0) (parts : ℕ → List Settled) (seq count : ℕ) → ((s : ℕ) (p : ℕ × Settled)
+all_parts : (Q : ℕ × (ℕ × SettledPart) → Type 0) (parts : ℕ → List SettledPart) (seq count : ℕ)
+    → ((s : ℕ) (p : ℕ × SettledPart)
     → seq ≤ s → Q (s, p)) → AllByRecursion Q (parts_from parts seq count)
 all_parts Q parts seq zero h = tt
 all_parts Q parts seq (suc count) h =
     all-append Q (placed_parts seq (parts seq)) (parts_from parts (seq + 1) count) (all_placed Q seq 1 (parts seq)
     (λ p. h seq p (omega arith))) (all_parts Q parts (seq + 1) count (λ s p low. h s p (omega (arith, low))))
 
-parts_rise : (parts : ℕ → List Settled) (seq count : ℕ) → IsAscending (λ x y. placed_cmp x y ≡ Less)
+parts_rise : (parts : ℕ → List SettledPart) (seq count : ℕ) → IsAscending (λ x y. placed_cmp x y ≡ Less)
     (parts_from parts seq count)
 parts_rise parts seq zero = tt
 parts_rise parts seq (suc count) =
@@ -189,7 +184,7 @@ parts_rise parts seq (suc count) =
     (λ p. all_parts (λ y. placed_cmp (seq, p) y ≡ Less) parts (seq + 1) count (λ s q low.
     first_less seq s (nat_cmp p.0 q.0) (omega (arith, low)))))
 
-kept_shares_rise : (a : Running) → IsAscending (λ x y. placed_cmp x y ≡ Less) (shares_kept a)
+kept_shares_rise : (a : DisbursedLoan) → IsAscending (λ x y. placed_cmp x y ≡ Less) (shares_kept a)
 kept_shares_rise a = parts_rise (λ seq. settled_in seq (settled_of_loan a)) 1 (length a.entries)
 
 -- ---- the tables

@@ -12,7 +12,7 @@ use Rattle.sqlite_wal.specs.Recovery.{Image}
 use Rattle.mf_model.specs.Institution.{Institution, Change, after, after_maybe}
 use Rattle.mf_model.specs.Desk.{outcome, change_in}
 use Rattle.mf_model.specs.declared.request.Call.{Call}
-use Rattle.mf_model.specs.Run.{Line, change_of, next, last}
+use Rattle.mf_model.specs.Run.{Line, change_of_line, next, last}
 use Rattle.mf_model.specs.Sound.{IsSound, IsInRange, AreInRange}
 use Rattle.mf_model.specs.Store.{left_by, left_after}
 use Rattle.mf_store_schema.specs.Tables.{schema}
@@ -55,7 +55,7 @@ module _ (left : Trees) where
   )
 
   unchanged_by : (l : Line) (i : Institution) (c : Option Change) (given_up : Bool) → change_in (outcome l.call i) ≡ c
-      → l.given_up ≡ given_up → change_of l i ≡ cond given_up None c
+      → l.given_up ≡ given_up → change_of_line l i ≡ cond given_up None c
   unchanged_by l i c given_up is gives = ap (λ b. cond b None (change_in (outcome l.call i))) gives
       ∙ ap (λ d. cond given_up None d) is
 

@@ -2,7 +2,7 @@
 use Rattle.std.proofs.Common.{◌≡◌, inl, inr, List, []}
 use Rattle.sqlite.specs.Schema.{Schema}
 use Rattle.sqlite.specs.State.{State}
-use Rattle.mf_store_schema.specs.Calls.{IsUnchanged}
+use Rattle.mf_store_schema.specs.Calls.{IsAsBefore}
 use Rattle.mf_store_schema.specs.Schemas.{IsFirst, IsKnown, IsPresent, IsUnchangedUnder}
 use Rattle.mf_store_schema.specs.Rows.{Lists}
 use Rattle.mf_store_schema.specs.declared.charges.ChargeRow.{ChargeRow}
@@ -17,39 +17,18 @@ use Rattle.mf_store_schema.specs.declared.receipts.ReceiptRow.{ReceiptRow}
 use Rattle.mf_store_schema.specs.declared.shares.ShareRow.{ShareRow}
 use Rattle.mf_store_schema.specs.declared.staff.StaffRow.{StaffRow}
 
+infixr 4 ◌also◌
+-- one, and then the others
+abbrev pub ◌also◌ : {A B : Type 0} → A → B → A × B
+a also b = (a, b)
+
 abbrev pub Nested : Type 0
 Nested = List MetaRow × (List OfficeRow × (List StaffRow × (List ClientRow × (List ChargeRow × (List ProductRow ×
     (List LoanRow × (List EntryRow × (List ReceiptRow × (List InstalmentRow × (List ShareRow × Unit {0}))))))))))
 
 abbrev pub nested : Lists → Nested
-nested l = (
-  l.meta,
-  (
-    l.offices,
-    (
-      l.staff,
-      (
-        l.clients,
-        (
-          l.charges,
-          (
-            l.products,
-            (
-              l.loans,
-              (
-                l.entries,
-                (
-                  l.receipts,
-                  (l.instalments, (l.shares, tt)),
-                ),
-              ),
-            ),
-          ),
-        ),
-      ),
-    ),
-  ),
-)
+nested l = l.meta also l.offices also l.staff also l.clients also l.charges also l.products also l.loans also l.entries
+    also l.receipts also l.instalments also l.shares also tt
 
 abbrev pub lists_of : Nested → Lists
 lists_of t = record {
@@ -72,31 +51,8 @@ NestedFirst = List MetaRow × (List OfficeRow × (List StaffRow × (List ClientR
     (List LoanRow × (List EntryRow × (List ReceiptRow × Unit {0}))))))))
 
 abbrev pub nested_first : Lists → NestedFirst
-nested_first l = (
-  l.meta,
-  (
-    l.offices,
-    (
-      l.staff,
-      (
-        l.clients,
-        (
-          l.charges,
-          (
-            l.products,
-            (
-              l.loans,
-              (
-                l.entries,
-                (l.receipts, tt),
-              ),
-            ),
-          ),
-        ),
-      ),
-    ),
-  ),
-)
+nested_first l = l.meta also l.offices also l.staff also l.clients also l.charges also l.products also l.loans
+    also l.entries also l.receipts also tt
 
 abbrev pub lists_of_first : NestedFirst → List InstalmentRow → List ShareRow → Lists
 lists_of_first t instalments shares = record {
@@ -123,43 +79,12 @@ abbrev Nine : Type 0 → Type 0 → Type 0
 Nine P Others = P × (P × (P × (P × (P × (P × (P × (P × (P × Others))))))))
 
 pub under_present : (k : Schema) → IsPresent k → Nine (IsKnown k) (IsPresent k × (IsPresent k × Unit {0}))
-under_present k is = let one : IsKnown k = inl is in (
-  one,
-  (
-    one,
-    (
-      one,
-      (
-        one,
-        (
-          one,
-          (
-            one,
-            (
-              one,
-              (
-                one,
-                (
-                  one,
-                  (
-                    is,
-                    (
-                      is,
-                      tt,
-                    ),
-                  ),
-                ),
-              ),
-            ),
-          ),
-        ),
-      ),
-    ),
-  ),
-)
+under_present k is = let one : IsKnown k = inl is in
+    one also one also one also one also one also one also one also one also one also is also is also tt
 
 pub under_first : (k : Schema) → IsFirst k → Nine (IsKnown k) (Unit {0})
-under_first k is = let one : IsKnown k = inr is in (one, (one, (one, (one, (one, (one, (one, (one, (one, tt)))))))))
+under_first k is = let one : IsKnown k = inr is in
+    one also one also one also one also one also one also one also one also one also tt
 
 -- what nothing changes under some schemas is unchanged under fewer
 pub unchanged_fewer : (P Q : Schema → Type 0) (a b : State) → ((k : Schema) → Q k → P k) → IsUnchangedUnder P a b
@@ -173,7 +98,7 @@ unchanged_fewer P Q a b has u = record {
 }
 
 pub unchanged_present : (P : Schema → Type 0) (a b : State) → ((k : Schema) → IsPresent k → P k)
-    → IsUnchangedUnder P a b → IsUnchanged a b
+    → IsUnchangedUnder P a b → IsAsBefore a b
 unchanged_present P a b has u = record {
   premise = u.premise;
   was_open = u.was_open;

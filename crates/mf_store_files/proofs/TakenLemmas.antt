@@ -9,7 +9,7 @@ use Rattle.sqlite.specs.State.{HasCleanDisk}
 use Rattle.sqlite_trees.specs.declared.store.Store.{Ghosts}
 use Rattle.mf_model.specs.Institution.{Institution}
 use Rattle.mf_store_sql.specs.Tables.{no_schema}
-use Rattle.mf_store_schema.specs.Calls.{IsUnchanged}
+use Rattle.mf_store_schema.specs.Calls.{IsAsBefore}
 use Rattle.mf_store_schema.specs.Tables.{schema}
 use Rattle.mf_store_schema.specs.Schemas.{IsKnown}
 use Rattle.mf_store_schema.specs.Tables.{first_schema}
@@ -76,7 +76,7 @@ module _ {S : Type 0} (g : Ghosts S) (h : Held S) where
         → IfErr r (λ e. (e.0 ≡ F19) ⊎ (e.0 ≡ F20))
         → IfErr r (λ e. e.0 ≡ F19 → HasCleanDisk (state g e.1) → (state g h).now.schema ≡ schema
         → ¬ HoldsSound (state g h).now.trees)
-        → IfErr r (λ e. (state g h).now.schema ≡ schema → IsUnchanged (state g h) (state g e.1))
+        → IfErr r (λ e. (state g h).now.schema ≡ schema → IsAsBefore (state g h) (state g e.1))
         → IfErr r (λ e. e.1.in_transaction ≡ false)
         → IfErr r (λ e. IsGivenBack g h e.1 e.0)
     back_present (Ok store) still errors refused unchanged alone = tt

@@ -9,48 +9,16 @@ use Rattle.sqlite.specs.Tree.{Trees}
 use Rattle.sqlite_catalog.specs.Listing.{IsSound}
 use Rattle.sqlite_wal.specs.Recovery.{Image}
 use Rattle.mf_store_sql.specs.Tables.{no_schema}
-use Rattle.mf_store_schema.specs.Calls.{IsUnchanged}
 use Rattle.mf_store_schema.specs.Tables.{schema}
-use Rattle.mf_store_schema.specs.Schemas.{IsFirst, IsKnown, IsUnchangedUnder}
+use Rattle.mf_store_schema.specs.Schemas.{IsKnown}
 use Rattle.mf_store_schema.specs.Tables.{first_schema}
 use Rattle.mf_store_files.specs.Held.{HoldsSound, HoldsSoundFirst}
 use Rattle.mf_store_files.specs.Opened.{ShowsFile}
-use Rattle.mf_store_files.specs.Told.{IsAny, IsToldOf, IsToldOfFile}
+use Rattle.mf_store_files.specs.Told.{IsToldOf, IsToldOfFile}
 use Rattle.mf_store_files.specs.declared.judging.Contents.{Contents}
 use Rattle.mf_store_files.specs.declared.judging.Contents.TheVariants.{Nothing, Present, First, Others}
 use Rattle.mf_store_files.proofs.OpenedLemmas.{under, seen}
 use Rattle.mf_store_files.proofs.TakenLemmas.{not_present, none_first}
-
--- ---- what is unchanged under the schema that there is, is unchanged
-
-pub as_it_was : (s : State) → IsUnchangedUnder IsAny s s
-as_it_was s = record {
-  premise = λ clean. clean;
-  was_open = λ clean live. live;
-  same = λ clean live any. refl;
-  shuts = λ faults few up_to. up_to;
-  stop = λ clean any trees may. may;
-}
-
-pub unchanged_present : (old new : State) → old.now.schema ≡ schema → IsUnchanged old new
-    → IsUnchangedUnder IsAny old new
-unchanged_present old new ours u = record {
-  premise = u.premise;
-  was_open = u.was_open;
-  same = λ clean live any. u.same clean live ours;
-  shuts = u.shuts;
-  stop = λ clean any. u.stop clean (λ live. ours);
-}
-
-pub unchanged_first : (old new : State) → old.now.schema ≡ first_schema → IsUnchangedUnder IsFirst old new
-    → IsUnchangedUnder IsAny old new
-unchanged_first old new ours u = record {
-  premise = u.premise;
-  was_open = u.was_open;
-  same = λ clean live any. u.same clean live ours;
-  shuts = u.shuts;
-  stop = λ clean any. u.stop clean (λ live. ours);
-}
 
 -- ---- what is told of the connection is told of the file
 

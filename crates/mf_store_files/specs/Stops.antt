@@ -2,12 +2,12 @@
 use Rattle.std.specs.Prelude.{◌≡◌, ◌⊎◌, List, [], ◌∷◌, ◌++◌, Some, None, IsTrue, ⊤}
 use Rattle.mf_model.specs.Institution.{Institution, Change, after}
 use Rattle.mf_model.specs.Desk.{outcome, change_in}
-use Rattle.mf_model.specs.Run.{Line, change_of, last}
+use Rattle.mf_model.specs.Run.{Line, change_of_line, last}
 
 -- no line of the run changes the institution
 abbrev pub NoneChanges : List Line → Institution → Type 0
 NoneChanges [] i = ⊤
-NoneChanges (l ∷ ls) i = (change_of l i ≡ None) × NoneChanges ls i
+NoneChanges (l ∷ ls) i = (change_of_line l i ≡ None) × NoneChanges ls i
 
 -- the institution after the change of a line that was given up, where no later line changed anything
 pub record IsWithGivenUp (run : List Line) (i j : Institution) : Type 0 where

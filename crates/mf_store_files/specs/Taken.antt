@@ -7,7 +7,7 @@ use Rattle.sqlite.specs.State.{HasCleanDisk}
 use Rattle.sqlite_trees.specs.declared.store.Store.{Ghosts}
 use Rattle.mf_model.specs.Institution.{Institution}
 use Rattle.mf_store_sql.specs.Tables.{no_schema}
-use Rattle.mf_store_schema.specs.Calls.{IsUnchanged}
+use Rattle.mf_store_schema.specs.Calls.{IsAsBefore}
 use Rattle.mf_store_schema.specs.Tables.{schema}
 use Rattle.mf_store_schema.specs.Schemas.{IsKnown}
 use Rattle.mf_store_schema.specs.Tables.{first_schema}
@@ -40,7 +40,7 @@ module _ {S : Type 0} (g : Ghosts S) where
     pub still : HasCleanDisk (state g new) → HasCleanDisk (state g old)
     pub alone : new.in_transaction ≡ false
     pub errors : (fault ≡ F19) ⊎ (fault ≡ F20)
-    pub unchanged : (state g old).now.schema ≡ schema → IsUnchanged (state g old) (state g new)
+    pub unchanged : (state g old).now.schema ≡ schema → IsAsBefore (state g old) (state g new)
     pub refused : fault ≡ F19 → HasCleanDisk (state g new) → (state g old).now.schema ≡ schema
         → ¬ HoldsSound (state g old).now.trees
     pub left_first : (state g old).now.schema ≡ first_schema → IsLeftFirst g old new

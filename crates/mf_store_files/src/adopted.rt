@@ -1,7 +1,7 @@
 //! Stores over the tables of a connection, whatever stands there.
 
 ghost use Rattle.std.specs.Prelude.{◌≡◌, ◌≢◌, ◌≤◌, ◌⊎◌, ◌↔◌, List, [], ◌∷◌, None, false, IsTrue, IfOk, IfErr};
-ghost use Rattle.mf_base.specs.declared.fault.Fault.{Fault as Number};
+ghost use Rattle.mf_base.specs.declared.fault.Fault.{Fault};
 ghost use Rattle.mf_base.specs.declared.fault.Fault.TheVariants.{F19, F20};
 ghost use Rattle.mf_base.specs.DayText.{last_entered_day};
 ghost use Rattle.sqlite.specs.Held.{state};
@@ -9,7 +9,7 @@ ghost use Rattle.sqlite.specs.State.{HasCleanDisk};
 ghost use Rattle.mf_store_sql.specs.Tables.{no_schema};
 ghost use Rattle.mf_store_sql.specs.Writes.{Serves};
 ghost use Rattle.mf_model.specs.Institution.{Institution, newly_made};
-ghost use Rattle.mf_store_schema.specs.Calls.{IsUnchanged};
+ghost use Rattle.mf_store_schema.specs.Calls.{IsAsBefore};
 ghost use Rattle.mf_store_schema.specs.Tables.{schema};
 ghost use Rattle.mf_store_schema.specs.Writes.{schema_of, Holds};
 ghost use Rattle.mf_store_schema.specs.Schemas.{IsKnown};
@@ -58,7 +58,7 @@ fn take_over<S: Alter, P: Progress>(
     ensures refused { IfErr result (λ e. e.0 ≡ F19 → HasCleanDisk (state S.Store e.1)
         → (state S.Store connection).now.schema ≡ schema → ¬ HoldsSound (state S.Store connection).now.trees) }
     ensures unchanged { IfErr result (λ e. (state S.Store connection).now.schema ≡ schema
-        → IsUnchanged (state S.Store connection) (state S.Store e.1)) }
+        → IsAsBefore (state S.Store connection) (state S.Store e.1)) }
     ensures alone { IfErr result (λ e. e.1.in_transaction ≡ false) }
 {
     let sound = match holds_sound(alloc, &mut connection, progress) {
@@ -166,7 +166,7 @@ pub fn adopt<S: Alter, P: Progress>(
     ensures some { IfErr result (λ e. e.0 ≡ F19 → (state S.Store connection).now.schema ≢ no_schema) }
 {
     if has_no_tables(connection.schema()) {
-        return Store::found(alloc, connection, day);
+        return Store::create(alloc, connection, day);
     }
     take_known(alloc, connection, progress)
 }
@@ -184,7 +184,7 @@ pub fn adopt_existing<S: Alter, P: Progress>(
     ensures none { IfErr result (λ e. (e.0 ≡ Refused.NoInstitution) ↔ ((state S.Store connection).now.schema
         ≡ no_schema)) }
     ensures same { IfErr result (λ e. e.0 ≡ Refused.NoInstitution → e.1 ≡ connection) }
-    ensures given_back { IfErr result (λ e. (fault : Number) → e.0 ≡ Refused.Failed fault
+    ensures given_back { IfErr result (λ e. (fault : Fault) → e.0 ≡ Refused.Failed fault
         → IsGivenBack S.Store connection e.1 fault) }
 {
     if has_no_tables(connection.schema()) {

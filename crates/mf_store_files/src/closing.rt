@@ -5,7 +5,7 @@ ghost use Rattle.mf_base.specs.declared.fault.Fault.TheVariants.{F20};
 ghost use Rattle.sqlite.specs.Files.{over_files, image_of};
 ghost use Rattle.sqlite.specs.Tree.{Trees};
 ghost use Rattle.sqlite_store.specs.FileStore as files;
-ghost use Rattle.sqlite_trees.specs.View.{IsClean as IsCleanView};
+ghost use Rattle.sqlite_trees.specs.View.{IsClean};
 ghost use Rattle.sqlite_wal.specs.Files.{outcomes};
 ghost use Rattle.sqlite_wal.specs.Reads.{AreClean};
 ghost use Rattle.sqlite_wal.specs.Recovery.{Image};
@@ -32,7 +32,7 @@ pub fn close<D: Disk + Drop>(store: Store<FileStore<D>>) -> Result<Files<D>, (Fa
         → StandsFor over_files store i
         → (left : Image) → outcomes D.Disk files.log files.db left → HoldsByItself left i) }
     ensures gives_up { IfErr result (λ e. e.0 ≡ F20) }
-    ensures kept { IfErr result (λ e. IsCleanView (files.view e.1) → (is : List Institution)
+    ensures kept { IfErr result (λ e. IsClean (files.view e.1) → (is : List Institution)
         → Leaves over_files store is
         → (trees : Trees) → files.recovers e.1 trees → HoldsOneOf is trees) }
 {

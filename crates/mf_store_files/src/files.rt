@@ -2,7 +2,7 @@
 
 ghost use Rattle.std.specs.Prelude.{◌≡◌, ◌≤◌, ◌⊎◌, List, [], ◌∷◌, false, Some, None, IsTrue, IfOk, IfErr, IfSome};
 ghost use Rattle.std.specs.Prelude.{IsSomeAnd};
-ghost use Rattle.mf_base.specs.declared.fault.Fault.{Fault as Number};
+ghost use Rattle.mf_base.specs.declared.fault.Fault.{Fault};
 ghost use Rattle.mf_base.specs.declared.fault.Fault.TheVariants.{F19, F20};
 ghost use Rattle.mf_base.specs.DayText.{last_entered_day};
 ghost use Rattle.sqlite.specs.Files.{file_state, over_files, HoldsDatabase};
@@ -116,7 +116,7 @@ pub fn open_existing_with<S: Start, P: Progress>(
 
     // Where there were some.
     ensures found { IfOk result (OpensAsFound (image_at S.Start)) }
-    ensures kept { IfErr result (λ e. IfSome e.1 (λ c. (fault : Number) → e.0 ≡ Refused.Failed fault
+    ensures kept { IfErr result (λ e. IfSome e.1 (λ c. (fault : Fault) → e.0 ≡ Refused.Failed fault
         → StaysAsFound (image_at S.Start) c fault)) }
 
     ensures errors { IfErr result (λ e. (e.0 ≡ Refused.NoInstitution) ⊎ ((e.0 ≡ Refused.Failed F19)

@@ -4,7 +4,7 @@ ghost use Rattle.std.specs.Prelude.{◌≡◌, IsTrue, OnOk, IfOk, IfErr, IfSome
 ghost use Rattle.mf_base.specs.declared.fault.Fault.TheVariants.{F20};
 ghost use Rattle.sqlite.specs.Held.{state};
 ghost use Rattle.sqlite.specs.State.{HasCleanDisk};
-ghost use Rattle.mf_store_schema.specs.Calls.{IsUnchanged};
+ghost use Rattle.mf_store_schema.specs.Calls.{IsAsBefore};
 ghost use Rattle.mf_store_schema.specs.Rows.{Lists};
 ghost use Rattle.mf_store_schema.specs.Tables.{schema};
 ghost use Rattle.mf_store_schema.specs.Writes.{Holds};
@@ -72,7 +72,7 @@ pub fn read_tables<S: Alter, P: Progress>(
     progress: &mut P,
 ) -> Result<Option<Tables>, Fault>
     requires alone { connection.old.in_transaction ≡ false }
-    ensures kept { IsUnchanged (state S.Store connection.old) (state S.Store connection.new) }
+    ensures kept { IsAsBefore (state S.Store connection.old) (state S.Store connection.new) }
     ensures gives_up { IfErr result (λ fault. fault ≡ F20) }
     ensures open { HasCleanDisk (state S.Store connection.new)
         → OnOk result (IsTrue (state S.Store connection.new).is_open) }
@@ -119,7 +119,7 @@ pub(crate) fn holds_sound<S: Alter, P: Progress>(
     progress: &mut P,
 ) -> Result<bool, Fault>
     requires alone { connection.old.in_transaction ≡ false }
-    ensures kept { IsUnchanged (state S.Store connection.old) (state S.Store connection.new) }
+    ensures kept { IsAsBefore (state S.Store connection.old) (state S.Store connection.new) }
     ensures gives_up { IfErr result (λ fault. fault ≡ F20) }
     ensures open { HasCleanDisk (state S.Store connection.new)
         → OnOk result (IsTrue (state S.Store connection.new).is_open) }

@@ -56,7 +56,7 @@ fn why_unopened(error: Error) -> Finding {
 }
 
 /// The finding of what the tables hold.
-fn found(contents: Contents) -> Finding
+fn finding_of(contents: Contents) -> Finding
     ensures { result ≡ finding_of contents }
 {
     match contents {
@@ -114,7 +114,7 @@ pub fn look(rt: &HostRuntime, path: &str) -> Finding {
         Ok((contents, held)) => {
             remove_bare_log(rt, path);
             drop(held);
-            found(contents)
+            finding_of(contents)
         }
         Err(finding) => finding,
     }

@@ -28,7 +28,7 @@ impl Failing for Fuse<Memory> {
 }
 
 /// Empty files that fail after so many calls each.
-fn fused<D: Failing>(alloc: Global, log: u64, db: u64) -> Files<D> {
+fn fuse<D: Failing>(alloc: Global, log: u64, db: u64) -> Files<D> {
     Files {
         log: D::failing_after(alloc, log),
         db: D::failing_after(alloc, db),
@@ -44,7 +44,7 @@ trait Trial {
 
 /// Whether a trial holds over files that don't fail, without a table.
 fn holds<T: Trial>(alloc: Global, trial: &T) -> Result<bool, Fail> {
-    let files = fused::<Fuse<Memory>>(alloc, u64::MAX, u64::MAX);
+    let files = fuse::<Fuse<Memory>>(alloc, u64::MAX, u64::MAX);
     if !files.log.may_be_used() || !files.db.may_be_used() {
         return Err(Fail::new("a file that can be used"));
     }

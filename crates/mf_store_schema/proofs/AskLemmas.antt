@@ -22,15 +22,15 @@ use Rattle.sqlite_catalog.specs.Listing.{IsSound}
 use Rattle.sqlite_trees.specs.Tree.{IsAscending}
 use Rattle.sqlite_keyed.proofs.ListLemmas.{map-map}
 use Rattle.mf_store_sql.specs.Columns.{Columns, sql_column, sql_table}
-use Rattle.mf_store_sql.specs.Keep.{Alike, AreAlike, Keeps, same_id}
+use Rattle.mf_store_sql.specs.Keep.{AreSameValues, AreAlike, Keeps, same_id}
 use Rattle.mf_store_sql.specs.Meanings.{columns_of, order_from}
 use Rattle.mf_store_sql.specs.Queries.{Answers}
-use Rattle.mf_store_sql.specs.Rows.{AllFit, first_cmp}
+use Rattle.mf_store_sql.specs.Rows.{AreKeepable, first_cmp}
 use Rattle.mf_store_sql.specs.Scan.{scan}
 use Rattle.mf_store_sql.specs.Texts.{select_text}
 use Rattle.mf_store_sql.proofs.ReadLemmas.{flat_map_if}
 use Rattle.mf_store_sql.proofs.TableLemmas.{asked_shows}
-use Rattle.mf_store_schema.specs.Whole.{HasRowids, IsAsked, ShowsTable}
+use Rattle.mf_store_schema.specs.Whole.{HasRowids, IsAskable, ShowsTable}
 use Rattle.mf_store_schema.proofs.OpenLemmas.{raw_row, kept_by_rows}
 use Rattle.mf_store_schema.proofs.TreeLemmas.{raw_of, past_end, row_columns}
 
@@ -46,7 +46,8 @@ shown_column params row at (suc n) (suc k) short = shown_column params row (suc 
 abbrev pub filled : Row → ℕ → ℤ × Row → ℤ × Row
 filled params n e = (e.0, eval_all (columns_of 1 1 n) (params ∷ raw_row e ∷ []))
 
-row_filled : (params : Row) (n : ℕ) (e : ℤ × Row) → length e.1 ≤ n → Alike (raw_row e) (raw_row (filled params n e))
+row_filled : (params : Row) (n : ℕ) (e : ℤ × Row) → length e.1 ≤ n
+    → AreSameValues (raw_row e) (raw_row (filled params n e))
 row_filled params n e short zero = refl
 row_filled params n e short (suc c) = let next : 1 + c ≡ suc c =
     omega arith in sym (shown_column params (raw_row e) 1 n c (omega (arith, short)) ∙ ap (column (raw_row e)) next)
@@ -107,8 +108,8 @@ has_at (y ∷ xs) (suc place) x h = inr (has_at xs place x h)
 
 module _ {X : Type 0} (stored : X → Row) (cmp : X → X → Ordering) (k : Schema) (place tree : ℕ) (t : Columns)
     (ordered : (a b : X) → cmp a b ≡ first_cmp t.key (stored a) (stored b))
-    (fit : (x : X) → AllFit t.columns (stored x))
-    (under : (trees : Trees) → overlay trees [] tree ≡ trees tree) (asked : IsAsked k place tree t) where
+    (fit : (x : X) → AreKeepable t.columns (stored x))
+    (under : (trees : Trees) → overlay trees [] tree ≡ trees tree) (asked : IsAskable k place tree t) where
   abbrev n : ℕ
   n = length t.columns
 

@@ -13,7 +13,7 @@ use Rattle.mf_store_sql.specs.Queries.{Answers}
 use Rattle.mf_store_sql.specs.Writes.{Ran, Serves}
 use Rattle.mf_store_schema.specs.Rows.{Lists}
 use Rattle.mf_store_schema.specs.Writes.{schema_of, Holds}
-use Rattle.mf_store_schema.specs.Calls.{IsUnchanged, IsKeeping, OnlyFaultsShut, Shows}
+use Rattle.mf_store_schema.specs.Calls.{IsAsBefore, IsKeeping, OnlyFaultsShut, Shows}
 
 module _ (was is : State) where
   earlier : {P : Trees → Type 0} → Survives was is P → HasCleanDisk is → HasCleanDisk was
@@ -40,7 +40,7 @@ module _ (was is : State) where
   pub unchanged : (sql : List ℕ) → IsPlain (understood schema sql) → (HasCleanDisk is → IsTrue is.is_open
       → IsPlain (understood was.now.schema sql) → is.now ≡ was.now) → (HasCleanDisk is → IsTrue is.is_open
       → IsTrue was.is_open)
-      → Survives was is (λ _. IsTrue was.is_open × ¬ IsPlain (understood was.now.schema sql)) → IsUnchanged was is
+      → Survives was is (λ _. IsTrue was.is_open × ¬ IsPlain (understood was.now.schema sql)) → IsAsBefore was is
   unchanged sql plain same was_open survives = record {
     premise = earlier survives;
     was_open = was_open;

@@ -9,7 +9,8 @@ use Rattle.mf_store_schema.specs.Writes.{Holds}
 use Rattle.mf_store_schema.specs.declared.instalments.InstalmentRow.{InstalmentRow}
 use Rattle.mf_store_schema.specs.declared.meta.MetaRow.{MetaRow}
 use Rattle.mf_store_schema.specs.declared.shares.ShareRow.{ShareRow}
-use Rattle.mf_store_schema.specs.Upgrade.{First, Own, schema_kept, HoldsKept, FitsUpgrade, after_upgrade, upgrade_writes, upgraded_lists}
+use Rattle.mf_store_schema.specs.Upgrade.{First, Own, schema_kept, HoldsKept, FitsUpgrade, after_upgrade}
+use Rattle.mf_store_schema.specs.Upgrade.{upgrade_writes, upgraded_lists}
 use Rattle.mf_store_schema.specs.Upgrade.{CanUpgrade}
 use Rattle.mf_store_schema.specs.Upgraded.{IsKeepingFirst, IsUpgradedTo}
 use Rattle.mf_store_schema.specs.declared.upgrade_writes.UpgradeWrite.{UpgradeWrite}
@@ -22,14 +23,17 @@ module _ (was is : State) (meta : MetaRow) (instalments : List InstalmentRow) (s
   target = upgraded_lists meta instalments shares lists
 
   fit : AllFit after_upgrade FitsUpgrade writes (First lists)
-  fit = subst (λ ws. AllFit after_upgrade FitsUpgrade ws (First lists)) (sym made) (upgrades_first meta instalments shares lists
+  fit = subst (λ ws. AllFit after_upgrade FitsUpgrade ws (First lists)) (sym made)
+      (upgrades_first meta instalments shares lists
       can).fit
 
   become : after_all after_upgrade writes (First lists) ≡ Own (Some target)
-  become = ap (λ ws. after_all after_upgrade ws (First lists)) made ∙ (upgrades_first meta instalments shares lists can).become
+  become = ap (λ ws. after_all after_upgrade ws (First lists)) made
+      ∙ (upgrades_first meta instalments shares lists can).become
 
   pub upgraded_to : (IsTrue is.is_open → IsTrue was.is_open) → Turns (Serves schema_kept HoldsKept)
-      (AllFit after_upgrade FitsUpgrade writes) (after_all after_upgrade writes) was.now is.now → ((trees : Trees) → IsTrue is.is_open
+      (AllFit after_upgrade FitsUpgrade writes) (after_all after_upgrade writes) was.now is.now → ((trees : Trees)
+      → IsTrue is.is_open
       → is.may_leave trees → trees ≡ is.committed.trees)
       → IsSettled is → IsUpgradedTo is target
   upgraded_to was_open turns settled rests =
@@ -41,13 +45,15 @@ module _ (was is : State) (meta : MetaRow) (instalments : List InstalmentRow) (s
             ∙ ap (λ (d : Database). d.trees) rests.committed)) serves.holds;
       }
 
-  may_be_upgraded : (trees : Trees) → MayHold (Serves schema_kept HoldsKept) HoldsKept (AllFit after_upgrade FitsUpgrade writes)
+  may_be_upgraded : (trees : Trees) → MayHold (Serves schema_kept HoldsKept) HoldsKept
+      (AllFit after_upgrade FitsUpgrade writes)
       (after_all after_upgrade writes) was trees → Holds trees (Some target)
   may_be_upgraded trees wrote =
       subst (λ kept. HoldsKept trees kept) become (wrote.holds (First lists) (keeping wrote.was_open) fit)
 
   pub stop : Survives was is (MayHold (Serves schema_kept HoldsKept) HoldsKept (AllFit after_upgrade FitsUpgrade writes)
-      (after_all after_upgrade writes) was) → HasCleanDisk is → (trees : Trees) → is.may_leave trees → was.may_leave trees
+      (after_all after_upgrade writes) was) → HasCleanDisk is → (trees : Trees) → is.may_leave trees
+      → was.may_leave trees
       ⊎ Holds trees (Some target)
   stop survives clean trees may = elim (survives.crash clean trees may) [
     | inl before ↦ inl before

@@ -22,12 +22,6 @@ module _ (w : TableWords) (found : Table) where
     is_counted = rules.counted t;
   }
 
-  pub are_placed : found ≡ table_in_words w → (found.tree ≡ w.tree) × (found.name ≡ w.name.now)
-  are_placed is = (ap (λ (t : Table). t.tree) is, ap (λ (t : Table). t.name) is)
-
-  pub columns_are : found ≡ table_in_words w → found.columns ≡ map column_in_words w.columns.now
-  columns_are is = ap (λ (t : Table). t.columns) is
-
   pub keys_are : found ≡ table_in_words w → HasKeys w found
   keys_are is = record {
     primary = ap (λ (t : Table). t.primary) is;

@@ -69,7 +69,8 @@ meta_put meta old same =
 -- ---- the writes in turn
 
 module _ (rest : List UpgradeWrite) where
-  instalments_become : (is : List InstalmentRow) (m : Lists) → after_all after_upgrade (map (λ x. Put (PutInstalment x)) is
+  instalments_become : (is : List InstalmentRow) (m : Lists) → after_all after_upgrade (map (λ x. Put
+      (PutInstalment x)) is
       ++ rest) (Own (Some m)) ≡ after_all after_upgrade rest
       (Own (Some (record m { instalments = put_each by_instalment by_instalment_total is m.instalments })))
   instalments_become [] m = refl

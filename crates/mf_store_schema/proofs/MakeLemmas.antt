@@ -2,7 +2,6 @@
 use Rattle.std.proofs.Common.{◌≡◌, ◌∙◌, ℕ, List, None, Some, Option, [], map, subst, sym, refl, Ordering}
 use Rattle.std.specs.Cmp.{IsTotalOrder}
 use Rattle.std.specs.List.{AllByRecursion}
-use Rattle.sqlite.specs.Effect.{Database}
 use Rattle.sqlite.specs.Listing.{understood}
 use Rattle.sqlite.specs.Order.{Row}
 use Rattle.sqlite.specs.State.{State}
@@ -17,7 +16,7 @@ use Rattle.mf_store_sql.specs.Texts.{create_text}
 use Rattle.mf_store_sql.specs.Trees.{AllHold}
 use Rattle.mf_store_sql.proofs.KeepLemmas.{keeps_none}
 use Rattle.mf_store_schema.specs.Tables.{schema, tables, made}
-use Rattle.mf_store_schema.specs.Rows.{Lists, no_rows, meta_row, office_row, staff_row, client_row, charge_row}
+use Rattle.mf_store_schema.specs.Rows.{Lists, empty_lists, meta_row, office_row, staff_row, client_row, charge_row}
 use Rattle.mf_store_schema.specs.Rows.{product_row, loan_row, entry_row, receipt_row, instalment_row, share_row}
 use Rattle.mf_store_schema.specs.Rows.{by_meta, by_office, by_staff, by_client, by_charge, by_product, by_loan}
 use Rattle.mf_store_schema.specs.Rows.{by_entry, by_receipt, by_instalment, by_share}
@@ -43,13 +42,14 @@ unfolding understood everything
 made_is = refl
 
 -- an empty tree keeps no rows
-pub kept_none : {X : Type 0} (by : X → X → Ordering) → IsTotalOrder by → (stored : X → Row) {rows : List Row} → rows ≡ []
+pub kept_none : {X : Type 0} (by : X → X → Ordering) → IsTotalOrder by → (stored : X → Row) {rows : List Row}
+    → rows ≡ []
     → Keeps stored by rows []
 kept_none by total stored e = subst (λ t. Keeps stored by t []) (sym e) (keeps_none by total stored)
 
 -- trees with no rows keep none
 keep_none : (trees : Trees) → AllByRecursion (λ (t : ℕ × Columns). trees t.0 ≡ []) tables
-    → AllHold trees (conditions no_rows)
+    → AllHold trees (conditions empty_lists)
 keep_none trees none = (
   kept_none by_meta by_meta_total meta_row none.0,
   (
@@ -119,7 +119,7 @@ all_defined = (
 pub making : (old new : State) → Makes (map (λ (t : ℕ × Columns). create_text t.1) tables) old new → Making old new
 making old new makes = record { mode = makes.mode; was_open = makes.was_open (λ e. absurd (cc)); turns = turns }
   where
-    turns : (lists : Option Lists) → StandsAs old.now lists → lists ≡ None → StandsAs new.now (Some no_rows)
+    turns : (lists : Option Lists) → StandsAs old.now lists → lists ≡ None → StandsAs new.now (Some empty_lists)
     turns lists s none =
         let before = subst (StandsAs old.now) none s in
         let made = makes.made no_schema tables refl all_defined before.schema_is before.holds in

@@ -2,7 +2,7 @@
 use Rattle.std.proofs.Common.{◌≡◌, ℕ, ℤ, List, [], Option, None, Some, refl, sym, ap, ◌∙◌}
 use Rattle.std.specs.Prelude.{pos}
 use Rattle.sqlite.specs.declared.types.Value.{Value}
-use Rattle.sqlite.specs.declared.types.Value.TheVariants.{Int, Text as Words}
+use Rattle.sqlite.specs.declared.types.Value.TheVariants.{Int, Text}
 use Rattle.sqlite.specs.Order.{Row, column}
 use Rattle.mf_store_sql.specs.Values.{or_null, or_text}
 use Rattle.mf_store_schema.specs.Rows.{meta_row, office_row, staff_row, client_row, charge_row, product_row, loan_row}
@@ -30,7 +30,7 @@ amount_in (Int n) = n
 amount_in v = pos 0
 
 abbrev text_in : Value → List ℕ
-text_in (Words t) = t
+text_in (Text t) = t
 text_in v = []
 
 abbrev maybe_number_in : Value → Option ℕ
@@ -38,7 +38,7 @@ maybe_number_in (Int (pos n)) = Some n
 maybe_number_in v = None
 
 abbrev maybe_text_in : Value → Option (List ℕ)
-maybe_text_in (Words t) = Some t
+maybe_text_in (Text t) = Some t
 maybe_text_in v = None
 
 number_back : (o : Option ℕ) → maybe_number_in (or_null o) ≡ o

@@ -8,7 +8,7 @@ use Rattle.std.proofs.lemmas.List.Sorted.{IsPermutation-keeps, IsPermutation-swa
 use Rattle.sqlite.specs.declared.types.Value.TheVariants.{Int}
 use Rattle.sqlite.specs.Order.{Row}
 use Rattle.sqlite_trees.specs.Tree.{IsAscending}
-use Rattle.mf_store_sql.specs.Keep.{AreAlike, Keeps, row_of, same_id}
+use Rattle.mf_store_sql.specs.Keep.{AreAlike, Keeps, row_with_id, same_id}
 
 module _ {X Y : Type 0} (f : X → Y) where
   at_map : (xs : List X) (j : ℕ) (d : X) → get_or (map f xs) j (f d) ≡ f (get_or xs j d)
@@ -67,7 +67,7 @@ all_apart (e ∷ es) (f ∷ fs) same up =
 
 module _ {X : Type 0} (stored : X → Row) where
   paired : (raw : List (ℤ × Row)) (xs : List X) → map stored xs ≡ map (λ (e : ℤ × Row). e.1) raw
-      → (es : List (ℤ × X)) × (map raw_row raw ≡ map (row_of stored) es) × (map (λ (e : ℤ × X). e.1) es ≡ xs)
+      → (es : List (ℤ × X)) × (map raw_row raw ≡ map (row_with_id stored) es) × (map (λ (e : ℤ × X). e.1) es ≡ xs)
       × (map (λ (e : ℤ × X). e.0) es ≡ map (λ (e : ℤ × Row). e.0) raw)
   paired [] [] h = ([], refl, refl, refl)
   paired [] (x ∷ xs) h = absurd (cc)

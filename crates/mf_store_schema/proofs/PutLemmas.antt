@@ -11,7 +11,7 @@ use Rattle.mf_store_sql.specs.Columns.{Columns}
 use Rattle.mf_store_sql.specs.Keep.{Keeps, put_item}
 use Rattle.mf_store_sql.specs.Meanings.{IsKept, Asks, are_always}
 use Rattle.mf_store_sql.specs.Queries.{Answers}
-use Rattle.mf_store_sql.specs.Rows.{AllFit, ArePlain, begins, first_cmp}
+use Rattle.mf_store_sql.specs.Rows.{AreKeepable, ArePlain, begins, first_cmp}
 use Rattle.mf_store_sql.specs.Texts.{insert_text, upsert_text, select_text}
 use Rattle.mf_store_sql.specs.Trees.{AllHold, SameTrees, changed_at}
 use Rattle.mf_store_sql.specs.Writes.{Ran, Serves}
@@ -47,7 +47,7 @@ same_trees lists = (refl, (refl, (refl, (refl, (refl, (refl, (refl, (refl, (refl
 module _ {X : Type 0} (t : Columns) (place tree : ℕ) (stored : X → Row) (by : X → X → Ordering)
     (list : Lists → List X) (put : X → Lists → Lists)
     (ordered : (a b : X) → by a b ≡ first_cmp t.key (stored a) (stored b))
-    (fits : (x : X) → AllFit t.columns (stored x)) (kept : IsKept schema place tree t)
+    (fits : (x : X) → AreKeepable t.columns (stored x)) (kept : IsKept schema place tree t)
     (held : (trees : Trees) (lists : Lists) → HoldsLists trees lists → Keeps stored by (trees tree) (list lists))
     (changes : (x : X) (lists : Lists) (trees : Trees) → AllHold trees (changed_at place (kept_in tree stored by
     (put_item by x (list lists))) (conditions lists)) → AllHold trees (conditions (put x lists))) where

@@ -27,7 +27,7 @@ use Rattle.mf_store_sql.proofs.TableLemmas.{asked_shows}
 use Rattle.mf_store_schema.specs.Tables.{schema, instalments}
 use Rattle.mf_store_schema.specs.Keys.{one_number}
 use Rattle.mf_store_schema.specs.InstalmentsTexts.{kept, fits, ordered, lists_by_1}
-use Rattle.mf_store_schema.specs.Rows.{by_office, office_row, is_in_range, by_loan, loan_row, is_loan_above}
+use Rattle.mf_store_schema.specs.Rows.{by_office, office_row, is_between_keys, by_loan, loan_row, is_loan_above}
 use Rattle.mf_store_schema.specs.Rows.{by_instalment, instalment_row, is_instalment_in}
 use Rattle.mf_store_schema.specs.declared.instalments.InstalmentRow.{InstalmentRow}
 use Rattle.mf_store_schema.specs.declared.offices.OfficeRow.{OfficeRow}
@@ -59,16 +59,12 @@ offices_in_listed = refl
 abbrev office_key : OfficeRow → Row
 office_key x = Int (pos x.number) ∷ []
 
-office_ranks : (tests : List Term) (a b : OfficeRow) → output_cmp (scan 2 tests (col 1 1 ∷ col 1 2 ∷ col 1 3
-    ∷ col 1 4 ∷ []) (by (col 1 1) ∷ [])) (office_key a, office_row a) (office_key b, office_row b) ≡ by_office a b
-office_ranks tests a b = then-Equal _ ∙ int_cmp-pos a.number b.number
-
 pub offices_in_shows : (low high : List ℕ) (db : Database) (rows : List Row) (items : List OfficeRow)
     → db.schema ≡ schema → Keeps office_row by_office (db.trees 2) items → Answers offices_in (Text low ∷ Text high
-    ∷ []) db rows → rows ≡ map office_row (filter (is_in_range low high) items)
+    ∷ []) db rows → rows ≡ map office_row (filter (is_between_keys low high) items)
 offices_in_shows low high db rows items has k =
     shown_kept office_row by_office schema 2 offices_in offices_in_plain offices_in_listed _ _ _ _ offices_in_is _
-    (is_in_range low high) (λ id o. ap₂ ◌&&◌ (at_least_text o.hkey low) (and_true _ ∙ below_text o.hkey high))
+    (is_between_keys low high) (λ id o. ap₂ ◌&&◌ (at_least_text o.hkey low) (and_true _ ∙ below_text o.hkey high))
     office_key office_row (λ id x. refl)
     (λ a b. then-Equal _ ∙ int_cmp-pos a.number b.number) (λ t. refl) db items rows has k
 

@@ -5,7 +5,7 @@ use Rattle.std.specs.Str.{bytes_eq}
 use Rattle.std.proofs.lemmas.Bool.Decides.{nat_tests}
 use Rattle.std.proofs.lemmas.Map.Text.{is_eq-slice_cmp}
 use Rattle.mf_store_sql.proofs.CompareLemmas.{eq_then}
-use Rattle.mf_store_schema.specs.Rows.{is_receipt, is_receipt_before}
+use Rattle.mf_store_schema.specs.Rows.{is_row_of_receipt, is_receipt_before}
 use Rattle.mf_store_schema.specs.declared.receipts.ReceiptRow.{ReceiptRow}
 use Rattle.mf_store_schema.proofs.OrderLemmas.{by_receipt_total}
 
@@ -22,7 +22,7 @@ same_number : (a b : ℕ) → is_eq (nat_cmp a b) ≡ (a == b)
 same_number a b = grind (arith, nat_tests)
 
 -- the receipt that is found has the office and the very bytes
-pub is_receipt-bytes : (office : ℕ) (receipt : List ℕ) (x : ReceiptRow) → is_receipt office receipt x
+pub is_receipt-bytes : (office : ℕ) (receipt : List ℕ) (x : ReceiptRow) → is_row_of_receipt office receipt x
     ≡ ((office == x.office) && bytes_eq receipt x.receipt)
 is_receipt-bytes office receipt x = eq_then (nat_cmp office x.office) _ ∙ ap₂ ◌&&◌ (same_number office x.office)
     (is_eq-slice_cmp receipt x.receipt)

@@ -1,13 +1,13 @@
 -- Rows of a query that are read one at a time.
-use Rattle.std.proofs.Common.{◌≡◌, ◌++◌, ◌⊎◌, ℕ, false, List, [], ◌∷◌, Option, Some, None, Vec, Global}
-use Rattle.std.proofs.Common.{Result, Ok, Err, IfOk, IfErr, IsTrue, inl, inr}
+use Rattle.std.proofs.Common.{◌≡◌, ◌++◌, ℕ, false, List, [], ◌∷◌, Option, Some, None, Vec, Global}
+use Rattle.std.proofs.Common.{Result, Ok, Err, IfOk, IfErr, IsTrue, inl}
 use Rattle.std.proofs.Common.{refl, sym, ◌∙◌, subst, arith, le_refl}
 use Rattle.sqlite.specs.Order.{Row}
 use Rattle.sqlite.specs.Effect.{Database}
 use Rattle.sqlite.specs.Given.{HasGiven, HasBegun, Advances}
 use Rattle.sqlite.specs.Held.{Held, state}
 use Rattle.sqlite.specs.Listing.{understood}
-use Rattle.sqlite.specs.State.{State, HasCleanDisk, IsUnchanged, Survives, Shown, Fails, FailsToQuery, IsNotRun}
+use Rattle.sqlite.specs.State.{State, HasCleanDisk, IsUnchanged, Survives, Shown, FailsToQuery, IsNotRun}
 use Rattle.sqlite.specs.State.{CommitsShowing}
 use Rattle.sqlite.specs.declared.error.Error.{Error}
 use Rattle.sqlite.proofs.Callers.{IsPlain, command_of, reads_as, begun_plain}
@@ -104,21 +104,6 @@ module _ {S X : Type 0} (g : Ghosts S) (stored : X → Row) (columns : List Name
               (way.same was).now_is
               (advances sql params way.given (way.runs was sql params runs)),
         )
-
-    -- what a step that failed leaves
-    pub failed : (e : Error) → HasCleanDisk (state g next) → Fails (state g now) (state g next) ⊥ e
-        ⊎ IsUnchanged (state g now) (state g next) → IsTrue (state g next).is_open → IsTrue (state g old).is_open
-        × ((state g old).now ≡ (state g old).committed → (state g next).now ≡ (state g old).now)
-    failed e clean (inl fails) live =
-        let same = way.same (early (state g now) (state g next) survives clean) in (
-          same.was_open (fails.3.was_open live),
-          λ settled. (fails.3.undone live).0
-              ∙ same.committed_is
-              ∙ sym settled,
-        )
-    failed e clean (inr kept) live =
-        let same = way.same (early (state g now) (state g next) survives clean) in
-        (same.was_open kept.0.was_open, λ settled. kept.0.now_is ∙ same.now_is)
 
 -- ---- an empty statement was prepared before the text asks
 

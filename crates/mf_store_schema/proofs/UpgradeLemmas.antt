@@ -15,13 +15,11 @@ use Rattle.mf_store_schema.specs.Tables.{schema, first_schema, tables, made}
 use Rattle.mf_store_schema.specs.InstalmentsTexts as Instalments
 use Rattle.mf_store_schema.specs.SharesTexts as Shares
 use Rattle.mf_store_schema.specs.Rows.{Lists, instalment_row, share_row, by_instalment, by_share}
-use Rattle.mf_store_schema.specs.Writes.{kept_in, conditions, schema_of, Holds, Fits}
-use Rattle.mf_store_schema.specs.Writes.{after}
-use Rattle.mf_store_schema.specs.declared.writes.StoreWrite.{StoreWrite}
+use Rattle.mf_store_schema.specs.Writes.{kept_in, conditions}
 use Rattle.mf_store_schema.proofs.MakeLemmas.{kept_none}
 use Rattle.mf_store_schema.proofs.OrderLemmas.{by_instalment_total, by_share_total}
 use Rattle.mf_store_schema.specs.Upgrade.{KeptLists, First, Own, schema_kept, HoldsKept, FitsUpgrade, after_upgrade}
-use Rattle.mf_store_schema.specs.declared.upgrade_writes.UpgradeWrite.TheVariants.{MakeAccountTables, Put}
+use Rattle.mf_store_schema.specs.declared.upgrade_writes.UpgradeWrite.TheVariants.{MakeAccountTables}
 
 -- ---- the two tables
 
@@ -68,16 +66,3 @@ making_accounts old new makes =
                 );
           };
         }
-
--- ---- a row put
-
-pub putting_own : (write : StoreWrite) (old new : State) → Steps (Serves schema_of Holds) (Fits write)
-    (after write) old new → Steps Stands (FitsUpgrade (Put write)) (after_upgrade (Put write)) old new
-putting_own write old new steps = record { mode = steps.mode; was_open = steps.was_open; turns = turns }
-  where
-    turns : (lists : KeptLists) → Stands old.now lists → FitsUpgrade (Put write) lists
-        → Stands new.now (after_upgrade (Put write) lists)
-    turns (First lists) s fits = absurd fits
-    turns (Own lists) s fits =
-        let done = steps.turns lists (record { schema_is = s.schema_is; holds = s.holds }) fits in
-        record { schema_is = done.schema_is; holds = done.holds }

@@ -21,7 +21,7 @@ OnlyFaultsShut old new = (faults : ℕ) → faults < 2 ^ 64 - 1 → IsOpenUpTo f
 
 -- Nothing is changed where the tables are this program's, and then a stop leaves nothing that it could not leave
 -- before.
-pub record IsUnchanged (old new : State) : Type 0 where
+pub record IsAsBefore (old new : State) : Type 0 where
   pub premise : HasCleanDisk new → HasCleanDisk old
   pub was_open : HasCleanDisk new → IsTrue new.is_open → IsTrue old.is_open
   pub same : HasCleanDisk new → IsTrue new.is_open → old.now.schema ≡ schema → new.now ≡ old.now

@@ -5,7 +5,7 @@ use Rattle.sqlite_tied.specs.Compute.{everything}
 use Rattle.sqlite.specs.Listing.{understood}
 use Rattle.mf_store_sql.specs.Making.{IsDefined}
 use Rattle.mf_store_sql.specs.Meanings.{Asks, IsKept}
-use Rattle.mf_store_sql.specs.Rows.{AllFit, first_cmp}
+use Rattle.mf_store_sql.specs.Rows.{AreKeepable, first_cmp}
 use Rattle.mf_store_schema.specs.Keys.{one_number}
 use Rattle.mf_store_schema.specs.Tables.{schema, first_schema, tables, made, charges}
 use Rattle.mf_store_schema.specs.Rows.{charge_row, by_charge}
@@ -40,5 +40,5 @@ defined = record { command = refl; plain = (refl, refl); table_is = refl; uncoun
 pub ordered : (a b : ChargeRow) → by_charge a b ≡ first_cmp 1 (charge_row a) (charge_row b)
 ordered a b = one_number a.number b.number
 
-pub fits : (x : ChargeRow) → AllFit charges.columns (charge_row x)
+pub fits : (x : ChargeRow) → AreKeepable charges.columns (charge_row x)
 fits x = search rules

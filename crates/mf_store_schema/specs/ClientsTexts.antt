@@ -5,7 +5,7 @@ use Rattle.sqlite_tied.specs.Compute.{everything}
 use Rattle.sqlite.specs.Listing.{understood}
 use Rattle.mf_store_sql.specs.Making.{IsDefined}
 use Rattle.mf_store_sql.specs.Meanings.{Asks, IsKept}
-use Rattle.mf_store_sql.specs.Rows.{AllFit, first_cmp}
+use Rattle.mf_store_sql.specs.Rows.{AreKeepable, first_cmp}
 use Rattle.mf_store_schema.specs.Keys.{two_numbers}
 use Rattle.mf_store_schema.specs.Tables.{schema, first_schema, tables, made, clients}
 use Rattle.mf_store_schema.specs.Rows.{client_row, by_client}
@@ -44,5 +44,5 @@ defined = record { command = refl; plain = (refl, refl); table_is = refl; uncoun
 pub ordered : (a b : ClientRow) → by_client a b ≡ first_cmp 2 (client_row a) (client_row b)
 ordered a b = two_numbers a.office a.number b.office b.number
 
-pub fits : (x : ClientRow) → AllFit clients.columns (client_row x)
+pub fits : (x : ClientRow) → AreKeepable clients.columns (client_row x)
 fits x = search rules

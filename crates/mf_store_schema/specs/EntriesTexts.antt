@@ -5,7 +5,7 @@ use Rattle.sqlite_tied.specs.Compute.{everything}
 use Rattle.sqlite.specs.Listing.{understood}
 use Rattle.mf_store_sql.specs.Making.{IsDefined}
 use Rattle.mf_store_sql.specs.Meanings.{Asks, IsKept}
-use Rattle.mf_store_sql.specs.Rows.{AllFit, first_cmp}
+use Rattle.mf_store_sql.specs.Rows.{AreKeepable, first_cmp}
 use Rattle.mf_store_schema.specs.Keys.{three_numbers}
 use Rattle.mf_store_schema.specs.Tables.{schema, first_schema, tables, made, entries}
 use Rattle.mf_store_schema.specs.Rows.{entry_row, by_entry}
@@ -44,5 +44,5 @@ defined = record { command = refl; plain = (refl, refl); table_is = refl; uncoun
 pub ordered : (a b : EntryRow) → by_entry a b ≡ first_cmp 3 (entry_row a) (entry_row b)
 ordered a b = three_numbers a.office a.loan a.seq b.office b.loan b.seq
 
-pub fits : (x : EntryRow) → AllFit entries.columns (entry_row x)
+pub fits : (x : EntryRow) → AreKeepable entries.columns (entry_row x)
 fits x = search rules

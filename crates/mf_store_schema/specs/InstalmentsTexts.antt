@@ -5,7 +5,7 @@ use Rattle.sqlite_tied.specs.Compute.{everything}
 use Rattle.sqlite.specs.Listing.{understood}
 use Rattle.mf_store_sql.specs.Making.{IsDefined}
 use Rattle.mf_store_sql.specs.Meanings.{Asks, IsKept}
-use Rattle.mf_store_sql.specs.Rows.{AllFit, first_cmp}
+use Rattle.mf_store_sql.specs.Rows.{AreKeepable, first_cmp}
 use Rattle.mf_store_schema.specs.Keys.{three_numbers}
 use Rattle.mf_store_schema.specs.Tables.{schema, tables, made, instalments}
 use Rattle.mf_store_schema.specs.Rows.{instalment_row, by_instalment}
@@ -44,5 +44,5 @@ defined = record { command = refl; plain = (refl, refl); table_is = refl; uncoun
 pub ordered : (a b : InstalmentRow) → by_instalment a b ≡ first_cmp 3 (instalment_row a) (instalment_row b)
 ordered a b = three_numbers a.office a.loan a.number b.office b.loan b.number
 
-pub fits : (x : InstalmentRow) → AllFit instalments.columns (instalment_row x)
+pub fits : (x : InstalmentRow) → AreKeepable instalments.columns (instalment_row x)
 fits x = search rules

@@ -5,7 +5,7 @@ use Rattle.sqlite_tied.specs.Compute.{everything}
 use Rattle.sqlite.specs.Listing.{understood}
 use Rattle.mf_store_sql.specs.Making.{IsDefined}
 use Rattle.mf_store_sql.specs.Meanings.{Asks, IsKept}
-use Rattle.mf_store_sql.specs.Rows.{AllFit, first_cmp}
+use Rattle.mf_store_sql.specs.Rows.{AreKeepable, first_cmp}
 use Rattle.mf_store_schema.specs.Keys.{one_number}
 use Rattle.mf_store_schema.specs.Tables.{schema, first_schema, tables, made, meta}
 use Rattle.mf_store_schema.specs.Rows.{meta_row, by_meta}
@@ -40,5 +40,5 @@ defined = record { command = refl; plain = (refl, refl); table_is = refl; uncoun
 pub ordered : (a b : MetaRow) → by_meta a b ≡ first_cmp 1 (meta_row a) (meta_row b)
 ordered a b = one_number a.one b.one
 
-pub fits : (x : MetaRow) → AllFit meta.columns (meta_row x)
+pub fits : (x : MetaRow) → AreKeepable meta.columns (meta_row x)
 fits x = search rules

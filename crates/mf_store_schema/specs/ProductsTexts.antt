@@ -5,7 +5,7 @@ use Rattle.sqlite_tied.specs.Compute.{everything}
 use Rattle.sqlite.specs.Listing.{understood}
 use Rattle.mf_store_sql.specs.Making.{IsDefined}
 use Rattle.mf_store_sql.specs.Meanings.{Asks, IsKept}
-use Rattle.mf_store_sql.specs.Rows.{AllFit, first_cmp}
+use Rattle.mf_store_sql.specs.Rows.{AreKeepable, first_cmp}
 use Rattle.mf_store_schema.specs.Keys.{one_number}
 use Rattle.mf_store_schema.specs.Tables.{schema, first_schema, tables, made, products}
 use Rattle.mf_store_schema.specs.Rows.{product_row, by_product}
@@ -40,5 +40,5 @@ defined = record { command = refl; plain = (refl, refl); table_is = refl; uncoun
 pub ordered : (a b : ProductRow) → by_product a b ≡ first_cmp 1 (product_row a) (product_row b)
 ordered a b = one_number a.number b.number
 
-pub fits : (x : ProductRow) → AllFit products.columns (product_row x)
+pub fits : (x : ProductRow) → AreKeepable products.columns (product_row x)
 fits x = search rules

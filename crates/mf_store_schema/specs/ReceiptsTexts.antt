@@ -5,7 +5,7 @@ use Rattle.sqlite_tied.specs.Compute.{everything}
 use Rattle.sqlite.specs.Listing.{understood}
 use Rattle.mf_store_sql.specs.Making.{IsDefined}
 use Rattle.mf_store_sql.specs.Meanings.{Asks, IsKept}
-use Rattle.mf_store_sql.specs.Rows.{AllFit, first_cmp}
+use Rattle.mf_store_sql.specs.Rows.{AreKeepable, first_cmp}
 use Rattle.mf_store_schema.specs.Keys.{number_and_text}
 use Rattle.mf_store_schema.specs.Tables.{schema, first_schema, tables, made, receipts}
 use Rattle.mf_store_schema.specs.Rows.{receipt_row, by_receipt}
@@ -40,5 +40,5 @@ defined = record { command = refl; plain = (refl, refl); table_is = refl; uncoun
 pub ordered : (a b : ReceiptRow) → by_receipt a b ≡ first_cmp 2 (receipt_row a) (receipt_row b)
 ordered a b = number_and_text a.office a.receipt b.office b.receipt
 
-pub fits : (x : ReceiptRow) → AllFit receipts.columns (receipt_row x)
+pub fits : (x : ReceiptRow) → AreKeepable receipts.columns (receipt_row x)
 fits x = search rules

@@ -3,7 +3,7 @@ use Rattle.std.specs.Prelude.{◌≡◌, ℕ, pos, Bool, true, not, ◌&&◌, Li
 use Rattle.std.specs.declared.cmp.Ordering.{Ordering}
 use Rattle.std.specs.Ordering.{nat_cmp, ordering_then, is_eq, is_lt, is_ge, is_gt}
 use Rattle.std.specs.Cmp.Lexicographic.{slice_cmp}
-use Rattle.sqlite.specs.declared.types.Value.TheVariants.{Int, Text as Words}
+use Rattle.sqlite.specs.declared.types.Value.TheVariants.{Int, Text}
 use Rattle.sqlite.specs.Order.{Row}
 use Rattle.sqlite_trees.specs.Tree.{IsAscending}
 use Rattle.mf_store_sql.specs.Values.{or_null, or_text}
@@ -35,11 +35,11 @@ by_meta a b = nat_cmp a.one b.one
 
 -- the values of a row of meta
 abbrev pub meta_row : MetaRow → Row
-meta_row x = Int (pos x.one) ∷ Int (pos x.schema) ∷ Words x.day ∷ []
+meta_row x = Int (pos x.one) ∷ Int (pos x.schema) ∷ Text x.day ∷ []
 
 -- the row under a key
-abbrev pub is_meta : ℕ → MetaRow → Bool
-is_meta one x = is_eq (nat_cmp one x.one)
+abbrev pub is_row_of_meta : ℕ → MetaRow → Bool
+is_row_of_meta one x = is_eq (nat_cmp one x.one)
 
 -- the order of the rows of offices
 abbrev pub by_office : OfficeRow → OfficeRow → Ordering
@@ -47,15 +47,15 @@ by_office a b = nat_cmp a.number b.number
 
 -- the values of a row of offices
 abbrev pub office_row : OfficeRow → Row
-office_row x = Int (pos x.number) ∷ or_null x.parent ∷ Words x.hkey ∷ Words x.name ∷ []
+office_row x = Int (pos x.number) ∷ or_null x.parent ∷ Text x.hkey ∷ Text x.name ∷ []
 
 -- the row is that of this office
-abbrev pub is_office : ℕ → OfficeRow → Bool
-is_office number x = is_eq (nat_cmp number x.number)
+abbrev pub is_row_of_office : ℕ → OfficeRow → Bool
+is_row_of_office number x = is_eq (nat_cmp number x.number)
 
 -- the rows whose hierarchy text lies in a range, byte by byte
-abbrev pub is_in_range : List ℕ → List ℕ → OfficeRow → Bool
-is_in_range low high x = is_ge (slice_cmp nat_cmp x.hkey low) && is_lt (slice_cmp nat_cmp x.hkey high)
+abbrev pub is_between_keys : List ℕ → List ℕ → OfficeRow → Bool
+is_between_keys low high x = is_ge (slice_cmp nat_cmp x.hkey low) && is_lt (slice_cmp nat_cmp x.hkey high)
 
 -- the order of the rows of staff
 abbrev pub by_staff : StaffRow → StaffRow → Ordering
@@ -63,11 +63,11 @@ by_staff a b = ordering_then (nat_cmp a.office b.office) (nat_cmp a.number b.num
 
 -- the values of a row of staff
 abbrev pub staff_row : StaffRow → Row
-staff_row x = Int (pos x.office) ∷ Int (pos x.number) ∷ Words x.name ∷ Int (pos x.role) ∷ []
+staff_row x = Int (pos x.office) ∷ Int (pos x.number) ∷ Text x.name ∷ Int (pos x.role) ∷ []
 
 -- the row is that of this member of an office's staff
-abbrev pub is_staff : ℕ → ℕ → StaffRow → Bool
-is_staff office number x = is_eq (ordering_then (nat_cmp office x.office) (nat_cmp number x.number))
+abbrev pub is_row_of_staff : ℕ → ℕ → StaffRow → Bool
+is_row_of_staff office number x = is_eq (ordering_then (nat_cmp office x.office) (nat_cmp number x.number))
 
 -- the rows of one office
 abbrev pub is_staff_of : ℕ → StaffRow → Bool
@@ -79,11 +79,11 @@ by_client a b = ordering_then (nat_cmp a.office b.office) (nat_cmp a.number b.nu
 
 -- the values of a row of clients
 abbrev pub client_row : ClientRow → Row
-client_row x = Int (pos x.office) ∷ Int (pos x.number) ∷ Words x.name ∷ []
+client_row x = Int (pos x.office) ∷ Int (pos x.number) ∷ Text x.name ∷ []
 
 -- the row is that of this client of an office
-abbrev pub is_client : ℕ → ℕ → ClientRow → Bool
-is_client office number x = is_eq (ordering_then (nat_cmp office x.office) (nat_cmp number x.number))
+abbrev pub is_row_of_client : ℕ → ℕ → ClientRow → Bool
+is_row_of_client office number x = is_eq (ordering_then (nat_cmp office x.office) (nat_cmp number x.number))
 
 -- the row is that of a client of this office
 abbrev pub is_client_of : ℕ → ClientRow → Bool
@@ -95,11 +95,11 @@ by_charge a b = nat_cmp a.number b.number
 
 -- the values of a row of charges
 abbrev pub charge_row : ChargeRow → Row
-charge_row x = Int (pos x.number) ∷ Words x.name ∷ Int (pos x.kind) ∷ Int (pos x.calc) ∷ Int x.value ∷ []
+charge_row x = Int (pos x.number) ∷ Text x.name ∷ Int (pos x.kind) ∷ Int (pos x.calc) ∷ Int x.value ∷ []
 
 -- the row is that of this charge
-abbrev pub is_charge : ℕ → ChargeRow → Bool
-is_charge number x = is_eq (nat_cmp number x.number)
+abbrev pub is_row_of_charge : ℕ → ChargeRow → Bool
+is_row_of_charge number x = is_eq (nat_cmp number x.number)
 
 -- the order of the rows of products
 abbrev pub by_product : ProductRow → ProductRow → Ordering
@@ -107,14 +107,14 @@ by_product a b = nat_cmp a.number b.number
 
 -- the values of a row of products
 abbrev pub product_row : ProductRow → Row
-product_row x = Int (pos x.number) ∷ Words x.name ∷ Int (pos x.method) ∷ Int (pos x.rate) ∷ Int (pos x.frequency)
+product_row x = Int (pos x.number) ∷ Text x.name ∷ Int (pos x.method) ∷ Int (pos x.rate) ∷ Int (pos x.frequency)
     ∷ Int (pos x.every) ∷ Int (pos x.principal_grace) ∷ Int (pos x.interest_grace) ∷ Int x.min_principal
     ∷ Int x.max_principal ∷ Int (pos x.min_periods) ∷ Int (pos x.max_periods) ∷ Int (pos x.strategy)
     ∷ or_null x.disbursement_charge ∷ or_null x.instalment_charge ∷ or_null x.overdue_charge ∷ Int (pos x.retired) ∷ []
 
 -- the row is that of this product
-abbrev pub is_product : ℕ → ProductRow → Bool
-is_product number x = is_eq (nat_cmp number x.number)
+abbrev pub is_row_of_product : ℕ → ProductRow → Bool
+is_row_of_product number x = is_eq (nat_cmp number x.number)
 
 -- the order of the rows of loans
 abbrev pub by_loan : LoanRow → LoanRow → Ordering
@@ -126,8 +126,8 @@ loan_row x = Int (pos x.office) ∷ Int (pos x.number) ∷ Int (pos x.client) �
     ∷ Int (pos x.periods) ∷ Int (pos x.stage) ∷ or_text x.approved ∷ or_text x.disbursed ∷ []
 
 -- the row is that of this loan of an office
-abbrev pub is_loan : ℕ → ℕ → LoanRow → Bool
-is_loan office number x = is_eq (ordering_then (nat_cmp office x.office) (nat_cmp number x.number))
+abbrev pub is_row_of_loan : ℕ → ℕ → LoanRow → Bool
+is_row_of_loan office number x = is_eq (ordering_then (nat_cmp office x.office) (nat_cmp number x.number))
 
 -- the row is that of a loan of this office
 abbrev pub is_loan_of : ℕ → LoanRow → Bool
@@ -143,12 +143,12 @@ by_entry a b = ordering_then (nat_cmp a.office b.office) (ordering_then (nat_cmp
 
 -- the values of a row of entries
 abbrev pub entry_row : EntryRow → Row
-entry_row x = Int (pos x.office) ∷ Int (pos x.loan) ∷ Int (pos x.seq) ∷ Int (pos x.kind) ∷ Words x.day ∷ Int x.amount
-    ∷ Int (pos x.instalment) ∷ Int (pos x.portion) ∷ or_text x.receipt ∷ Words x.staff ∷ Int (pos x.reversed) ∷ []
+entry_row x = Int (pos x.office) ∷ Int (pos x.loan) ∷ Int (pos x.seq) ∷ Int (pos x.kind) ∷ Text x.day ∷ Int x.amount
+    ∷ Int (pos x.instalment) ∷ Int (pos x.portion) ∷ or_text x.receipt ∷ Text x.staff ∷ Int (pos x.reversed) ∷ []
 
 -- the row is that of this entry of a loan
-abbrev pub is_entry : ℕ → ℕ → ℕ → EntryRow → Bool
-is_entry office loan seq x =
+abbrev pub is_row_of_entry : ℕ → ℕ → ℕ → EntryRow → Bool
+is_row_of_entry office loan seq x =
     is_eq (ordering_then (nat_cmp office x.office) (ordering_then (nat_cmp loan x.loan) (nat_cmp seq x.seq)))
 
 -- the rows of one loan
@@ -161,11 +161,12 @@ by_receipt a b = ordering_then (nat_cmp a.office b.office) (slice_cmp nat_cmp a.
 
 -- the values of a row of receipts
 abbrev pub receipt_row : ReceiptRow → Row
-receipt_row x = Int (pos x.office) ∷ Words x.receipt ∷ Int (pos x.loan) ∷ Int (pos x.seq) ∷ []
+receipt_row x = Int (pos x.office) ∷ Text x.receipt ∷ Int (pos x.loan) ∷ Int (pos x.seq) ∷ []
 
 -- the row is that of this receipt of an office
-abbrev pub is_receipt : ℕ → List ℕ → ReceiptRow → Bool
-is_receipt office receipt x = is_eq (ordering_then (nat_cmp office x.office) (slice_cmp nat_cmp receipt x.receipt))
+abbrev pub is_row_of_receipt : ℕ → List ℕ → ReceiptRow → Bool
+is_row_of_receipt office receipt x = is_eq
+    (ordering_then (nat_cmp office x.office) (slice_cmp nat_cmp receipt x.receipt))
 
 -- a receipt comes before another: by office, and in one office by its bytes
 abbrev pub is_receipt_before : ReceiptRow → ReceiptRow → Bool
@@ -182,15 +183,15 @@ by_instalment a b =
 
 -- the values of a row of instalments
 abbrev pub instalment_row : InstalmentRow → Row
-instalment_row x = Int (pos x.office) ∷ Int (pos x.loan) ∷ Int (pos x.number) ∷ Words x.due ∷ Int x.owed_penalty
+instalment_row x = Int (pos x.office) ∷ Int (pos x.loan) ∷ Int (pos x.number) ∷ Text x.due ∷ Int x.owed_penalty
     ∷ Int x.paid_penalty ∷ Int x.waived_penalty ∷ Int x.written_off_penalty ∷ Int x.owed_fee ∷ Int x.paid_fee
     ∷ Int x.waived_fee ∷ Int x.written_off_fee ∷ Int x.owed_interest ∷ Int x.paid_interest ∷ Int x.waived_interest
     ∷ Int x.written_off_interest ∷ Int x.owed_principal ∷ Int x.paid_principal ∷ Int x.waived_principal
     ∷ Int x.written_off_principal ∷ []
 
 -- the row under a key
-abbrev pub is_instalment : ℕ → ℕ → ℕ → InstalmentRow → Bool
-is_instalment office loan number x =
+abbrev pub is_row_of_instalment : ℕ → ℕ → ℕ → InstalmentRow → Bool
+is_row_of_instalment office loan number x =
     is_eq (ordering_then (nat_cmp office x.office) (ordering_then (nat_cmp loan x.loan) (nat_cmp number x.number)))
 
 -- the rows of one loan
@@ -212,8 +213,9 @@ share_row x = Int (pos x.office) ∷ Int (pos x.loan) ∷ Int (pos x.seq) ∷ In
     ∷ Int (pos x.portion) ∷ Int (pos x.how) ∷ Int x.amount ∷ []
 
 -- the row under a key
-abbrev pub is_share : ℕ → ℕ → ℕ → ℕ → ShareRow → Bool
-is_share office loan seq place x = is_eq (ordering_then (nat_cmp office x.office) (ordering_then (nat_cmp loan x.loan)
+abbrev pub is_row_of_share : ℕ → ℕ → ℕ → ℕ → ShareRow → Bool
+is_row_of_share office loan seq place x = is_eq
+    (ordering_then (nat_cmp office x.office) (ordering_then (nat_cmp loan x.loan)
     (ordering_then (nat_cmp seq x.seq) (nat_cmp place x.place))))
 
 -- the rows of one loan
@@ -240,8 +242,8 @@ pub record Lists : Type 0 where
   pub shares : List ShareRow
 
 -- no row in any table
-abbrev pub no_rows : Lists
-no_rows = record {
+abbrev pub empty_lists : Lists
+empty_lists = record {
   meta = [];
   offices = [];
   staff = [];

@@ -5,7 +5,7 @@ use Rattle.sqlite_tied.specs.Compute.{everything}
 use Rattle.sqlite.specs.Listing.{understood}
 use Rattle.mf_store_sql.specs.Making.{IsDefined}
 use Rattle.mf_store_sql.specs.Meanings.{Asks, IsKept}
-use Rattle.mf_store_sql.specs.Rows.{AllFit, first_cmp}
+use Rattle.mf_store_sql.specs.Rows.{AreKeepable, first_cmp}
 use Rattle.mf_store_schema.specs.Keys.{four_numbers}
 use Rattle.mf_store_schema.specs.Tables.{schema, tables, made, shares}
 use Rattle.mf_store_schema.specs.Rows.{share_row, by_share}
@@ -32,10 +32,6 @@ pub lists_by_2 : Asks schema 10 21 shares 2
 unfolding understood everything
 lists_by_2 = record { plain = (refl, refl); unlisted = refl; is = refl }
 
-pub lists_by_3 : Asks schema 10 21 shares 3
-unfolding understood everything
-lists_by_3 = record { plain = (refl, refl); unlisted = refl; is = refl }
-
 -- after the tables before it
 pub defined : IsDefined (made (take 10 tables)) 21 shares
 unfolding understood everything
@@ -44,5 +40,5 @@ defined = record { command = refl; plain = (refl, refl); table_is = refl; uncoun
 pub ordered : (a b : ShareRow) → by_share a b ≡ first_cmp 4 (share_row a) (share_row b)
 ordered a b = four_numbers a.office a.loan a.seq a.place b.office b.loan b.seq b.place
 
-pub fits : (x : ShareRow) → AllFit shares.columns (share_row x)
+pub fits : (x : ShareRow) → AreKeepable shares.columns (share_row x)
 fits x = search rules

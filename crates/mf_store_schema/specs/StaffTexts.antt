@@ -5,7 +5,7 @@ use Rattle.sqlite_tied.specs.Compute.{everything}
 use Rattle.sqlite.specs.Listing.{understood}
 use Rattle.mf_store_sql.specs.Making.{IsDefined}
 use Rattle.mf_store_sql.specs.Meanings.{Asks, IsKept}
-use Rattle.mf_store_sql.specs.Rows.{AllFit, first_cmp}
+use Rattle.mf_store_sql.specs.Rows.{AreKeepable, first_cmp}
 use Rattle.mf_store_schema.specs.Keys.{two_numbers}
 use Rattle.mf_store_schema.specs.Tables.{schema, first_schema, tables, made, staff}
 use Rattle.mf_store_schema.specs.Rows.{staff_row, by_staff}
@@ -44,5 +44,5 @@ defined = record { command = refl; plain = (refl, refl); table_is = refl; uncoun
 pub ordered : (a b : StaffRow) → by_staff a b ≡ first_cmp 2 (staff_row a) (staff_row b)
 ordered a b = two_numbers a.office a.number b.office b.number
 
-pub fits : (x : StaffRow) → AllFit staff.columns (staff_row x)
+pub fits : (x : StaffRow) → AreKeepable staff.columns (staff_row x)
 fits x = search rules

@@ -13,7 +13,7 @@ use Rattle.mf_store_schema.specs.declared.instalments.InstalmentRow.{InstalmentR
 use Rattle.mf_store_schema.specs.declared.meta.MetaRow.{MetaRow}
 use Rattle.mf_store_schema.specs.declared.shares.ShareRow.{ShareRow}
 use Rattle.mf_store_schema.specs.declared.writes.StoreWrite.TheVariants.{PutInstalment, PutMeta, PutShare}
-use Rattle.mf_store_schema.specs.Writes.{conditions, schema_of, Holds, Fits, after}
+use Rattle.mf_store_schema.specs.Writes.{conditions, schema_of, Holds, FitsLists, after_write}
 use Rattle.mf_store_schema.specs.Tables.{first_schema}
 use Rattle.mf_store_schema.specs.declared.upgrade_writes.UpgradeWrite.{UpgradeWrite}
 use Rattle.mf_store_schema.specs.declared.upgrade_writes.UpgradeWrite.TheVariants.{MakeAccountTables, Put}
@@ -43,14 +43,14 @@ abbrev pub FitsUpgrade : UpgradeWrite → KeptLists → Type 0
 FitsUpgrade MakeAccountTables (First lists) = Unit {0}
 FitsUpgrade MakeAccountTables (Own lists) = ⊥
 FitsUpgrade (Put write) (First lists) = ⊥
-FitsUpgrade (Put write) (Own lists) = Fits write lists
+FitsUpgrade (Put write) (Own lists) = FitsLists write lists
 
 -- the lists after a write
 abbrev pub after_upgrade : UpgradeWrite → KeptLists → KeptLists
 after_upgrade MakeAccountTables (First lists) = Own (Some (record lists { instalments = []; shares = [] }))
 after_upgrade MakeAccountTables (Own lists) = Own lists
 after_upgrade (Put write) (First lists) = First lists
-after_upgrade (Put write) (Own lists) = Own (after write lists)
+after_upgrade (Put write) (Own lists) = Own (after_write write lists)
 
 -- the writes that bring the first schema to the second: the two tables, their rows, and the row of meta
 abbrev pub upgrade_writes : MetaRow → List InstalmentRow → List ShareRow → List UpgradeWrite

@@ -34,19 +34,19 @@ abbrev pub HaveFirstRowids : Trees → Type 0
 HaveFirstRowids trees = HaveRowidsUnder first_schema trees
 
 -- the schema has the table at this place, and understands the text that asks for the whole of it
-pub record IsAsked (k : Schema) (place tree : ℕ) (t : Columns) : Type 0 where
+pub record IsAskable (k : Schema) (place tree : ℕ) (t : Columns) : Type 0 where
   pub there : slice_get k.tables place ≡ Some (sql_table tree t)
   pub asks : Asks k place tree t 0
 
 module _ (place tree : ℕ) (t : Columns) (kept : IsKept schema place tree t) where
   -- today's schema does
-  pub asked_present : (k : Schema) → IsPresent k → IsAsked k place tree t
-  asked_present k is = subst (λ s. IsAsked s place tree t) (sym is) (record { there = kept.there; asks = kept.shows })
+  pub asked_present : (k : Schema) → IsPresent k → IsAskable k place tree t
+  asked_present k is = subst (λ s. IsAskable s place tree t) (sym is) (record { there = kept.there; asks = kept.shows })
 
   -- and the first one, where it has the table
-  pub asked_known : IsAsked first_schema place tree t → (k : Schema) → IsKnown k → IsAsked k place tree t
+  pub asked_known : IsAskable first_schema place tree t → (k : Schema) → IsKnown k → IsAskable k place tree t
   asked_known first k (inl is) = asked_present k is
-  asked_known first k (inr is) = subst (λ s. IsAsked s place tree t) (sym is) first
+  asked_known first k (inr is) = subst (λ s. IsAskable s place tree t) (sym is) first
 
 -- what a text that asks for the whole table shows of it
 pub record ShowsTable {X : Type 0} (stored : X → Row) (cmp : X → X → Ordering) (tree rows : List Row) : Type 0 where

@@ -11,7 +11,7 @@ use Rattle.sqlite.specs.State.{State}
 use Rattle.mf_store_sql.specs.Tables.{no_schema}
 use Rattle.mf_store_sql.specs.Writes.{Serves, Steps}
 use Rattle.mf_store_schema.specs.Tables.{schema}
-use Rattle.mf_store_schema.specs.Rows.{Lists, no_rows, meta_row, office_row, staff_row, client_row, charge_row}
+use Rattle.mf_store_schema.specs.Rows.{Lists, empty_lists, meta_row, office_row, staff_row, client_row, charge_row}
 use Rattle.mf_store_schema.specs.Rows.{product_row, loan_row, entry_row, receipt_row, instalment_row, share_row}
 use Rattle.mf_store_schema.specs.Rows.{by_meta, by_office, by_staff, by_client, by_charge, by_product, by_loan}
 use Rattle.mf_store_schema.specs.Rows.{by_entry, by_receipt, by_instalment, by_share, put_meta, put_office, put_staff}
@@ -58,32 +58,32 @@ lists_changed change None = None
 lists_changed change (Some lists) = Some (change lists)
 
 -- the lists after a write
-abbrev pub after : StoreWrite → Option Lists → Option Lists
-after MakeTables lists = Some no_rows
-after (PutMeta x) lists = lists_changed (put_meta x) lists
-after (PutOffice x) lists = lists_changed (put_office x) lists
-after (PutStaff x) lists = lists_changed (put_staff x) lists
-after (PutClient x) lists = lists_changed (put_client x) lists
-after (PutCharge x) lists = lists_changed (put_charge x) lists
-after (AddProduct x) lists = lists_changed (put_product x) lists
-after (PutProduct x) lists = lists_changed (put_product x) lists
-after (AddLoan x) lists = lists_changed (put_loan x) lists
-after (PutLoan x) lists = lists_changed (put_loan x) lists
-after (AddEntry x) lists = lists_changed (put_entry x) lists
-after (ChangeEntry x) lists = lists_changed (put_entry x) lists
-after (AddReceipt x) lists = lists_changed (put_receipt x) lists
-after (PutInstalment x) lists = lists_changed (put_instalment x) lists
-after (PutShare x) lists = lists_changed (put_share x) lists
-after (RemoveShares e) lists = lists_changed (drop_shares e) lists
+abbrev pub after_write : StoreWrite → Option Lists → Option Lists
+after_write MakeTables lists = Some empty_lists
+after_write (PutMeta x) lists = lists_changed (put_meta x) lists
+after_write (PutOffice x) lists = lists_changed (put_office x) lists
+after_write (PutStaff x) lists = lists_changed (put_staff x) lists
+after_write (PutClient x) lists = lists_changed (put_client x) lists
+after_write (PutCharge x) lists = lists_changed (put_charge x) lists
+after_write (AddProduct x) lists = lists_changed (put_product x) lists
+after_write (PutProduct x) lists = lists_changed (put_product x) lists
+after_write (AddLoan x) lists = lists_changed (put_loan x) lists
+after_write (PutLoan x) lists = lists_changed (put_loan x) lists
+after_write (AddEntry x) lists = lists_changed (put_entry x) lists
+after_write (ChangeEntry x) lists = lists_changed (put_entry x) lists
+after_write (AddReceipt x) lists = lists_changed (put_receipt x) lists
+after_write (PutInstalment x) lists = lists_changed (put_instalment x) lists
+after_write (PutShare x) lists = lists_changed (put_share x) lists
+after_write (RemoveShares e) lists = lists_changed (drop_shares e) lists
 
 -- tables are made where there is none, and rows are put and removed where there are
-abbrev pub Fits : StoreWrite → Option Lists → Type 0
-Fits MakeTables lists = lists ≡ None
-Fits _ lists = IsSome lists
+abbrev pub FitsLists : StoreWrite → Option Lists → Type 0
+FitsLists MakeTables lists = lists ≡ None
+FitsLists _ lists = IsSome lists
 
 -- the transaction goes on; where there were no tables, they are there and have no rows
 abbrev pub Making : State → State → Type 0
-Making old new = Steps (Serves schema_of Holds) (λ lists. lists ≡ None) (λ _. Some no_rows) old new
+Making old new = Steps (Serves schema_of Holds) (λ lists. lists ≡ None) (λ _. Some empty_lists) old new
 
 -- the transaction goes on, and the lists are changed so
 abbrev pub Putting : (Lists → Lists) → State → State → Type 0

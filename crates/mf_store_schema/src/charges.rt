@@ -4,7 +4,7 @@ ghost use Rattle.std.specs.Ordering.{is_eq};
 ghost use Rattle.mf_store_schema.specs.Tables.{charges};
 ghost use Rattle.mf_store_schema.specs.ChargesTexts.{kept, fits, ordered, first_shows};
 ghost use Rattle.mf_store_schema.specs.Keys.{one_number};
-ghost use Rattle.mf_store_schema.specs.Rows.{by_charge, charge_row, put_charge, is_charge};
+ghost use Rattle.mf_store_schema.specs.Rows.{by_charge, charge_row, put_charge, is_row_of_charge};
 ghost use Rattle.mf_store_schema.specs.Schemas.{IsKnown};
 ghost use Rattle.mf_store_schema.specs.Whole.{asked_known};
 
@@ -76,7 +76,7 @@ impl Table for ChargeRow {
 
     ghost put = { put_charge };
 
-    ghost is_at = { is_charge };
+    ghost is_at = { is_row_of_charge };
 
     fn read(row: &Row) -> Result<ChargeRow, Error> {
         has_columns(row, 5)?;

@@ -4,7 +4,7 @@ ghost use Rattle.std.specs.Ordering.{is_eq};
 ghost use Rattle.mf_store_schema.specs.Tables.{clients};
 ghost use Rattle.mf_store_schema.specs.ClientsTexts.{kept, fits, ordered, lists_by_1, first_shows};
 ghost use Rattle.mf_store_schema.specs.Keys.{one_number, two_numbers};
-ghost use Rattle.mf_store_schema.specs.Rows.{by_client, client_row, put_client, is_client};
+ghost use Rattle.mf_store_schema.specs.Rows.{by_client, client_row, put_client, is_row_of_client};
 ghost use Rattle.mf_store_schema.specs.Rows.{is_client_of};
 ghost use Rattle.mf_store_schema.specs.Schemas.{IsKnown};
 ghost use Rattle.mf_store_schema.specs.Whole.{asked_known};
@@ -70,7 +70,7 @@ impl Table for ClientRow {
 
     ghost put = { put_client };
 
-    ghost is_at = { λ key. is_client key.0 key.1 };
+    ghost is_at = { λ key. is_row_of_client key.0 key.1 };
 
     fn read(row: &Row) -> Result<ClientRow, Error> {
         has_columns(row, 3)?;

@@ -4,7 +4,7 @@ ghost use Rattle.std.specs.Ordering.{is_eq};
 ghost use Rattle.mf_store_schema.specs.Tables.{entries};
 ghost use Rattle.mf_store_schema.specs.EntriesTexts.{kept, fits, ordered, lists_by_2, first_shows};
 ghost use Rattle.mf_store_schema.specs.Keys.{two_numbers, three_numbers};
-ghost use Rattle.mf_store_schema.specs.Rows.{by_entry, entry_row, put_entry, is_entry};
+ghost use Rattle.mf_store_schema.specs.Rows.{by_entry, entry_row, put_entry, is_row_of_entry};
 ghost use Rattle.mf_store_schema.specs.Rows.{is_entry_of};
 ghost use Rattle.mf_store_schema.specs.Schemas.{IsKnown};
 ghost use Rattle.mf_store_schema.specs.Whole.{asked_known};
@@ -99,7 +99,7 @@ impl Table for EntryRow {
 
     ghost put = { put_entry };
 
-    ghost is_at = { λ key. is_entry key.0 key.1 key.2 };
+    ghost is_at = { λ key. is_row_of_entry key.0 key.1 key.2 };
 
     fn read(row: &Row) -> Result<EntryRow, Error> {
         has_columns(row, 11)?;

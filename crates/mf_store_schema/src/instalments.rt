@@ -4,7 +4,7 @@ ghost use Rattle.std.specs.Ordering.{is_eq};
 ghost use Rattle.mf_store_schema.specs.Tables.{instalments};
 ghost use Rattle.mf_store_schema.specs.InstalmentsTexts.{kept, fits, ordered, lists_by_2};
 ghost use Rattle.mf_store_schema.specs.Keys.{two_numbers, three_numbers};
-ghost use Rattle.mf_store_schema.specs.Rows.{by_instalment, instalment_row, put_instalment, is_instalment};
+ghost use Rattle.mf_store_schema.specs.Rows.{by_instalment, instalment_row, put_instalment, is_row_of_instalment};
 ghost use Rattle.mf_store_schema.specs.Rows.{is_instalment_of};
 ghost use Rattle.mf_store_schema.specs.Schemas.{IsPresent};
 ghost use Rattle.mf_store_schema.specs.Whole.{asked_present};
@@ -114,7 +114,7 @@ impl Table for InstalmentRow {
 
     ghost put = { put_instalment };
 
-    ghost is_at = { λ key. is_instalment key.0 key.1 key.2 };
+    ghost is_at = { λ key. is_row_of_instalment key.0 key.1 key.2 };
 
     fn read(row: &Row) -> Result<InstalmentRow, Error> {
         has_columns(row, 20)?;

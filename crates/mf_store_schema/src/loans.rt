@@ -8,9 +8,9 @@ ghost use Rattle.std.specs.Ordering.{is_eq};
 ghost use Rattle.mf_store_schema.specs.Tables.{loans};
 ghost use Rattle.mf_store_schema.specs.LoansTexts.{kept, fits, ordered, lists_by_1, first_shows};
 ghost use Rattle.mf_store_schema.specs.Keys.{one_number, two_numbers};
-ghost use Rattle.mf_store_schema.specs.Rows.{by_loan, Lists, loan_row, put_loan, is_loan};
+ghost use Rattle.mf_store_schema.specs.Rows.{by_loan, Lists, loan_row, put_loan, is_row_of_loan};
 ghost use Rattle.mf_store_schema.specs.Rows.{is_loan_of, is_loan_above};
-ghost use Rattle.mf_store_schema.specs.Calls.{IsUnchanged, IsKeeping};
+ghost use Rattle.mf_store_schema.specs.Calls.{IsAsBefore, IsKeeping};
 ghost use Rattle.mf_store_schema.specs.Schemas.{IsKnown};
 ghost use Rattle.mf_store_schema.specs.Whole.{asked_known};
 
@@ -94,7 +94,7 @@ impl Table for LoanRow {
 
     ghost put = { put_loan };
 
-    ghost is_at = { λ key. is_loan key.0 key.1 };
+    ghost is_at = { λ key. is_row_of_loan key.0 key.1 };
 
     fn read(row: &Row) -> Result<LoanRow, Error> {
         has_columns(row, 9)?;
@@ -195,7 +195,7 @@ pub fn loans_above<S: Alter>(
     after: u32,
 ) -> Result<Vec<Row>, Fault>
     requires alone { connection.old.in_transaction ≡ false }
-    ensures kept { IsUnchanged (state S.Store connection.old) (state S.Store connection.new) }
+    ensures kept { IsAsBefore (state S.Store connection.old) (state S.Store connection.new) }
     ensures gives_up { IfErr result (λ fault. fault ≡ F20) }
     ensures open { HasCleanDisk (state S.Store connection.new)
         → OnOk result (IsTrue (state S.Store connection.new).is_open) }

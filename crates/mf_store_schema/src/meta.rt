@@ -4,7 +4,7 @@ ghost use Rattle.std.specs.Ordering.{is_eq};
 ghost use Rattle.mf_store_schema.specs.Tables.{meta};
 ghost use Rattle.mf_store_schema.specs.MetaTexts.{kept, fits, ordered, first_shows};
 ghost use Rattle.mf_store_schema.specs.Keys.{one_number};
-ghost use Rattle.mf_store_schema.specs.Rows.{by_meta, meta_row, put_meta, is_meta};
+ghost use Rattle.mf_store_schema.specs.Rows.{by_meta, meta_row, put_meta, is_row_of_meta};
 ghost use Rattle.mf_store_schema.specs.Schemas.{IsKnown};
 ghost use Rattle.mf_store_schema.specs.Whole.{asked_known};
 
@@ -76,7 +76,7 @@ impl Table for MetaRow {
 
     ghost put = { put_meta };
 
-    ghost is_at = { is_meta };
+    ghost is_at = { is_row_of_meta };
 
     fn read(row: &Row) -> Result<MetaRow, Error> {
         has_columns(row, 3)?;

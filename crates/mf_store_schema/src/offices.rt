@@ -9,8 +9,8 @@ ghost use Rattle.mf_store_schema.specs.Tables.{offices};
 ghost use Rattle.mf_store_schema.specs.OfficesTexts.{kept, fits, ordered, first_shows};
 ghost use Rattle.mf_store_schema.specs.Keys.{one_number};
 ghost use Rattle.mf_store_schema.specs.Rows.{by_office, Lists, office_row, put_office};
-ghost use Rattle.mf_store_schema.specs.Rows.{is_office, is_in_range};
-ghost use Rattle.mf_store_schema.specs.Calls.{IsUnchanged, IsKeeping};
+ghost use Rattle.mf_store_schema.specs.Rows.{is_row_of_office, is_between_keys};
+ghost use Rattle.mf_store_schema.specs.Calls.{IsAsBefore, IsKeeping};
 ghost use Rattle.mf_store_schema.specs.Schemas.{IsKnown};
 ghost use Rattle.mf_store_schema.specs.Whole.{asked_known};
 
@@ -88,7 +88,7 @@ impl Table for OfficeRow {
 
     ghost put = { put_office };
 
-    ghost is_at = { is_office };
+    ghost is_at = { is_row_of_office };
 
     fn read(row: &Row) -> Result<OfficeRow, Error> {
         has_columns(row, 4)?;
@@ -144,13 +144,13 @@ pub fn offices_within<S: Alter>(
     high: &str,
 ) -> Result<Vec<Row>, Fault>
     requires alone { connection.old.in_transaction ≡ false }
-    ensures kept { IsUnchanged (state S.Store connection.old) (state S.Store connection.new) }
+    ensures kept { IsAsBefore (state S.Store connection.old) (state S.Store connection.new) }
     ensures gives_up { IfErr result (λ fault. fault ≡ F20) }
     ensures open { HasCleanDisk (state S.Store connection.new)
         → OnOk result (IsTrue (state S.Store connection.new).is_open) }
     ensures rows { HasCleanDisk (state S.Store connection.new) → (lists : Lists)
         → IsKeeping (state S.Store connection.old) lists
-        → IfOk result (λ rows. rows.items ≡ map office_row (filter (is_in_range low.now high.now) lists.offices)) }
+        → IfOk result (λ rows. rows.items ≡ map office_row (filter (is_between_keys low.now high.now) lists.offices)) }
     ensures mode { connection.new.in_transaction ≡ false }
 {
     ask(

@@ -4,7 +4,7 @@ ghost use Rattle.std.specs.Ordering.{is_eq};
 ghost use Rattle.mf_store_schema.specs.Tables.{products};
 ghost use Rattle.mf_store_schema.specs.ProductsTexts.{kept, fits, ordered, first_shows};
 ghost use Rattle.mf_store_schema.specs.Keys.{one_number};
-ghost use Rattle.mf_store_schema.specs.Rows.{by_product, product_row, put_product, is_product};
+ghost use Rattle.mf_store_schema.specs.Rows.{by_product, product_row, put_product, is_row_of_product};
 ghost use Rattle.mf_store_schema.specs.Schemas.{IsKnown};
 ghost use Rattle.mf_store_schema.specs.Whole.{asked_known};
 
@@ -108,7 +108,7 @@ impl Table for ProductRow {
 
     ghost put = { put_product };
 
-    ghost is_at = { is_product };
+    ghost is_at = { is_row_of_product };
 
     fn read(row: &Row) -> Result<ProductRow, Error> {
         has_columns(row, 17)?;

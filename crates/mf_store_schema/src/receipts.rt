@@ -9,8 +9,8 @@ ghost use Rattle.mf_store_schema.specs.Tables.{receipts};
 ghost use Rattle.mf_store_schema.specs.ReceiptsTexts.{kept, fits, ordered, first_shows};
 ghost use Rattle.mf_store_schema.specs.Keys.{number_and_text};
 ghost use Rattle.mf_store_schema.specs.Rows.{by_receipt, Lists, receipt_row, put_receipt};
-ghost use Rattle.mf_store_schema.specs.Rows.{is_receipt};
-ghost use Rattle.mf_store_schema.specs.Calls.{IsUnchanged, IsKeeping};
+ghost use Rattle.mf_store_schema.specs.Rows.{is_row_of_receipt};
+ghost use Rattle.mf_store_schema.specs.Calls.{IsAsBefore, IsKeeping};
 ghost use Rattle.mf_store_schema.specs.Schemas.{IsKnown};
 ghost use Rattle.mf_store_schema.specs.Whole.{asked_known};
 
@@ -80,7 +80,7 @@ impl Table for ReceiptRow {
 
     ghost put = { put_receipt };
 
-    ghost is_at = { λ key. is_receipt key.0 key.1 };
+    ghost is_at = { λ key. is_row_of_receipt key.0 key.1 };
 
     fn read(row: &Row) -> Result<ReceiptRow, Error> {
         has_columns(row, 4)?;
@@ -137,13 +137,13 @@ pub fn find_receipt<S: Alter>(
     receipt: &str,
 ) -> Result<Option<ReceiptRow>, Fault>
     requires alone { connection.old.in_transaction ≡ false }
-    ensures kept { IsUnchanged (state S.Store connection.old) (state S.Store connection.new) }
+    ensures kept { IsAsBefore (state S.Store connection.old) (state S.Store connection.new) }
     ensures gives_up { IfErr result (λ fault. fault ≡ F20) }
     ensures open { HasCleanDisk (state S.Store connection.new)
         → OnOk result (IsTrue (state S.Store connection.new).is_open) }
     ensures row { HasCleanDisk (state S.Store connection.new) → (lists : Lists)
         → IsKeeping (state S.Store connection.old) lists
-        → IfOk result (λ x. x ≡ find (is_receipt office receipt.now) lists.receipts) }
+        → IfOk result (λ x. x ≡ find (is_row_of_receipt office receipt.now) lists.receipts) }
     ensures mode { connection.new.in_transaction ≡ false }
 {
     let rows = ask(

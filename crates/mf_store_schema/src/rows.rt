@@ -2,7 +2,7 @@
 
 ghost use Rattle.std.specs.Prelude.{◌≡◌, ◌++◌, ◌∷◌, [], List, IfOk, IfErr, IfSome, IfNone};
 ghost use Rattle.mf_base.specs.declared.fault.Fault.TheVariants.{F20};
-ghost use Rattle.sqlite.specs.Order.{Row as SqlRow};
+ghost use Rattle.sqlite.specs.Order.{Row};
 ghost use Rattle.mf_store_schema.specs.Fields.{HasFields};
 ghost use Rattle.mf_store_schema.specs.Read.{AreRead};
 
@@ -29,7 +29,7 @@ pub(crate) fn with_row<T: Table + Drop>(
     records: Option<Vec<T>>,
     row: &Row,
 ) -> Result<Option<Vec<T>>, Fault>
-    ensures read { (rows : List SqlRow) → AreRead T.stored (T.columns).columns records rows
+    ensures read { (rows : List Row) → AreRead T.stored (T.columns).columns records rows
         → IfOk result (λ x. AreRead T.stored (T.columns).columns x (rows ++ row.now ∷ [])) }
     ensures gives_up { IfErr result (λ fault. fault ≡ F20) }
 {

@@ -7,7 +7,7 @@ ghost use Rattle.std.specs.Ordering.{is_eq};
 ghost use Rattle.mf_store_schema.specs.Tables.{shares};
 ghost use Rattle.mf_store_schema.specs.SharesTexts.{kept, fits, ordered, lists_by_2};
 ghost use Rattle.mf_store_schema.specs.Keys.{two_numbers, four_numbers};
-ghost use Rattle.mf_store_schema.specs.Rows.{by_share, share_row, put_share, is_share, is_share_of, drop_shares};
+ghost use Rattle.mf_store_schema.specs.Rows.{by_share, share_row, put_share, is_row_of_share, is_share_of, drop_shares};
 ghost use Rattle.mf_store_schema.specs.Writes.{Putting};
 ghost use Rattle.mf_store_schema.specs.Schemas.{IsPresent};
 ghost use Rattle.mf_store_schema.specs.Whole.{asked_present};
@@ -89,7 +89,7 @@ impl Table for ShareRow {
 
     ghost put = { put_share };
 
-    ghost is_at = { λ key. is_share key.0 key.1 key.2 key.3 };
+    ghost is_at = { λ key. is_row_of_share key.0 key.1 key.2 key.3 };
 
     fn read(row: &Row) -> Result<ShareRow, Error> {
         has_columns(row, 8)?;

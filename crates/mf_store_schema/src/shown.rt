@@ -5,7 +5,7 @@ ghost use Rattle.mf_base.specs.declared.fault.Fault.TheVariants.{F20};
 ghost use Rattle.sqlite.specs.Given.{HasGiven, IsPlain};
 ghost use Rattle.sqlite.specs.Held.{state};
 ghost use Rattle.sqlite.specs.Listing.{understood};
-ghost use Rattle.sqlite.specs.Order.{Row as SqlRow};
+ghost use Rattle.sqlite.specs.Order.{Row};
 ghost use Rattle.sqlite.specs.State.{HasCleanDisk, Survives};
 ghost use Rattle.mf_store_sql.specs.Queries.{Answers};
 ghost use Rattle.mf_store_schema.specs.Read.{AreRead};
@@ -22,8 +22,8 @@ fn read_rows<T: Table + Drop, S: Alter>(
     rows: &mut Rows<'_, S>,
 ) -> Result<Option<Vec<T>>, Fault>
     ensures same_reference { rows.new.conn.ghost_name ≡ rows.old.conn.ghost_name }
-    ensures read { HasCleanDisk (state S.Store rows.new.conn.now) → IfOk result (λ x. (shown : List SqlRow)
-        × AreRead T.stored (T.columns).columns x shown × ((sql : List ℕ) (params : SqlRow)
+    ensures read { HasCleanDisk (state S.Store rows.new.conn.now) → IfOk result (λ x. (shown : List Row)
+        × AreRead T.stored (T.columns).columns x shown × ((sql : List ℕ) (params : Row)
         → HasGiven S.Store sql params rows.old.conn.now []
         → Answers sql params (state S.Store rows.old.conn.now).now shown)) }
     ensures gives_up { IfErr result (λ fault. fault ≡ F20) }
@@ -59,7 +59,7 @@ pub(crate) fn read_shown<T: Table + Drop, S: Alter>(
     sql: &str,
 ) -> Result<Option<Vec<T>>, Fault>
     requires alone { connection.old.in_transaction ≡ false }
-    ensures read { HasCleanDisk (state S.Store connection.new) → IfOk result (λ x. (shown : List SqlRow)
+    ensures read { HasCleanDisk (state S.Store connection.new) → IfOk result (λ x. (shown : List Row)
         × AreRead T.stored (T.columns).columns x shown × Answers sql.now [] (state S.Store connection.old).now shown) }
     ensures gives_up { IfErr result (λ fault. fault ≡ F20) }
     ensures still_open { HasCleanDisk (state S.Store connection.new)

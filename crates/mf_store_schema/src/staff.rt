@@ -4,7 +4,7 @@ ghost use Rattle.std.specs.Ordering.{is_eq};
 ghost use Rattle.mf_store_schema.specs.Tables.{staff};
 ghost use Rattle.mf_store_schema.specs.StaffTexts.{kept, fits, ordered, lists_by_1, first_shows};
 ghost use Rattle.mf_store_schema.specs.Keys.{one_number, two_numbers};
-ghost use Rattle.mf_store_schema.specs.Rows.{by_staff, staff_row, put_staff, is_staff};
+ghost use Rattle.mf_store_schema.specs.Rows.{by_staff, staff_row, put_staff, is_row_of_staff};
 ghost use Rattle.mf_store_schema.specs.Rows.{is_staff_of};
 ghost use Rattle.mf_store_schema.specs.Schemas.{IsKnown};
 ghost use Rattle.mf_store_schema.specs.Whole.{asked_known};
@@ -73,7 +73,7 @@ impl Table for StaffRow {
 
     ghost put = { put_staff };
 
-    ghost is_at = { λ key. is_staff key.0 key.1 };
+    ghost is_at = { λ key. is_row_of_staff key.0 key.1 };
 
     fn read(row: &Row) -> Result<StaffRow, Error> {
         has_columns(row, 4)?;

@@ -5,7 +5,7 @@ ghost use Rattle.std.specs.Prelude.{true};
 ghost use Rattle.std.specs.declared.cmp.Ordering.{Ordering};
 ghost use Rattle.std.specs.Prelude.{map, filter, find, slice_get};
 ghost use Rattle.mf_base.specs.declared.fault.Fault.TheVariants.{F20};
-ghost use Rattle.sqlite.specs.Order.{Row as SqlRow};
+ghost use Rattle.sqlite.specs.Order.{Row};
 ghost use Rattle.sqlite.specs.Schema.{Schema};
 ghost use Rattle.sqlite.specs.Tree.{Trees};
 ghost use Rattle.sqlite.specs.Given.{IsPlain};
@@ -16,7 +16,7 @@ ghost use Rattle.sqlite.specs.Values.{bound};
 ghost use Rattle.mf_store_sql.specs.Columns.{Columns};
 ghost use Rattle.mf_store_sql.specs.Keep.{Keeps, put_item};
 ghost use Rattle.mf_store_sql.specs.Meanings.{IsKept, Asks, are_always};
-ghost use Rattle.mf_store_sql.specs.Rows.{AllFit, ArePlain, begins, first_cmp};
+ghost use Rattle.mf_store_sql.specs.Rows.{AreKeepable, ArePlain, begins, first_cmp};
 ghost use Rattle.mf_store_sql.specs.Texts.{select_text, insert_text, upsert_text};
 ghost use Rattle.mf_store_sql.specs.Trees.{AllHold, changed_at};
 ghost use Rattle.mf_store_sql.specs.Writes.{Ran, Serves};
@@ -25,8 +25,8 @@ ghost use Rattle.sqlite.specs.declared.error.ErrorCode.TheVariants.{OutOfMemory}
 ghost use Rattle.mf_store_schema.specs.Fields.{HasFields};
 ghost use Rattle.mf_store_schema.specs.Rows.{Lists, IsNew};
 ghost use Rattle.mf_store_schema.specs.Writes.{schema_of, Holds, HoldsLists, Putting, conditions, kept_in};
-ghost use Rattle.mf_store_schema.specs.Calls.{IsUnchanged, IsKeeping, Shows};
-ghost use Rattle.mf_store_schema.specs.Whole.{IsAsked};
+ghost use Rattle.mf_store_schema.specs.Calls.{IsAsBefore, IsKeeping, Shows};
+ghost use Rattle.mf_store_schema.specs.Whole.{IsAskable};
 
 use crate::text::Text;
 use mf_base::Fault;
@@ -36,7 +36,7 @@ use sqlite_value::value::ValueRef;
 
 /// The values of first columns, by which rows are looked for.
 pub trait Values {
-    ghost values: { Self → SqlRow };
+    ghost values: { Self → Row };
 
     /// How many columns these are.
     ghost width: { ℕ };
@@ -45,7 +45,7 @@ pub trait Values {
     fn ask<S: Alter>(self, connection: &mut Connection<S>, sql: &str) -> Result<Vec<Row>, Fault>
         requires alone { connection.old.in_transaction ≡ false }
         requires plain { IsPlain (understood schema sql.now) }
-        ensures kept { IsUnchanged (state S.Store connection.old) (state S.Store connection.new) }
+        ensures kept { IsAsBefore (state S.Store connection.old) (state S.Store connection.new) }
         ensures gives_up { IfErr result (λ fault. fault ≡ F20) }
         ensures open { HasCleanDisk (state S.Store connection.new)
             → OnOk result (IsTrue (state S.Store connection.new).is_open) }
@@ -171,7 +171,7 @@ pub trait Table: Sized {
     ghost IsUnder: { Schema → Type 0 };
 
     /// The values that the table keeps of a row.
-    ghost stored: { Self → SqlRow };
+    ghost stored: { Self → Row };
 
     /// The order of the rows.
     ghost by: { Self → Self → Ordering };
@@ -218,9 +218,9 @@ pub trait Table: Sized {
 
     ghost kept: { IsKept schema place tree columns };
 
-    ghost asked: { (k : Schema) → IsUnder k → IsAsked k place tree columns };
+    ghost asked: { (k : Schema) → IsUnder k → IsAskable k place tree columns };
 
-    ghost fits: { (x : Self) → AllFit columns.columns (stored x) };
+    ghost fits: { (x : Self) → AreKeepable columns.columns (stored x) };
 
     ghost ordered: { (a b : Self) → by a b ≡ first_cmp columns.key (stored a) (stored b) };
 
@@ -285,7 +285,7 @@ pub fn ask<S: Alter>(
 ) -> Result<Vec<Row>, Fault>
     requires alone { connection.old.in_transaction ≡ false }
     requires plain { IsPlain (understood schema sql.now) }
-    ensures kept { IsUnchanged (state S.Store connection.old) (state S.Store connection.new) }
+    ensures kept { IsAsBefore (state S.Store connection.old) (state S.Store connection.new) }
     ensures gives_up { IfErr result (λ fault. fault ≡ F20) }
     ensures open { HasCleanDisk (state S.Store connection.new)
         → OnOk result (IsTrue (state S.Store connection.new).is_open) }
@@ -357,7 +357,7 @@ pub fn find_row<T: Table, S: Alter>(
     key: T::Key,
 ) -> Result<Option<T>, Fault>
     requires alone { connection.old.in_transaction ≡ false }
-    ensures kept { IsUnchanged (state S.Store connection.old) (state S.Store connection.new) }
+    ensures kept { IsAsBefore (state S.Store connection.old) (state S.Store connection.new) }
     ensures gives_up { IfErr result (λ fault. fault ≡ F20) }
     ensures open { HasCleanDisk (state S.Store connection.new)
         → OnOk result (IsTrue (state S.Store connection.new).is_open) }
@@ -375,7 +375,7 @@ pub fn list_rows<T: Listed, S: Alter>(
     part: T::Part,
 ) -> Result<Vec<Row>, Fault>
     requires alone { connection.old.in_transaction ≡ false }
-    ensures kept { IsUnchanged (state S.Store connection.old) (state S.Store connection.new) }
+    ensures kept { IsAsBefore (state S.Store connection.old) (state S.Store connection.new) }
     ensures gives_up { IfErr result (λ fault. fault ≡ F20) }
     ensures open { HasCleanDisk (state S.Store connection.new)
         → OnOk result (IsTrue (state S.Store connection.new).is_open) }

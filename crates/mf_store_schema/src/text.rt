@@ -68,9 +68,9 @@ impl Text {
 }
 
 impl<'a> ToSql<'a> for &'a Text {
-    ghost use Rattle.sqlite_value.specs.declared.value.Value.TheVariants.{Text as Words};
+    ghost use Rattle.sqlite_value.specs.declared.value.Value.TheVariants.{Text};
 
-    ghost to_sql = { λ text. Words text.now };
+    ghost to_sql = { λ text. Text text.now };
 
     fn to_sql(self) -> ValueRef<'a> {
         ValueRef::Text(self.as_str().as_bytes())
@@ -79,12 +79,12 @@ impl<'a> ToSql<'a> for &'a Text {
 
 impl FromSql for Text {
     ghost use Rattle.std.specs.Prelude.{◌≡◌, IsUtf8};
-    ghost use Rattle.sqlite_value.specs.declared.value.Value.TheVariants.{Text as Words};
+    ghost use Rattle.sqlite_value.specs.declared.value.Value.TheVariants.{Text};
     ghost use Rattle.sqlite.specs.Values.{text_refusal};
 
-    ghost reads_as = { λ v text. v ≡ Words text };
+    ghost reads_as = { λ v text. v ≡ Text text };
 
-    ghost is_readable = { λ v. (t : _) × (v ≡ Words t) × IsUtf8 t };
+    ghost is_readable = { λ v. (t : _) × (v ≡ Text t) × IsUtf8 t };
 
     ghost refusal = { text_refusal };
 

@@ -24,7 +24,8 @@ fn make_account_tables<S: Alter>(tx: &mut Transaction<'_, S>) -> Result<(), Erro
     ensures same_reference { tx.new.conn.ghost_name ≡ tx.old.conn.ghost_name }
     ensures ok { HasCleanDisk (state S.Store tx.new.conn.now) → IsTrue (state S.Store tx.old.conn.now).in_transaction
         → OnOk result (Steps (Serves schema_kept HoldsKept) (FitsUpgrade UpgradeWrite.MakeAccountTables)
-        (after_upgrade UpgradeWrite.MakeAccountTables) (state S.Store tx.old.conn.now) (state S.Store tx.new.conn.now)) }
+        (after_upgrade UpgradeWrite.MakeAccountTables) (state S.Store tx.old.conn.now)
+        (state S.Store tx.new.conn.now)) }
     ensures kept { HasCleanDisk (state S.Store tx.new.conn.now) → KeepsCommit (state S.Store tx.old.conn.now)
         (state S.Store tx.new.conn.now) }
     ensures survives { Survives (state S.Store tx.old.conn.now) (state S.Store tx.new.conn.now) (λ _. ⊥) }

@@ -4,7 +4,7 @@ ghost use Rattle.std.specs.Prelude.{◌≡◌, List, [], false, map, IsTrue, OnO
 ghost use Rattle.std.specs.List.{AllByRecursion};
 ghost use Rattle.std.specs.declared.cmp.Ordering.TheVariants.{Less};
 ghost use Rattle.mf_base.specs.declared.fault.Fault.TheVariants.{F20};
-ghost use Rattle.sqlite.specs.Order.{Row as SqlRow};
+ghost use Rattle.sqlite.specs.Order.{Row};
 ghost use Rattle.sqlite.specs.Effect.{Database};
 ghost use Rattle.sqlite.specs.Given.{IsPlain};
 ghost use Rattle.sqlite.specs.Held.{state};
@@ -28,7 +28,7 @@ use std::alloc::Global;
 /// The text that shows a whole table, and what it means under each schema that has the table.
 pub fn whole_text<T: Table>() -> &'static str
     ensures plain { (k : Schema) → T.IsUnder k → IsPlain (understood k result.now) }
-    ensures shows { (db : Database) (rows : List SqlRow) → T.IsUnder db.schema → IsSound db.schema db.trees
+    ensures shows { (db : Database) (rows : List Row) → T.IsUnder db.schema → IsSound db.schema db.trees
         → Answers result.now [] db rows → ShowsTable T.stored T.by (db.trees T.tree) rows }
 {
     T::every_text()

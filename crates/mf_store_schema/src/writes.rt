@@ -80,7 +80,7 @@ fn make_tables<S: Alter>(tx: &mut Transaction<'_, S>) -> Result<(), Error>
 impl Write for StoreWrite {
     ghost use Rattle.std.specs.Prelude.{Option};
     ghost use Rattle.mf_store_schema.specs.Rows.{Lists};
-    ghost use Rattle.mf_store_schema.specs.Writes.{after, Fits};
+    ghost use Rattle.mf_store_schema.specs.Writes.{after_write, FitsLists};
 
     ghost Lists = { Option Lists };
 
@@ -88,9 +88,9 @@ impl Write for StoreWrite {
 
     ghost Holds = { Holds };
 
-    ghost Fits = { Fits };
+    ghost Fits = { FitsLists };
 
-    ghost after = { after };
+    ghost after = { after_write };
 
     fn write<S: Alter>(&self, tx: &mut Transaction<'_, S>) -> Result<(), Error> {
         match self {

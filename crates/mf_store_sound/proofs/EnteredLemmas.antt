@@ -1,9 +1,10 @@
 -- The entries of one loan, by their rows.
-use Rattle.std.proofs.Common.{◌≡◌, ◌<◌, ◌≤◌, ◌+◌, ◌∙◌, ℕ, zero, suc, Bool, List, [], ◌∷◌, map, length, IsTrue, sym, ap}
-use Rattle.std.proofs.Common.{subst, arith, All}
+use Rattle.std.proofs.Common.{◌≡◌, ◌↔◌, ◌<◌, ◌≤◌, ◌+◌, ◌∙◌, ℕ, zero, suc, Bool, List, [], ◌∷◌, map, length, IsTrue}
+use Rattle.std.proofs.Common.{refl, sym}
+use Rattle.std.proofs.Common.{ap, subst, arith}
 use Rattle.std.specs.List.{AllByRecursion}
 use Rattle.std.proofs.lemmas.List.{length-map}
-use Rattle.std.proofs.lemmas.List.Elements.{All-nil, All-cons, All-head, All-tail}
+use Rattle.std.proofs.lemmas.List.Elements.{All-from_recursion, recursion_from_All}
 use Rattle.sqlite_keyed.proofs.ListLemmas.{all_weaker}
 use Rattle.mf_account.specs.declared.entry.Entry.{Entry}
 use Rattle.mf_account.specs.Lawful.{are_seals_last}
@@ -11,98 +12,94 @@ use Rattle.mf_account.specs.Loan.{IsEntry}
 use Rattle.mf_account.specs.Standing.{entry_at}
 use Rattle.mf_account.proofs.LawfulLemmas.{seals_last, seals_pass}
 use Rattle.mf_store_schema.specs.declared.entries.EntryRow.{EntryRow}
+use Rattle.mf_store_values.specs.Flat.{entry_in}
 use Rattle.mf_store_values.specs.Ledgers.{IsReadable, IsEnteredBy}
 use Rattle.mf_store_sound.specs.Entries.{IsEntryRow, AreLoanEntries}
-use Rattle.mf_store_values.specs.Flat.{entry_in}
 use Rattle.mf_store_sound.specs.Stored.{AllFrom}
-use Rattle.mf_store_sound.proofs.EntryLemmas.{IsPlainEntry, gathered, parted}
 
-abbrev HasNumber : ℕ → Entry → Type 0
-HasNumber number e = e.seq ≡ number
+module _ (today day n x m : ℕ) where
+  abbrev IsOne : ℕ → EntryRow → Type 0
+  IsOne = IsEntryRow today day n x m
 
-numbers_at : (first : ℕ) (es : List Entry) → AllFrom HasNumber first es → (i : ℕ) → i < length es → (entry_at es i).seq
-    ≡ first + i
-numbers_at first [] all i below = absurd (omega (arith, below))
-numbers_at first (e ∷ es) all zero below = let own : e.seq ≡ first = all.0 in omega (arith, own)
-numbers_at first (e ∷ es) all (suc i) below = let more : (entry_at es i).seq ≡ (first + 1) + i =
-    numbers_at (first + 1) es all.1 i (omega (arith, below)) in omega (arith, more)
+  abbrev AreNumberedFrom : ℕ → List Entry → Type 0
+  AreNumberedFrom first es = (i : ℕ) → i < length es → (entry_at es i).seq ≡ i + first
 
-numbers_from : (first : ℕ) (es : List Entry) → ((i : ℕ) → i < length es → (entry_at es i).seq ≡ first + i)
-    → AllFrom HasNumber first es
-numbers_from first [] each = tt
-numbers_from first (e ∷ es) each =
-    let own : e.seq ≡ first + 0 = each 0 (omega arith) in (
-      omega (arith, own),
-      numbers_from (first + 1) es (λ i below. let more : (entry_at es i).seq ≡ first
-          + suc i = each (suc i) (omega (arith, below)) in omega (arith, more)),
-    )
+  -- the rows are those of such entries, the first with this number; how they stand to each other is left open
+  record AreEntryRows (first : ℕ) (rows : List EntryRow) : Type 0 where
+    entries : List Entry
+    numbers : AreNumberedFrom first entries
+    lawful : AllByRecursion (IsEntry n day) entries
+    each : AllByRecursion (IsEnteredBy today) entries
+    rows_are : map (entry_in x m) entries ≡ rows
 
-module _ (today day n : ℕ) where
-  lawful_all : (es : List Entry) → AllByRecursion (IsPlainEntry today day n) es → All (IsEntry n day) es
-  lawful_all [] all = All-nil (IsEntry n day)
-  lawful_all (e ∷ es) all = All-cons (IsEntry n day) e es all.0.lawful (lawful_all es all.1)
+  gathered : (first : ℕ) (rows : List EntryRow) → AllFrom IsOne first rows → AreEntryRows first rows
+  gathered first [] all =
+      record { entries = []; numbers = λ i below. absurd (omega arith); lawful = tt; each = tt; rows_are = refl }
+  gathered first (r ∷ rs) all =
+      let h = all.0 in
+      let more = gathered (first + 1) rs all.1 in
+      record {
+        entries = h.entry ∷ more.entries;
+        numbers = elim [
+          | zero ↦ λ below. (let own = h.own in omega (arith, own))
+          | suc i ↦ λ below. (let own = more.numbers i (omega arith) in omega (arith, own))
+        ];
+        lawful = (h.lawful, more.lawful);
+        each = (record { readable = h.readable; entered = h.entered; receipt = h.receipt }, more.each);
+        rows_are = λ k. h.row_is k ∷ more.rows_are k;
+      }
 
-  entered_all : (es : List Entry) → AllByRecursion (IsPlainEntry today day n) es → AllByRecursion (IsEnteredBy today) es
-  entered_all es all = all_weaker (IsPlainEntry today day n) (IsEnteredBy today)
-      (λ e h. record { readable = h.readable; entered = h.entered; receipt = h.receipt }) es all
-
-  plain_all : (es : List Entry) → All (IsEntry n day) es → AllByRecursion (IsEnteredBy today) es
-      → AllByRecursion (IsPlainEntry today day n) es
-  plain_all [] lawful all = tt
-  plain_all (e ∷ es) lawful all = (
+  parted : (first : ℕ) (es : List Entry) → AreNumberedFrom first es → AllByRecursion (IsEntry n day) es
+      → AllByRecursion (IsEnteredBy today) es → AllFrom IsOne first (map (entry_in x m) es)
+  parted first [] numbers lawful each = tt
+  parted first (e ∷ es) numbers lawful each = (
     record {
-      readable = all.0.readable;
-      lawful = All-head (IsEntry n day) e es lawful;
-      entered = all.0.entered;
-      receipt = all.0.receipt;
+      entry = e;
+      readable = each.0.readable;
+      own = (let own = numbers 0 (omega arith) in omega (arith, own));
+      lawful = lawful.0;
+      entered = each.0.entered;
+      receipt = each.0.receipt;
+      row_is = refl;
     },
-    plain_all es (All-tail (IsEntry n day) e es lawful) all.1,
+    parted (first + 1) es (λ i below. (let own = numbers (suc i) (omega arith) in omega (arith, own))) lawful.1 each.1,
   )
 
-  readable_all : (es : List Entry) → AllByRecursion (IsPlainEntry today day n) es → AllByRecursion IsReadable es
-  readable_all es all = all_weaker (IsPlainEntry today day n) IsReadable (λ e h. h.readable) es all
-
-  module _ (x m : ℕ) (rows : List EntryRow) where
+  module _ (rows : List EntryRow) where
     -- what the test of the seals says of the entries
     abbrev Seals : Bool → Type 0
     Seals b = (x m : ℕ) (entries : List Entry) → AllByRecursion IsReadable entries → map (entry_in x m) entries ≡ rows
         → b ≡ are_seals_last entries
 
-    abbrev pub AreNumbered : Type 0
-    AreNumbered = (length rows ≤ 9999) × AllFrom (IsEntryRow today day n x m) 1 rows
+    told : (b : Bool) → Seals b → (es : List Entry) → AllByRecursion (IsEnteredBy today) es → map (entry_in x m) es
+        ≡ rows → b ≡ are_seals_last es
+    told b seals es each is = seals x m es (all_weaker (IsEnteredBy today) IsReadable (λ e h. h.readable) es each) is
 
-    pub loan_entries : (b : Bool) → AreNumbered → Seals b → IsTrue b → AreLoanEntries today day n x m rows
-    loan_entries b h seals t =
-        let r = gathered today day n x m 1 rows h.1 in
-        let many : length r.entries ≡ length rows = sym (length-map r.entries (entry_in x m)) ∙ ap length r.rows_are in
-        let numbers : (i : ℕ) → i < length r.entries → (entry_at r.entries i).seq ≡ i + 1 =
-        λ i below. (let own = numbers_at 1 r.entries r.numbers i below in omega (arith, own)) in
-        record {
-          entries = r.entries;
-          lawful = record {
-            numbers = numbers;
-            few = subst (λ k. k ≤ 9999) (sym many) h.0;
-            each = lawful_all r.entries r.each;
-            seal_last = seals_last r.entries numbers (sym (seals x m r.entries (readable_all r.entries r.each)
-                r.rows_are) ∙ t);
-          };
-          each = entered_all r.entries r.each;
-          rows_are = r.rows_are;
-        }
+    abbrev pub AreNumbered : Type 0
+    AreNumbered = (length rows ≤ 9999) × AllFrom IsOne 1 rows
 
     pub entry_rows_of : AreLoanEntries today day n x m rows → AreNumbered
-    entry_rows_of h =
-        let many : length h.entries ≡ length rows =
-        sym (length-map h.entries (entry_in x m)) ∙ ap length h.rows_are in (
-          subst (λ k. k ≤ 9999) many h.lawful.few,
-          parted today day n x m 1 rows (record {
-            entries = h.entries;
-            numbers = numbers_from 1 h.entries (λ i below. let own = h.lawful.numbers i below in omega (arith, own));
-            each = plain_all h.entries h.lawful.each h.each;
-            rows_are = h.rows_are;
-          }),
-        )
+    entry_rows_of h = (
+      omega (arith, length-map h.entries (entry_in x m), ap length h.rows_are, h.lawful.few),
+      subst (AllFrom IsOne 1) h.rows_are (parted 1 h.entries h.lawful.numbers
+          (recursion_from_All (IsEntry n day) h.entries h.lawful.each) h.each),
+    )
 
-    pub seals_of : (b : Bool) → Seals b → AreLoanEntries today day n x m rows → IsTrue b
-    seals_of b seals h = seals x m h.entries (readable_all h.entries (plain_all h.entries h.lawful.each h.each))
-        h.rows_are ∙ seals_pass h.entries h.lawful.numbers h.lawful.seal_last
+    pub loan_entries : (b : Bool) → Seals b → AreNumbered → IsTrue b ↔ AreLoanEntries today day n x m rows
+    loan_entries b seals h = (
+      λ t.
+          let r = gathered 1 rows h.1 in
+          record {
+            entries = r.entries;
+            lawful = record {
+              numbers = r.numbers;
+              few = omega (arith, length-map r.entries (entry_in x m), ap length r.rows_are, h.0);
+              each = All-from_recursion (IsEntry n day) r.entries r.lawful;
+              seal_last = seals_last r.entries r.numbers (sym (told b seals r.entries r.each r.rows_are) ∙ t);
+            };
+            each = r.each;
+            rows_are = r.rows_are;
+          },
+      λ are. told b seals are.entries are.each are.rows_are ∙ seals_pass are.entries are.lawful.numbers
+          are.lawful.seal_last,
+    )

@@ -1,11 +1,11 @@
 pub mod TableLemmas
 pub mod StoredLemmas
+pub mod SearchLemmas
 pub mod RowLemmas
 pub mod ProductLemmas
 pub mod OfficeRowLemmas
 pub mod OfficeTreeLemmas
 pub mod LoanLemmas
-pub mod EntryLemmas
 pub mod SealLemmas
 pub mod EnteredLemmas
 pub mod StaffLemmas

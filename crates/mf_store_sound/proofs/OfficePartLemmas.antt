@@ -1,9 +1,10 @@
 -- Rows of one office after another: apart and together.
-use Rattle.std.proofs.Common.{◌≡◌, ◌↔◌, ◌<◌, ◌≤◌, ◌+◌, ◌∙◌, ℕ, suc, List, [], ◌∷◌, ◌++◌, map, length, get_or, drop}
-use Rattle.std.proofs.Common.{refl, sym, ap, subst}
+use Rattle.std.proofs.Common.{◌≡◌, ◌↔◌, ◌<◌, ◌≤◌, ◌+◌, ◌∙◌, ℕ, List, [], ◌∷◌, ◌++◌, map, length, get_or, drop, refl}
+use Rattle.std.proofs.Common.{sym, ap, subst, arith}
 use Rattle.std.specs.List.{AllByRecursion}
-use Rattle.std.proofs.lemmas.List.{drop_all, take-append-drop, length-map}
-use Rattle.mf_model.specs.Institution.{Catalogue, Ledger, Office, Staff}
+use Rattle.std.proofs.lemmas.List.{take-append-drop, length-map}
+use Rattle.sqlite_keyed.proofs.ListLemmas.{ascending_from_map}
+use Rattle.mf_model.specs.Institution.{Catalogue, Ledger, Office, Rows, Staff}
 use Rattle.mf_model.specs.Sound.{IsName}
 use Rattle.mf_model.specs.Tree.{Above, Ascending}
 use Rattle.mf_store_schema.specs.declared.clients.ClientRow.{ClientRow}
@@ -14,67 +15,36 @@ use Rattle.mf_store_schema.specs.declared.staff.StaffRow.{StaffRow}
 use Rattle.mf_store_values.specs.Flat.{numbered_from, all_rows, rows_of_loans, entry_rows, own_entries, loans_of}
 use Rattle.mf_store_values.specs.Flat.{staff_in, client_in, loan_in, entry_in}
 use Rattle.mf_store_values.specs.Parts.{own_count, own, later, office_of, bare}
-use Rattle.mf_store_sound.specs.Sound.{AreLoanParts, IsPlainRows, IsOfficePart, AreOfficeParts}
-use Rattle.mf_store_sound.specs.Stored.{IsRowOf, AllFrom}
-use Rattle.mf_store_values.proofs.PartLemmas.{own_of_first, later_of_first, own_of_office, later_of_office}
 use Rattle.mf_store_values.proofs.MadeLemmas.{at_row}
-use Rattle.mf_store_sound.proofs.StoredLemmas.{gathered, parted}
+use Rattle.mf_store_values.proofs.PartLemmas.{own_of_first, later_of_first, own_of_office, later_of_office}
+use Rattle.mf_store_sound.specs.Sound.{AreLoanParts, IsPlainRows, IsOfficePart, AreOfficeParts}
+pub use Rattle.mf_store_sound.proofs.StoredLemmas.{length_numbered}
+use Rattle.mf_store_sound.proofs.StoredLemmas.{AreRowsOf}
 
-pub length_numbered : {A R : Type 0} (make : ℕ → A → R) (n : ℕ) (xs : List A) → length (numbered_from make n xs)
-    ≡ length xs
-length_numbered make n [] = refl
-length_numbered make n (x ∷ xs) = ap suc (length_numbered make (n + 1) xs)
+-- ---- what an office's part is made of
 
 loans_counted : (x : ℕ) (ls : List Ledger) (loans : List LoanRow)
     → numbered_from (loan_in x) 1 (map (λ (l : Ledger). l.loan) ls) ≡ loans → length ls ≡ length loans
 loans_counted x ls loans is = sym (length-map ls (λ (l : Ledger). l.loan))
     ∙ sym (length_numbered (loan_in x) 1 (map (λ (l : Ledger). l.loan) ls)) ∙ ap length is
 
--- ---- what an office's part is made of
-
 module _ (k : Catalogue) (x : ℕ) (staff : List StaffRow) (clients : List ClientRow) (loans : List LoanRow)
     (entries : List EntryRow) where
-  abbrev pub AreStaff : Type 0
-  AreStaff = (length staff ≤ 9999) × AllFrom (IsRowOf (staff_in x) (λ (s : Staff). IsName s.name)) 1 staff
-
-  abbrev pub AreClients : Type 0
-  AreClients = (length clients ≤ 999999) × AllFrom (IsRowOf (client_in x) IsName) 1 clients
-
-  pub staff_part : IsOfficePart k x staff clients loans entries → AreStaff
-  staff_part p = (
-    subst (λ n. n ≤ 9999) (sym (length_numbered (staff_in x) 1 p.rows.staff) ∙ ap length p.staff_are)
-        p.plain.staff_limit,
-    parted (staff_in x) (λ (s : Staff). IsName s.name) 1 p.rows.staff staff p.plain.staff_names
-        p.staff_are,
-  )
-
-  pub clients_part : IsOfficePart k x staff clients loans entries → AreClients
-  clients_part p = (
-    subst (λ n. n ≤ 999999) (sym (length_numbered (client_in x) 1 p.rows.clients)
-        ∙ ap length p.clients_are) p.plain.client_limit,
-    parted (client_in x) IsName 1 p.rows.clients clients
-        p.plain.client_names p.clients_are,
-  )
-
-  pub office_part : (B : Type 0) → AreStaff → AreClients → ((names : List (List ℕ)) → length names ≡ length clients → B
+  pub office_part : (B : Type 0) → AreRowsOf (staff_in x) (λ (s : Staff). IsName s.name) 9999 staff
+      → AreRowsOf (client_in x) IsName 999999 clients → ((names : List (List ℕ)) → length names ≡ length clients → B
       ↔ ((length loans ≤ 999999) × AreLoanParts k names x 1 loans entries)) → B ↔ IsOfficePart k x staff clients loans
       entries
-  office_part B s_all c_all l = (
+  office_part B s c l = (
     λ yes.
-        let s = gathered (staff_in x) (λ (s : Staff). IsName s.name) 1 staff s_all.1 in
-        let c = gathered (client_in x) IsName 1 clients c_all.1 in
-        let many : length c.values ≡ length clients =
-        sym (length_numbered (client_in x) 1 c.values) ∙ ap length c.rows_are in
-        let lent = (l c.values many).0 yes in
+        let lent = (l c.values (sym (length_numbered (client_in x) 1 c.values) ∙ ap length c.rows_are)).0 yes in
         record {
           rows = record { staff = s.values; clients = c.values; loans = lent.1.ledgers };
           plain = record {
-            staff_limit = subst (λ n. n ≤ 9999) (ap length (sym s.rows_are) ∙ length_numbered (staff_in x) 1 s.values)
-                s_all.0;
+            staff_limit = s.few;
             staff_names = s.pass;
-            client_limit = subst (λ n. n ≤ 999999) (sym many) c_all.0;
+            client_limit = c.few;
             client_names = c.pass;
-            loan_limit = subst (λ n. n ≤ 999999) (sym (loans_counted x lent.1.ledgers loans lent.1.loans_are)) lent.0;
+            loan_limit = omega (arith, loans_counted x lent.1.ledgers loans lent.1.loans_are, lent.0);
             loans = lent.1.each;
           };
           staff_are = s.rows_are;
@@ -82,11 +52,9 @@ module _ (k : Catalogue) (x : ℕ) (staff : List StaffRow) (clients : List Clien
           loans_are = lent.1.loans_are;
           entries_are = lent.1.entries_are;
         },
-    λ part.
-        let many : length part.rows.clients ≡ length clients = sym (length_numbered (client_in x) 1 part.rows.clients)
-        ∙ ap length part.clients_are in
-        (l part.rows.clients many).1 (
-          subst (λ n. n ≤ 999999) (loans_counted x part.rows.loans loans part.loans_are) part.plain.loan_limit,
+    λ part. (l part.rows.clients (sym (length_numbered (client_in x) 1 part.rows.clients)
+        ∙ ap length part.clients_are)).1 (
+          omega (arith, loans_counted x part.rows.loans loans part.loans_are, part.plain.loan_limit),
           record {
             ledgers = part.rows.loans;
             each = part.plain.loans;
@@ -96,11 +64,7 @@ module _ (k : Catalogue) (x : ℕ) (staff : List StaffRow) (clients : List Clien
         ),
   )
 
--- ---- offices with their rows
-
-pub above_bare : (n : ℕ) (fs : List Office) → Above n (map bare fs) → Above n fs
-above_bare n [] h = tt
-above_bare n (f ∷ fs) h = (h.0, above_bare n fs h.1)
+-- ---- the rows of four tables, as one
 
 abbrev of_staff : StaffRow → ℕ
 of_staff r = r.office
@@ -114,204 +78,149 @@ of_loan r = r.office
 abbrev pub of_entry : EntryRow → ℕ
 of_entry r = r.office
 
+-- rows of staff, clients, loans and entries
+abbrev pub Four : Type 0
+Four = List StaffRow × List ClientRow × List LoanRow × List EntryRow
+
+-- those of one office
+abbrev block : ℕ → Rows → Four
+block x rows = (
+  numbered_from (staff_in x) 1 rows.staff,
+  numbered_from (client_in x) 1 rows.clients,
+  numbered_from (loan_in x) 1 (loans_of rows),
+  rows_of_loans entry_in own_entries x 1 rows.loans,
+)
+
+-- those of all
+abbrev blocks : List Office → Four
+blocks fs = (
+  all_rows staff_in (λ own. own.staff) fs,
+  all_rows client_in (λ own. own.clients) fs,
+  all_rows loan_in loans_of fs,
+  entry_rows fs,
+)
+
+-- the first ones, which are an office's, and the later ones
+abbrev own_four : ℕ → Four → Four
+own_four x t = (own of_staff x t.0, own of_client x t.1, own of_loan x t.2, own of_entry x t.3)
+
+abbrev later_four : ℕ → Four → Four
+later_four x t = (later of_staff x t.0, later of_client x t.1, later of_loan x t.2, later of_entry x t.3)
+
+abbrev pub IsOwn : ℕ → Four → Four → Type 0
+IsOwn x t first = (first.0 ≡ own of_staff x t.0) × (first.1 ≡ own of_client x t.1) × (first.2 ≡ own of_loan x t.2)
+    × (first.3 ≡ own of_entry x t.3)
+
+abbrev pub IsLater : ℕ → Four → Four → Type 0
+IsLater x t more = (more.0 ≡ later of_staff x t.0) × (more.1 ≡ later of_client x t.1) × (more.2 ≡ later of_loan x t.2)
+    × (more.3 ≡ later of_entry x t.3)
+
+abbrev joined : Four → Four → Four
+joined s t = (s.0 ++ t.0, s.1 ++ t.1, s.2 ++ t.2, s.3 ++ t.3)
+
+whole_is : (x : ℕ) (t first more : Four) → IsOwn x t first → IsLater x t more → joined first more ≡ t
+whole_is x t first more p q = λ i. (
+  ((λ j. p.0 j ++ q.0 j) ∙ take-append-drop (own_count of_staff x t.0) t.0) i,
+  ((λ j. p.1 j ++ q.1 j) ∙ take-append-drop (own_count of_client x t.1) t.1) i,
+  ((λ j. p.2 j ++ q.2 j) ∙ take-append-drop (own_count of_loan x t.2) t.2) i,
+  ((λ j. p.3 j ++ q.3 j) ∙ take-append-drop (own_count of_entry x t.3) t.3) i,
+)
+
+own_is : (f : Office) (fs : List Office) → Above f.number fs → own_four f.number (blocks (f ∷ fs)) ≡ block f.number
+    f.rows
+own_is f fs above = λ t. (
+  own_of_first staff_in (λ own. own.staff) of_staff (λ x n b. refl) f fs above t,
+  own_of_first client_in (λ own. own.clients) of_client (λ x n b. refl) f fs above t,
+  own_of_first loan_in loans_of of_loan (λ x n b. refl) f fs above t,
+  own_of_office entry_in own_entries of_entry (λ x n b. refl) f fs above t,
+)
+
+later_is : (f : Office) (fs : List Office) → Above f.number fs → later_four f.number (blocks (f ∷ fs)) ≡ blocks fs
+later_is f fs above = λ t. (
+  later_of_first staff_in (λ own. own.staff) of_staff (λ x n b. refl) f fs above t,
+  later_of_first client_in (λ own. own.clients) of_client (λ x n b. refl) f fs above t,
+  later_of_first loan_in loans_of of_loan (λ x n b. refl) f fs above t,
+  later_of_office entry_in own_entries of_entry (λ x n b. refl) f fs above t,
+)
+
+-- ---- offices with their rows
+
 module _ (k : Catalogue) where
-  pub no_parts : AreOfficeParts k [] [] [] [] []
-  no_parts = record {
-    offices = [];
-    theirs = refl;
-    plain = tt;
-    staff_are = refl;
-    clients_are = refl;
-    loans_are = refl;
-    entries_are = refl;
+  abbrev pub IsPart : ℕ → Four → Type 0
+  IsPart x t = IsOfficePart k x t.0 t.1 t.2 t.3
+
+  abbrev pub AreParts : List OfficeRow → Four → Type 0
+  AreParts os t = AreOfficeParts k os t.0 t.1 t.2 t.3
+
+  part_of : (x : ℕ) (t : Four) (rows : Rows) → IsPlainRows k rows → block x rows ≡ t → IsPart x t
+  part_of x t rows plain are = record {
+    rows = rows;
+    plain = plain;
+    staff_are = λ i. (are i).0;
+    clients_are = λ i. (are i).1;
+    loans_are = λ i. (are i).2;
+    entries_are = λ i. (are i).3;
   }
 
-  abbrev pub IsNothing : List StaffRow → List ClientRow → List LoanRow → List EntryRow → Type 0
-  IsNothing staff clients loans entries = (staff ≡ []) × (clients ≡ []) × (loans ≡ []) × (entries ≡ [])
-
-  pub nothing_of_offices : (staff : List StaffRow) (clients : List ClientRow) (loans : List LoanRow)
-      (entries : List EntryRow) → AreOfficeParts k [] staff clients loans entries
-      → IsNothing staff clients loans entries
-  nothing_of_offices staff clients loans entries h =
-      go h.offices h.theirs h.staff_are h.clients_are h.loans_are h.entries_are
-    where
-      go : (fs : List Office) → map bare fs ≡ [] → all_rows staff_in (λ own. own.staff) fs ≡ staff
-          → all_rows client_in (λ own. own.clients) fs ≡ clients → all_rows loan_in loans_of fs ≡ loans → entry_rows fs
-          ≡ entries → IsNothing staff clients loans entries
-      go [] t s c l e = (sym s, sym c, sym l, sym e)
-      go (f ∷ fs) t s c l e = absurd (cc)
-
-  module _ (o : OfficeRow) (os : List OfficeRow) (staff : List StaffRow) (clients : List ClientRow)
-      (loans : List LoanRow) (entries : List EntryRow) where
-    abbrev pub First : Type 0
-    First = IsOfficePart k o.number (own of_staff o.number staff) (own of_client o.number clients)
-        (own of_loan o.number loans) (own of_entry o.number entries)
-
-    abbrev pub Others : Type 0
-    Others = AreOfficeParts k os (later of_staff o.number staff) (later of_client o.number clients)
-        (later of_loan o.number loans) (later of_entry o.number entries)
-
-    pub parts_apart : Above o.number (map office_of os) → AreOfficeParts k (o ∷ os) staff clients loans entries → First
-        × Others
-    parts_apart up h = go h.offices h.theirs h.plain h.staff_are h.clients_are h.loans_are h.entries_are
-      where
-        go : (fs : List Office) → map bare fs ≡ office_of o ∷ map office_of os
-            → AllByRecursion (λ (f : Office). IsPlainRows k f.rows) fs → all_rows staff_in (λ own. own.staff) fs ≡ staff
-            → all_rows client_in (λ own. own.clients) fs ≡ clients → all_rows loan_in loans_of fs ≡ loans
-            → entry_rows fs ≡ entries → First × Others
-        go [] t a s c l e = absurd (cc)
-        go (f ∷ fs) t a s c l e =
-            let head : bare f ≡ office_of o = cc in
-            let others : map bare fs ≡ map office_of os = cc in
-            let number : f.number ≡ o.number = ap (λ (g : Office). g.number) head in
-            let above : Above f.number fs = above_bare f.number fs (subst (λ n. Above n (map bare fs)) (sym number)
-            (subst (Above o.number) (sym others) up)) in (
-              record {
-                rows = f.rows;
-                plain = a.0;
-                staff_are = (λ t. numbered_from (staff_in (sym number t)) 1 f.rows.staff)
-                    ∙ sym (own_of_first staff_in (λ own. own.staff) of_staff (λ x n b. refl) f fs above)
-                    ∙ (λ t. own of_staff (number t) (s t));
-                clients_are = (λ t. numbered_from (client_in (sym number t)) 1 f.rows.clients)
-                    ∙ sym (own_of_first client_in (λ own. own.clients) of_client (λ x n b. refl) f fs above)
-                    ∙ (λ t. own of_client (number t) (c t));
-                loans_are = (λ t. numbered_from (loan_in (sym number t)) 1 (loans_of f.rows))
-                    ∙ sym (own_of_first loan_in loans_of of_loan (λ x n b. refl) f fs above)
-                    ∙ (λ t. own of_loan (number t) (l t));
-                entries_are = (λ t. rows_of_loans entry_in own_entries (sym number t) 1 f.rows.loans)
-                    ∙ sym (own_of_office entry_in own_entries of_entry (λ x n b. refl) f fs above)
-                    ∙ (λ t. own of_entry (number t) (e t));
-              },
-              record {
-                offices = fs;
-                theirs = others;
-                plain = a.1;
-                staff_are = sym (later_of_first staff_in (λ own. own.staff) of_staff (λ x n b. refl) f fs above)
-                    ∙ (λ t. later of_staff (number t) (s t));
-                clients_are = sym (later_of_first client_in (λ own. own.clients) of_client (λ x n b. refl) f fs above)
-                    ∙ (λ t. later of_client (number t) (c t));
-                loans_are = sym (later_of_first loan_in loans_of of_loan (λ x n b. refl) f fs above)
-                    ∙ (λ t. later of_loan (number t) (l t));
-                entries_are = sym (later_of_office entry_in own_entries of_entry (λ x n b. refl) f fs above)
-                    ∙ (λ t. later of_entry (number t) (e t));
-              },
-            )
-
-    pub parts_together : First → Others → AreOfficeParts k (o ∷ os) staff clients loans entries
-    parts_together h more = record {
-      offices = record { number = o.number; parent = o.parent; name = o.name; rows = h.rows } ∷ more.offices;
-      theirs = λ t. office_of o ∷ more.theirs t;
-      plain = (h.plain, more.plain);
-      staff_are = (λ t. h.staff_are t ++ more.staff_are t) ∙ take-append-drop (own_count of_staff o.number staff) staff;
-      clients_are = (λ t. h.clients_are t ++ more.clients_are t)
-          ∙ take-append-drop (own_count of_client o.number clients) clients;
-      loans_are = (λ t. h.loans_are t ++ more.loans_are t) ∙ take-append-drop (own_count of_loan o.number loans) loans;
-      entries_are =
-          (λ t. h.entries_are t ++ more.entries_are t) ∙ take-append-drop (own_count of_entry o.number entries) entries;
-    }
-
-  pub ascends_on : (rows : List OfficeRow) (i : ℕ) (o : OfficeRow) → i < length rows → o ≡ get_or rows i o
-      → Ascending (map office_of (drop i rows)) → Ascending (map office_of (drop (i + 1) rows))
-  ascends_on rows i o h is up = (subst (λ os. Ascending (map office_of os)) (at_row rows i o h is) up).1
-
-  module _ (rows : List OfficeRow) (i : ℕ) (o : OfficeRow) (staff : List StaffRow) (clients : List ClientRow)
-      (loans : List LoanRow) (entries : List EntryRow) (h : i < length rows) (is : o ≡ get_or rows i o)
-      (up : Ascending (map office_of (drop i rows))) where
-    above_here : Above o.number (map office_of (drop (i + 1) rows))
-    above_here = (subst (λ os. Ascending (map office_of os)) (at_row rows i o h is) up).0
-
-    -- the office at i has its part, so all have theirs where the later ones have
-    pub part_passed : (X : Type 0) → First o (drop (i + 1) rows) staff clients loans entries
-        → (X ↔ AreOfficeParts k (drop i rows) staff clients loans entries) → X ↔ Others o (drop (i + 1) rows) staff
-        clients loans entries
-    part_passed X first so_far = (
-      λ x. (parts_apart o (drop (i + 1) rows) staff clients loans entries above_here
-          (subst (λ os. AreOfficeParts k os staff clients loans entries) (at_row rows i o h is) (so_far.0 x))).1,
-      λ more. so_far.1 (subst (λ os. AreOfficeParts k os staff clients loans entries) (sym (at_row rows i o h is))
-          (parts_together o (drop (i + 1) rows) staff clients loans entries first more)),
-    )
-
-    -- the office at i has not
-    pub part_refused : (X : Type 0) → (First o (drop (i + 1) rows) staff clients loans entries → ⊥)
-        → (X ↔ AreOfficeParts k (drop i rows) staff clients loans entries) → X → ⊥
-    part_refused X none so_far x =
-        none (parts_apart o (drop (i + 1) rows) staff clients loans entries above_here
-        (subst (λ os. AreOfficeParts k os staff clients loans entries) (at_row rows i o h is) (so_far.0 x))).0
-
-  -- each office had its part, and nothing is left
-  pub parts_passed : (X : Type 0) (rows : List OfficeRow) (i : ℕ) (staff : List StaffRow) (clients : List ClientRow)
-      (loans : List LoanRow) (entries : List EntryRow) (B : Type 0) → length rows ≤ i
-      → (X ↔ AreOfficeParts k (drop i rows) staff clients loans entries)
-      → (B ↔ IsNothing staff clients loans entries) → B ↔ X
-  parts_passed X rows i staff clients loans entries B h so_far nothing =
-      let done = drop_all i rows h in (
-        λ yes.
-            let none = nothing.0 yes in
-            so_far.1 (subst (λ os. AreOfficeParts k os staff clients loans entries) (sym done) (
-            record {
-              offices = [];
-              theirs = refl;
-              plain = tt;
-              staff_are = sym none.0;
-              clients_are = sym none.1;
-              loans_are = sym none.2;
-              entries_are = sym none.3;
-            }
-            )),
-        λ x. nothing.1 (nothing_of_offices staff clients loans entries
-            (subst (λ os. AreOfficeParts k os staff clients loans entries) done (so_far.0 x))),
-      )
-
--- ---- the same of rows that are equal
-
-module _ (k : Catalogue) (o : OfficeRow) (os : List OfficeRow) (staff : List StaffRow) (s : List StaffRow)
-    (clients : List ClientRow) (c : List ClientRow) (loans : List LoanRow) (l : List LoanRow) (entries : List EntryRow)
-    (e : List EntryRow) where
-  pub as_first : s ≡ own of_staff o.number staff → c ≡ own of_client o.number clients → l ≡ own of_loan o.number loans
-      → e ≡ own of_entry o.number entries → IsOfficePart k o.number s c l e → First k o os staff clients loans entries
-  as_first p q r t h = record {
-    rows = h.rows;
-    plain = h.plain;
-    staff_are = h.staff_are ∙ p;
-    clients_are = h.clients_are
-        ∙ q;
-    loans_are = h.loans_are ∙ r;
-    entries_are = h.entries_are ∙ t;
+  parts_of : (os : List OfficeRow) (t : Four) (fs : List Office) → map bare fs ≡ map office_of os
+      → AllByRecursion (λ (f : Office). IsPlainRows k f.rows) fs → blocks fs ≡ t → AreParts os t
+  parts_of os t fs theirs plain are = record {
+    offices = fs;
+    theirs = theirs;
+    plain = plain;
+    staff_are = λ i. (are i).0;
+    clients_are = λ i. (are i).1;
+    loans_are = λ i. (are i).2;
+    entries_are = λ i. (are i).3;
   }
 
-  pub from_first : s ≡ own of_staff o.number staff → c ≡ own of_client o.number clients → l ≡ own of_loan o.number loans
-      → e ≡ own of_entry o.number entries → First k o os staff clients loans entries → IsOfficePart k o.number s c l e
-  from_first p q r t h = record {
-    rows = h.rows;
-    plain = h.plain;
-    staff_are = h.staff_are ∙ sym p;
-    clients_are = h.clients_are ∙ sym q;
-    loans_are = h.loans_are ∙ sym r;
-    entries_are = h.entries_are ∙ sym t;
-  }
+  part_is : (x : ℕ) (t : Four) (h : IsPart x t) → block x h.rows ≡ t
+  part_is x t h = λ i. (h.staff_are i, h.clients_are i, h.loans_are i, h.entries_are i)
 
-  pub as_others : {X : Type 0} → s ≡ later of_staff o.number staff → c ≡ later of_client o.number clients
-      → l ≡ later of_loan o.number loans → e ≡ later of_entry o.number entries
-      → (X ↔ Others k o os staff clients loans entries) → X ↔ AreOfficeParts k os s c l e
-  as_others p q r t h = (
-    λ x. (let a = h.0 x in record {
-      offices = a.offices;
-      theirs = a.theirs;
-      plain = a.plain;
-      staff_are = a.staff_are
-          ∙ sym p;
-      clients_are = a.clients_are ∙ sym q;
-      loans_are = a.loans_are ∙ sym r;
-      entries_are =
-          a.entries_are ∙ sym t;
-    }),
-    λ a. h.1 (record {
-      offices = a.offices;
-      theirs = a.theirs;
-      plain = a.plain;
-      staff_are = a.staff_are ∙ p;
-      clients_are = a.clients_are ∙ q;
-      loans_are = a.loans_are ∙ r;
-      entries_are = a.entries_are ∙ t;
-    }),
+  parts_are : (os : List OfficeRow) (t : Four) (h : AreParts os t) → blocks h.offices ≡ t
+  parts_are os t h = λ i. (h.staff_are i, h.clients_are i, h.loans_are i, h.entries_are i)
+
+  -- no office has rows where there are none
+  pub no_offices : (t : Four) → AreParts [] t ↔ ((t.0 ≡ []) × (t.1 ≡ []) × (t.2 ≡ []) × (t.3 ≡ []))
+  no_offices t = (
+    λ h. go h.offices h.theirs (parts_are [] t h),
+    λ none. parts_of [] t [] refl tt (λ i. (sym none.0 i, sym none.1 i, sym none.2 i, sym none.3 i)),
   )
+    where
+      go : (fs : List Office) → map bare fs ≡ [] → blocks fs ≡ t → (t.0 ≡ []) × (t.1 ≡ []) × (t.2 ≡ []) × (t.3 ≡ [])
+      go [] theirs are = (λ i. (sym are i).0, λ i. (sym are i).1, λ i. (sym are i).2, λ i. (sym are i).3)
+      go (f ∷ fs) theirs are = absurd (cc)
+
+  -- from the office at i on the rows are its own and those of the others
+  module _ (offices : List OfficeRow) (i : ℕ) (o : OfficeRow) (h : i < length offices) (is : o ≡ get_or offices i o)
+      (up : Ascending (map office_of (drop i offices))) where
+    pub rising : Ascending (map office_of (o ∷ drop (i + 1) offices))
+    rising = subst (λ (os : List OfficeRow). Ascending (map office_of os)) (at_row offices i o h is) up
+
+    pub first_and_others : (t first more : Four) → IsOwn o.number t first → IsLater o.number t more
+        → AreParts (o ∷ drop (i + 1) offices) t ↔ (IsPart o.number first × AreParts (drop (i + 1) offices) more)
+    first_and_others t first more p q = (
+      λ all. go all.offices all.theirs all.plain (parts_are (o ∷ drop (i + 1) offices) t all),
+      λ both. parts_of (o ∷ drop (i + 1) offices) t
+          (record { number = o.number; parent = o.parent; name = o.name; rows = both.0.rows } ∷ both.1.offices)
+          (λ j. office_of o ∷ both.1.theirs j) (both.0.plain, both.1.plain)
+          ((λ j. joined (part_is o.number first both.0 j) (parts_are (drop (i + 1) offices) more both.1 j))
+          ∙ whole_is o.number t first more p q),
+    )
+      where
+        go : (fs : List Office) → map bare fs ≡ office_of o ∷ map office_of (drop (i + 1) offices)
+            → AllByRecursion (λ (f : Office). IsPlainRows k f.rows) fs → blocks fs ≡ t
+            → IsPart o.number first × AreParts (drop (i + 1) offices) more
+        go [] theirs plain are = absurd (cc)
+        go (f ∷ fs) theirs plain are =
+            let head : bare f ≡ office_of o = cc in
+            let others : map bare fs ≡ map office_of (drop (i + 1) offices) = cc in
+            let number : f.number ≡ o.number = ap (λ (g : Office). g.number) head in
+            let above : Above f.number fs = (ascending_from_map (λ (f g : Office). f.number < g.number) bare (f ∷ fs)
+            (subst Ascending (sym theirs) rising)).0 in
+            subst (λ n. IsPart n first × AreParts (drop (i + 1) offices) more) number (
+              part_of f.number first f.rows plain.0 (sym (own_is f fs above) ∙ (λ j. own_four (number j) (are j))
+                  ∙ (λ j. (sym p.0 j, sym p.1 j, sym p.2 j, sym p.3 j))),
+              parts_of (drop (i + 1) offices) more fs others plain.1 (sym (later_is f fs above)
+                  ∙ (λ j. later_four (number j) (are j)) ∙ (λ j. (sym q.0 j, sym q.1 j, sym q.2 j, sym q.3 j))),
+            )

@@ -1,33 +1,72 @@
--- Receipts in the order of their key, where no key comes twice.
-use Rattle.std.proofs.Common.{◌≡◌, ◌≢◌, ◌↔◌, ◌<◌, ◌≤◌, ◌+◌, ◌-◌, ◌∙◌, ◌&&◌, ℕ, zero, suc, Bool, true, false, cond, List}
-use Rattle.std.proofs.Common.{[], ◌∷◌, ◌++◌, map, filter, length, get_or, refl, sym, ap, subst, arith, Ordering, Less}
-use Rattle.std.proofs.Common.{Equal, Greater, is_eq, is_lt, true≢false, ◌==◌, IsPermutation, IsSorted}
-use Rattle.std.specs.List.{AllByRecursion}
+-- The receipts that entries carry, and their rows in the order of their key, where no key comes twice.
+use Rattle.std.proofs.Common.{◌≡◌, ◌↔◌, ◌<◌, ◌≤◌, ◌+◌, ◌-◌, ◌∙◌, ◌&&◌, ℕ, suc, true, false, List, [], ◌∷◌}
+use Rattle.std.proofs.Common.{◌++◌, map, length, get_or, Option, Some, None, refl, sym, ap, subst, arith, Ordering}
+use Rattle.std.proofs.Common.{Less}
+use Rattle.std.proofs.Common.{Equal, Greater, is_eq, is_lt, true≢false, IsPermutation, IsSorted}
 use Rattle.std.specs.Cmp.{IsTotalOrder}
-use Rattle.std.specs.Str.{bytes_eq}
-use Rattle.std.proofs.lemmas.Bool.Decides.{nat_tests}
-use Rattle.std.proofs.lemmas.Cmp.{tied_itself}
-use Rattle.std.proofs.lemmas.List.{get_or_default}
-use Rattle.std.proofs.lemmas.List.Sorted.{IsPermutation-sym, IsPermutation-trans, length_permutation}
+use Rattle.std.specs.Ordering.{ordering_reverse}
+use Rattle.std.proofs.lemmas.Bool.{eq-eqb}
+use Rattle.std.proofs.lemmas.List.{get_or_default, map-append}
+use Rattle.std.proofs.lemmas.List.Concat.{flat_map-append}
+use Rattle.std.proofs.lemmas.List.Sorted.{IsPermutation-refl, IsPermutation-sym, IsPermutation-trans}
+use Rattle.std.proofs.lemmas.List.Sorted.{IsPermutation-cons, IsPermutation-append_left, IsPermutation-append_comm}
 use Rattle.std.proofs.lemmas.Slice.Eq.{bytes_eq-Decides}
-use Rattle.sqlite_keyed.proofs.ListLemmas.{all_weaker, ascending_weaker, IsPermutation-filter, filter_none, all-append}
+use Rattle.sqlite_keyed.proofs.ListLemmas.{all_weaker, ascending_weaker, along_permutation, ascending-append}
+use Rattle.sqlite_keyed.proofs.ListLemmas.{ascending-map, ascending_from_map, all_of, all_map}
 use Rattle.sqlite_keyed.proofs.SortLemmas.{sorted_unique, sorted_is-sort_by, IsPermutation-sort_by}
 use Rattle.sqlite_keyed.specs.Lists.{sort_by}
 use Rattle.sqlite_trees.specs.Tree.{IsAscending}
-use Rattle.mf_model.specs.Institution.{Office}
-use Rattle.mf_model.specs.Receipts.{Use, uses_from, AreApart}
+use Rattle.sqlite_trees.proofs.ListLemmas.{all-permutation, ascending-get_or}
+use Rattle.mf_account.specs.declared.entry.Entry.{Entry}
+use Rattle.mf_model.specs.Institution.{Ledger, Office}
+use Rattle.mf_model.specs.Receipts.{Use, use_of, uses_in, uses_from}
 use Rattle.mf_model.specs.Tree.{Ascending}
-use Rattle.mf_store_schema.specs.Rows.{by_receipt, is_receipt, is_receipt_before, AreReceiptsInOrder}
+use Rattle.mf_store_schema.specs.Rows.{by_receipt, is_row_of_receipt, is_receipt_before, AreReceiptsInOrder}
 use Rattle.mf_store_schema.specs.declared.entries.EntryRow.{EntryRow}
 use Rattle.mf_store_schema.specs.declared.receipts.ReceiptRow.{ReceiptRow}
 use Rattle.mf_store_schema.proofs.ReceiptLemmas.{less, before_later, is_receipt-bytes}
 use Rattle.mf_store_schema.proofs.OrderLemmas.{by_receipt_total}
-use Rattle.mf_store_values.specs.ReceiptRows.{receipt_in, receipts_carried, carried_by, AreReceiptsOf}
-use Rattle.mf_store_values.proofs.ReceiptLemmas.{others_of, others_above, AreAllApart}
+use Rattle.mf_store_values.specs.Flat.{entry_in, own_entries, rows_of_loans, entry_rows}
+use Rattle.mf_store_values.specs.ReceiptRows.{receipt_in, receipts_carried, receipt_rows, receipt_of, carried_by}
+use Rattle.mf_store_values.specs.ReceiptRows.{AreReceiptsOf}
+use Rattle.mf_store_values.proofs.ReceiptLemmas.{apart_bytes, own_key, others_above, AreAllApart}
 use Rattle.mf_store_values.proofs.SortedLemmas.{rises_sorted}
-use Rattle.mf_store_sound.proofs.StaffLemmas.{rising_is_sorted}
+use Rattle.mf_store_sound.proofs.SearchLemmas.{rising_is_sorted}
+use Rattle.mf_store_sound.proofs.StoredLemmas.{ascending_parts}
+
+-- ---- the receipts that rows of entries carry
+
+carried_append : (xs ys : List EntryRow) → carried_by (xs ++ ys) ≡ carried_by xs ++ carried_by ys
+carried_append xs ys = flat_map-append (λ (r : EntryRow). receipt_of r r.receipt) xs ys
+
+carried_in : (x n : ℕ) (es : List Entry) → carried_by (map (entry_in x n) es) ≡ map (receipt_in x) (uses_in n es)
+carried_in x n [] = refl
+carried_in x n (e ∷ es) =
+    elim e.receipt as (λ (o : Option (List ℕ)). receipt_of (entry_in x n e) o ++ carried_by (map (entry_in x n) es)
+    ≡ map (receipt_in x) (use_of o n e ++ uses_in n es)) [
+      | None ↦ carried_in x n es
+      | Some r ↦ ap (λ rest. record { office = x; receipt = r; loan = n; seq = e.seq } ∷ rest) (carried_in x n es)
+    ]
+
+carried_from : (x n : ℕ) (ls : List Ledger) → carried_by (rows_of_loans entry_in own_entries x n ls)
+    ≡ map (receipt_in x) (uses_from n ls)
+carried_from x n [] = refl
+carried_from x n (l ∷ ls) =
+    carried_append (map (entry_in x n) l.entries) _
+    ∙ (λ t. carried_in x n l.entries t ++ carried_from x (n + 1) ls t) ∙ sym (map-append (receipt_in x) _ _)
+
+-- the receipts of the offices' entries are those that the rows of these entries carry
+pub carried_is : (fs : List Office) → receipts_carried fs ≡ carried_by (entry_rows fs)
+carried_is [] = refl
+carried_is (f ∷ fs) = (λ t. sym (carried_from f.number 1 f.rows.loans) t ++ carried_is fs t)
+    ∙ sym (carried_append (rows_of_loans entry_in own_entries f.number 1 f.rows.loans) (entry_rows fs))
 
 -- ---- lists with no ties
+
+reversed_eq : (o : Ordering) → is_eq (ordering_reverse o) ≡ is_eq o
+reversed_eq Less = refl
+reversed_eq Equal = refl
+reversed_eq Greater = refl
 
 module _ {X : Type 0} (cmp : X → X → Ordering) (total : IsTotalOrder cmp) where
   abbrev pub Rises : List X → Type 0
@@ -36,71 +75,35 @@ module _ {X : Type 0} (cmp : X → X → Ordering) (total : IsTotalOrder cmp) wh
   abbrev pub NoTies : List X → Type 0
   NoTies = IsAscending (λ a b. is_eq (cmp a b) ≡ false)
 
-  abbrev Few : List X → Type 0
-  Few xs = (r : X) → length (filter (λ y. is_eq (cmp r y)) xs) ≤ 1
+  -- no order of a list has ties where one has none
+  no_ties_permuted : (xs ys : List X) → IsPermutation xs ys → NoTies xs → NoTies ys
+  no_ties_permuted xs ys same = (along_permutation (λ us vs. IsPermutation us vs × (NoTies us → NoTies vs))
+      (λ us. (IsPermutation-refl us, λ up. up))
+      (λ x us vs h. (
+        IsPermutation-cons x us vs h.0,
+        λ up. (all-permutation (λ y. is_eq (cmp x y) ≡ false) us vs h.0 up.0, h.1 up.1),
+      ))
+      (λ x y us. (
+        IsPermutation-append_left us (x ∷ y ∷ []) (y ∷ x ∷ []) (IsPermutation-append_comm (x ∷ []) (y ∷ [])),
+        λ up. ((ap is_eq (total.antisymm y x) ∙ reversed_eq (cmp x y) ∙ up.0.0, up.1.0), (up.0.1, up.1.1)),
+      ))
+      (λ us vs ws h k. (IsPermutation-trans us vs ws h.0 k.0, λ up. k.1 (h.1 up))) xs ys same).1
 
-  few_in_order : (xs : List X) → Rises xs → Few xs
-  few_in_order [] up r = omega arith
-  few_in_order (x ∷ xs) up r = go (cmp r x) refl (few_in_order xs up.1 r)
-    where
-      go : (o : Ordering) → cmp r x ≡ o → length (filter (λ y. is_eq (cmp r y)) xs) ≤ 1
-          → length (cond (is_eq o) (x ∷ filter (λ y. is_eq (cmp r y)) xs) (filter (λ y. is_eq (cmp r y)) xs)) ≤ 1
-      go Equal e few = let none = filter_none (λ y. is_eq (cmp r y)) xs (all_weaker _ (λ z. is_eq (cmp r z) ≡ false)
-          (λ z h. ap is_eq (total.congr r x z e ∙ h)) xs up.0) in rw none (omega arith)
-      go Less e few = few
-      go Greater e few = few
-
-  few_permuted : (xs ys : List X) → IsPermutation xs ys → Few xs → Few ys
-  few_permuted xs ys same few r =
-      let p = λ (y : X). is_eq (cmp r y) in
-      let many : length (filter (λ (y : X). is_eq (cmp r y)) ys) ≡ length (filter (λ (y : X). is_eq (cmp r y)) xs) =
-      length_permutation _ _ (IsPermutation-filter (λ (y : X). is_eq (cmp r y)) xs ys same) in
-      subst (λ n. n ≤ 1) (sym many) (few r)
-
-  none_kept : (p : X → Bool) (xs : List X) → length (filter p xs) ≤ 0 → AllByRecursion (λ y. p y ≡ false) xs
-  none_kept p [] h = tt
-  none_kept p (x ∷ xs) h = go (p x) refl h (none_kept p xs)
-    where
-      go : (b : Bool) → p x ≡ b → length (cond b (x ∷ filter p xs) (filter p xs)) ≤ 0 → (length (filter p xs) ≤ 0
-          → AllByRecursion (λ y. p y ≡ false) xs) → (p x ≡ false) × AllByRecursion (λ y. p y ≡ false) xs
-      go true e h more = absurd (omega (arith, h))
-      go false e h more = (e, more h)
-
-  fewer : (p : X → Bool) (x : X) (xs : List X) → length (filter p xs) ≤ length (filter p (x ∷ xs))
-  fewer p x xs = go (p x)
-    where
-      go : (b : Bool) → length (filter p xs) ≤ length (cond b (x ∷ filter p xs) (filter p xs))
-      go true = omega arith
-      go false = omega arith
-
-  no_ties : (xs : List X) → Few xs → NoTies xs
-  no_ties [] few = tt
-  no_ties (x ∷ xs) few =
-      let one = few x in
-      let here : is_eq (cmp x x) ≡ true = ap is_eq (tied_itself total x) in
-      let mine : length (x ∷ filter (λ y. is_eq (cmp x y)) xs) ≤ 1 = subst (λ b.
-      length (cond b (x ∷ filter (λ y. is_eq (cmp x y)) xs) (filter (λ y. is_eq (cmp x y)) xs)) ≤ 1) here (few x) in (
-        none_kept (λ y. is_eq (cmp x y)) xs (omega (arith, mine)),
-        no_ties xs (λ r. omega (arith, fewer (λ y. is_eq (cmp r y)) x xs, few r)),
-      )
+  no_ties : (xs : List X) → Rises xs → NoTies xs
+  no_ties xs up = ascending_weaker _ _ (λ a b h. ap is_eq h) xs up
 
   -- what rises is what a list is sorted to
   pub sorts_to : (xs ys : List X) → Rises ys → IsPermutation xs ys → sort_by cmp xs ≡ ys
-  sorts_to xs ys up same = sym (sorted_is-sort_by cmp total xs ys (no_ties xs
-      (few_permuted ys xs (IsPermutation-sym xs ys same) (few_in_order ys up))) same (rising_is_sorted cmp total ys up))
+  sorts_to xs ys up same = sym (sorted_is-sort_by cmp total xs ys (no_ties_permuted ys xs (IsPermutation-sym xs ys same)
+      (no_ties ys up)) same (rising_is_sorted cmp total ys up))
 
   -- where the sorted list rises there are no ties
   pub none_tied : (xs : List X) → Rises (sort_by cmp xs) → NoTies xs
-  none_tied xs up = no_ties xs (few_permuted (sort_by cmp xs) xs (IsPermutation-sort_by cmp total xs)
-      (few_in_order (sort_by cmp xs) up))
+  none_tied xs up =
+      no_ties_permuted (sort_by cmp xs) xs (IsPermutation-sort_by cmp total xs) (no_ties (sort_by cmp xs) up)
 
 rises_in_order : (rows : List ReceiptRow) → AreReceiptsInOrder rows → Rises by_receipt by_receipt_total rows
-rises_in_order rows up = ascending_weaker (λ a b. is_receipt_before a b ≡ true) (λ a b. by_receipt a b ≡ Less)
-    (λ a b h. less (by_receipt a b) h) rows up
-
-in_order_rises : (rows : List ReceiptRow) → Rises by_receipt by_receipt_total rows → AreReceiptsInOrder rows
-in_order_rises rows up = ascending_weaker (λ a b. by_receipt a b ≡ Less) (λ a b. is_receipt_before a b ≡ true)
-    (λ a b h. ap is_lt h) rows up
+rises_in_order rows up = ascending_weaker _ _ (λ a b h. less (by_receipt a b) h) rows up
 
 -- ---- the rows sorted, and those that are stored
 
@@ -126,21 +129,6 @@ abbrev pub RisesTo : List ReceiptRow → ℕ → Type 0
 RisesTo rows i = (k : ℕ) (d : ReceiptRow) → suc k < i → is_receipt_before (get_or rows k d) (get_or rows (suc k) d)
     ≡ true
 
-pub rises_on : (rows : List ReceiptRow) (i : ℕ) (x y : ReceiptRow) → 1 ≤ i → i < length rows → x ≡ get_or rows (i - 1) x
-    → y ≡ get_or rows i y → is_receipt_before x y ≡ true → RisesTo rows i → RisesTo rows (i + 1)
-rises_on rows i x y some inside is_x is_y before so_far k d below = go (suc k == i) refl
-  where
-    go : (b : Bool) → (suc k == i) ≡ b → is_receipt_before (get_or rows k d) (get_or rows (suc k) d) ≡ true
-    go true e =
-        let here : suc k ≡ i = grind (arith, nat_tests) in
-        let place : k ≡ i - 1 = omega arith in
-        let one : get_or rows k d ≡ x = get_or_default rows k d x (omega arith) ∙ (λ t. get_or rows (place t) x)
-        ∙ sym is_x in
-        let other : get_or rows (suc k) d ≡ y =
-        get_or_default rows (suc k) d y (omega arith) ∙ (λ t. get_or rows (here t) y) ∙ sym is_y in
-        (λ t. is_receipt_before (one t) (other t)) ∙ before
-    go false e = let apart : suc k ≢ i = grind (arith, nat_tests) in so_far k d (omega arith)
-
 rise_all : (rows : List ReceiptRow) → RisesTo rows (length rows) → AreReceiptsInOrder rows
 rise_all [] h = tt
 rise_all (x ∷ []) h = (tt, tt)
@@ -158,71 +146,45 @@ rise_all (x ∷ y ∷ ys) h =
 pub rose : (rows : List ReceiptRow) (i : ℕ) → length rows ≤ i → RisesTo rows i → AreReceiptsInOrder rows
 rose rows i h all = rise_all rows (λ k d below. all k d (omega arith))
 
-rise_each : (rows : List ReceiptRow) → AreReceiptsInOrder rows → RisesTo rows (length rows)
-rise_each [] up k d below = absurd (omega arith)
-rise_each (x ∷ []) up k d below = absurd (omega arith)
-rise_each (x ∷ y ∷ ys) up zero d below = up.0.0
-rise_each (x ∷ y ∷ ys) up (suc k) d below = rise_each (y ∷ ys) up.1 k d (omega arith)
-
 pub rises_not : (rows : List ReceiptRow) (i : ℕ) (x y : ReceiptRow) → 1 ≤ i → i < length rows
     → x ≡ get_or rows (i - 1) x → y ≡ get_or rows i y → is_receipt_before x y ≡ false → AreReceiptsInOrder rows → ⊥
 rises_not rows i x y some inside is_x is_y before up =
-    let here : suc (i - 1) ≡ i = omega arith in
-    let one : get_or rows (i - 1) x ≡ x = sym is_x in
-    let other : get_or rows (suc (i - 1)) x ≡ y = get_or_default rows (suc (i - 1)) x y (omega arith)
-    ∙ (λ t. get_or rows (here t) y) ∙ sym is_y in
-    absurd (true≢false (sym (rise_each rows up (i - 1) x (omega arith)) ∙ (λ t. is_receipt_before (one t) (other t))
-    ∙ before))
+    true≢false (sym (ascending-get_or (λ a b. is_receipt_before a b ≡ true) rows (i - 1) i x up (omega arith) inside)
+    ∙ (λ t. is_receipt_before (sym is_x t) ((get_or_default rows i x y inside ∙ sym is_y) t)) ∙ before)
 
 -- ---- the receipts of offices
 
-receipt_itself : (x : ℕ) (u v : Use) → u.receipt ≡ v.receipt → is_receipt x u.receipt (receipt_in x v) ≡ true
+receipt_itself : (x : ℕ) (u v : Use) → u.receipt ≡ v.receipt → is_row_of_receipt x u.receipt (receipt_in x v) ≡ true
 receipt_itself x u v is = is_receipt-bytes x u.receipt (receipt_in x v)
-    ∙ (λ t. (x == x) && bytes_eq u.receipt (sym is t)) ∙ (λ t. same t && (bytes_eq-Decides u.receipt u.receipt).1 refl
-    t)
-  where
-    same : (x == x) ≡ true
-    same = grind (arith, nat_tests)
-
-no_ties_in : (x : ℕ) (us : List Use) (rest : List ReceiptRow) → AreApart us
-    → ((r : List ℕ) → AllByRecursion (λ (row : ReceiptRow). is_receipt x r row ≡ false) rest)
-    → NoTies by_receipt by_receipt_total rest → NoTies by_receipt by_receipt_total (map (receipt_in x) us ++ rest)
-no_ties_in x [] rest apart others none = none
-no_ties_in x (u ∷ us) rest apart others none = (
-  all-append (λ (row : ReceiptRow). is_receipt x u.receipt row ≡ false)
-      (map (receipt_in x) us) rest (others_of x u.receipt u us refl apart.0) (others u.receipt),
-  no_ties_in x us rest apart.1 others none,
-)
+    ∙ (λ t. eq-eqb x x refl t && (bytes_eq-Decides u.receipt v.receipt).1 is t)
 
 -- no key comes twice
 pub no_ties_of : (fs : List Office) → Ascending fs → AreAllApart fs → NoTies by_receipt by_receipt_total
     (receipts_carried fs)
 no_ties_of [] up apart = tt
-no_ties_of (f ∷ fs) up apart = no_ties_in f.number (uses_from 1 f.rows.loans) (receipts_carried fs) apart.0
-    (λ r. others_above f.number r fs up.0) (no_ties_of fs up.1 apart.1)
-
-apart_to : (x : ℕ) (u : Use) (us : List Use) (rest : List ReceiptRow) → AllByRecursion (λ (row : ReceiptRow). is_receipt
-    x u.receipt row ≡ false) (map (receipt_in x) us ++ rest) → AllByRecursion (λ (v : Use). u.receipt ≢ v.receipt) us
-apart_to x u [] rest all = tt
-apart_to x u (v ∷ us) rest all =
-    (λ is. absurd (true≢false (sym (receipt_itself x u v is) ∙ all.0)), apart_to x u us rest all.1)
-
-apart_in : (x : ℕ) (us : List Use) (rest : List ReceiptRow) → NoTies by_receipt by_receipt_total (map (receipt_in x) us
-    ++ rest) → AreApart us × NoTies by_receipt by_receipt_total rest
-apart_in x [] rest none = (tt, none)
-apart_in x (u ∷ us) rest none = let more = apart_in x us rest none.1 in ((apart_to x u us rest none.0, more.0), more.1)
+no_ties_of (f ∷ fs) up apart =
+    let us = uses_from 1 f.rows.loans in
+    ascending-append _ (map (receipt_in f.number) us) (receipts_carried fs)
+    (ascending-map _ (receipt_in f.number) us (ascending_weaker _ _ (λ u v other. own_key f.number u.receipt v
+    ∙ apart_bytes v.receipt u.receipt (λ same. other (sym same))) us apart.0))
+    (no_ties_of fs up.1 apart.1)
+    (all_map _ (receipt_in f.number) us (all_of _ (λ u. others_above f.number u.receipt fs up.0) us))
 
 apart_of : (fs : List Office) → NoTies by_receipt by_receipt_total (receipts_carried fs) → AreAllApart fs
 apart_of [] none = tt
-apart_of (f ∷ fs) none = let both = apart_in f.number (uses_from 1 f.rows.loans) (receipts_carried fs) none in
-    (both.0, apart_of fs both.1)
+apart_of (f ∷ fs) none =
+    let us = uses_from 1 f.rows.loans in
+    let both = ascending_parts (λ a b. is_eq (by_receipt a b) ≡ false) (map (receipt_in f.number) us) _ none in (
+      ascending_weaker _ _ (λ u v other is. true≢false (sym (receipt_itself f.number u v is) ∙ other)) us
+          (ascending_from_map _ (receipt_in f.number) us both.0),
+      apart_of fs both.1,
+    )
 
 -- no office has a receipt twice just where their rows rise
-pub in_order_apart : (fs : List Office) → Ascending fs → AreAllApart fs
-    → AreReceiptsInOrder (sort_by by_receipt (receipts_carried fs))
-in_order_apart fs up apart = in_order_rises (sort_by by_receipt (receipts_carried fs))
+pub in_order_apart : (fs : List Office) → Ascending fs → AreAllApart fs → AreReceiptsInOrder (receipt_rows fs)
+in_order_apart fs up apart = ascending_weaker _ _ (λ a b h. ap is_lt h) (receipt_rows fs)
     (rises_sorted by_receipt by_receipt_total (receipts_carried fs) (no_ties_of fs up apart))
 
-pub apart_in_order : (fs : List Office) → AreReceiptsInOrder (sort_by by_receipt (receipts_carried fs)) → AreAllApart fs
-apart_in_order fs up = apart_of fs (none_tied by_receipt by_receipt_total (receipts_carried fs)
-    (rises_in_order (sort_by by_receipt (receipts_carried fs)) up))
+pub apart_in_order : (fs : List Office) → AreReceiptsInOrder (receipt_rows fs) → AreAllApart fs
+apart_in_order fs up =
+    apart_of fs (none_tied by_receipt by_receipt_total (receipts_carried fs) (rises_in_order (receipt_rows fs) up))

@@ -1,5 +1,5 @@
 -- Rows under a schema, and the rows of accounts beside them.
-use Rattle.std.proofs.Common.{◌≡◌, ◌↔◌, ◌∙◌, ℕ, List, [], sym, ap, subst}
+use Rattle.std.proofs.Common.{◌≡◌, ◌↔◌, ◌∙◌, ℕ, List, refl, sym, ap}
 use Rattle.mf_model.specs.Institution.{Institution, Catalogue}
 use Rattle.mf_model.specs.Sound.{IsSound, IsSoundCatalogue}
 use Rattle.mf_store_schema.specs.Rows.{Lists}
@@ -9,11 +9,13 @@ use Rattle.mf_store_schema.specs.declared.instalments.InstalmentRow.{InstalmentR
 use Rattle.mf_store_schema.specs.declared.loans.LoanRow.{LoanRow}
 use Rattle.mf_store_schema.specs.declared.products.ProductRow.{ProductRow}
 use Rattle.mf_store_schema.specs.declared.shares.ShareRow.{ShareRow}
-use Rattle.mf_store_values.specs.Accounts.{instalments_of, shares_of, PlacedLoan, all_placed, AreLoansOf, AreAccounts}
+use Rattle.mf_store_values.specs.Accounts.{account_instalments, account_shares, PlacedLoan, all_placed, AreLoansOf}
+use Rattle.mf_store_values.specs.Accounts.{AreAccounts}
 use Rattle.mf_store_values.specs.Flat.{charge_as, product_as, numbered_from, instalment_in, share_in, tables_of}
 use Rattle.mf_store_sound.specs.Schemas.{first_tables_of, tables_under, without_accounts}
-use Rattle.mf_store_sound.specs.Sound.{AreOfSound, AreOfSoundFirst, AreUnder}
+use Rattle.mf_store_sound.specs.Sound.{AreOfSound, AreUnder}
 use Rattle.mf_store_sound.proofs.AllLoanLemmas.{all_rows_of}
+use Rattle.mf_store_sound.proofs.TableLemmas.{of_parts}
 use Rattle.mf_store_sound.proofs.SoundLemmas.{charges_are, products_are, loans_under}
 
 -- what is told of rows of accounts, by the rows of the others
@@ -36,15 +38,7 @@ pub told_of_parts : (P : List InstalmentRow → List ShareRow → Catalogue → 
       shares = shares;
     }) → Told P t
 told_of_parts P t inside view charges products loans entries instalments shares c p l e i s told =
-    subst (λ (lists : Lists). Told P lists) (λ z. record t {
-      charges = (c ∙ (λ y. (view y).charges)) z;
-      products = (p ∙ (λ y. (view y).products)) z;
-      loans = (l ∙ (λ y. (view y).loans)) z;
-      entries = (e ∙ (λ y. (view y).entries)) z;
-      instalments = (i ∙ (λ y. (view y).instalments)) z;
-      shares =
-          (s ∙ (λ y. (view y).shares)) z;
-    }) told
+    of_parts (Told P) t inside view _ _ _ _ _ _ _ _ _ _ _ refl refl refl refl c p l e refl i s told
 
 -- what is told, at the institution whose rows these are
 told_at : (P : List InstalmentRow → List ShareRow → Catalogue → List PlacedLoan → Type 0) (schema : ℕ) (t : Lists)
@@ -59,19 +53,13 @@ abbrev HasRows : Institution → List InstalmentRow → List ShareRow → Type 0
 HasRows i instalments shares = (instalments ≡ (tables_of i).instalments) × (shares ≡ (tables_of i).shares)
 
 accounts_are : (i : Institution) (instalments : List InstalmentRow) (shares : List ShareRow)
-    → AreAccounts i.catalogue (all_placed i.offices) instalments shares → HasRows i instalments shares
-accounts_are i instalments shares a = (
-  sym a.instalments_are ∙ all_rows_of instalment_in (instalments_of i.catalogue)
-      i.offices,
-  sym a.shares_are ∙ all_rows_of share_in (shares_of i.catalogue) i.offices,
-)
-
-are_accounts : (i : Institution) (instalments : List InstalmentRow) (shares : List ShareRow)
-    → HasRows i instalments shares → AreAccounts i.catalogue (all_placed i.offices) instalments shares
-are_accounts i instalments shares has = record {
-  instalments_are = all_rows_of instalment_in (instalments_of i.catalogue) i.offices ∙ sym has.0;
-  shares_are = all_rows_of share_in (shares_of i.catalogue) i.offices ∙ sym has.1;
-}
+    → AreAccounts i.catalogue (all_placed i.offices) instalments shares ↔ HasRows i instalments shares
+accounts_are i instalments shares =
+    let kept = all_rows_of instalment_in (account_instalments i.catalogue) i.offices in
+    let parts = all_rows_of share_in (account_shares i.catalogue) i.offices in (
+      λ a. (sym a.instalments_are ∙ kept, sym a.shares_are ∙ parts),
+      λ has. record { instalments_are = kept ∙ sym has.0; shares_are = parts ∙ sym has.1 },
+    )
 
 -- ---- both schemas
 
@@ -82,39 +70,22 @@ under_of_whole t h =
 pub whole_is : (t : Lists) (B : Type 0) → AreUnder 2 t → Told (λ instalments shares k ps. B
     ↔ AreAccounts k ps instalments shares) t → B ↔ AreOfSound t
 unfolding under_of_whole
-whole_is t B u told = (
-  λ yes.
-      let kept = accounts_are u.institution t.instalments t.shares
-      ((told_at (λ instalments shares k ps. B ↔ AreAccounts k ps instalments shares) 2 t u told).0 yes) in
-      record {
-        institution = u.institution;
-        sound = u.sound;
-        rows_are = λ z. record (u.rows_are z) { instalments = sym kept.0 z; shares = sym kept.1 z };
-      },
-  λ h.
-      (told_at (λ instalments shares k ps. B ↔ AreAccounts k ps instalments shares) 2 t (under_of_whole t h) told).1
-      (are_accounts h.institution t.instalments t.shares (
+whole_is t B u told =
+    let at : (v : AreUnder 2 t) → B ↔ AreAccounts v.institution.catalogue (all_placed v.institution.offices)
+    t.instalments t.shares = λ v. told_at (λ instalments shares k ps. B ↔ AreAccounts k ps instalments shares) 2 t v
+    told in (
+      λ yes.
+          let kept = (accounts_are u.institution t.instalments t.shares).0 ((at u).0 yes) in
+          record {
+            institution = u.institution;
+            sound = u.sound;
+            rows_are = λ z. record (u.rows_are z) { instalments = sym kept.0 z; shares = sym kept.1 z };
+          },
+      λ h. (at (under_of_whole t h)).1 ((accounts_are h.institution t.instalments t.shares).1 (
         ap (λ (l : Lists). l.instalments) (sym h.rows_are),
         ap (λ (l : Lists). l.shares) (sym h.rows_are),
       )),
-)
-
--- ---- the first schema
-
-pub first_is : (t : Lists) (B : Type 0) → t.instalments ≡ [] → t.shares ≡ [] → (B ↔ AreUnder 1 t) → B
-    ↔ AreOfSoundFirst t
-first_is t B no_instalments no_shares h = (
-  λ yes. let u = h.0 yes in record {
-    institution = u.institution;
-    sound = u.sound;
-    rows_are = u.rows_are
-        ∙ (λ z. record t { instalments = sym no_instalments z; shares = sym no_shares z });
-  },
-  λ f. h.1 (record { institution = f.institution; sound = f.sound; rows_are = λ z. without_accounts (f.rows_are z) }),
-)
-
-pub first_has_none : (t : Lists) → AreOfSoundFirst t → (t.instalments ≡ []) × (t.shares ≡ [])
-first_has_none t f = (ap (λ (l : Lists). l.instalments) (sym f.rows_are), ap (λ (l : Lists). l.shares) (sym f.rows_are))
+    )
 
 -- ---- rows of accounts that replaying gives
 
@@ -123,7 +94,7 @@ pub rows_under_are : (schema : ℕ) (t : Lists) (instalments : List InstalmentRo
     → Told (λ none other k ps. AreAccounts k ps instalments shares) t → (i : Institution) → IsSound i
     → tables_under schema i ≡ without_accounts t → HasRows i instalments shares
 rows_under_are schema t instalments shares told i sound is =
-    accounts_are i instalments shares (told_at (λ none other k ps. AreAccounts k ps instalments shares) schema t
+    (accounts_are i instalments shares).0 (told_at (λ none other k ps. AreAccounts k ps instalments shares) schema t
     (record { institution = i; sound = sound; rows_are = is }) told)
 
 pub rows_are_of : (t : Lists) (instalments : List InstalmentRow) (shares : List ShareRow)

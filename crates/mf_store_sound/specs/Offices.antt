@@ -26,18 +26,18 @@ AscendFrom n [] = Unit {0}
 AscendFrom n (r ∷ rs) = (n < r.number) × AscendFrom r.number rs
 
 -- the row of this number
-abbrev pub row_at : ℕ → List OfficeRow → Option OfficeRow
-row_at x rows = find (λ r. r.number == x) rows
+abbrev pub office_row_in : ℕ → List OfficeRow → Option OfficeRow
+office_row_in x rows = find (λ r. r.number == x) rows
 
 -- the row of a parent, if one is named and there
 abbrev pub parent_row : List OfficeRow → Option ℕ → Option OfficeRow
 parent_row rows None = None
-parent_row rows (Some p) = row_at p rows
+parent_row rows (Some p) = office_row_in p rows
 
 -- an office with no parent is the head; another's text is its parent's, its own number and a dot
 abbrev pub HasParentsText : List OfficeRow → Option ℕ → OfficeRow → Type 0
 HasParentsText rows None r = (r.number ≡ 1) × (r.hkey ≡ head_key)
-HasParentsText rows (Some p) r = (r.number ≢ 1) × (above : OfficeRow) × (row_at p rows ≡ Some above)
+HasParentsText rows (Some p) r = (r.number ≢ 1) × (above : OfficeRow) × (office_row_in p rows ≡ Some above)
     × (r.hkey ≡ child_key above.hkey r.number)
 
 -- what a row of such offices keeps
@@ -50,4 +50,4 @@ pub record IsOfficeRow (rows : List OfficeRow) (r : OfficeRow) : Type 0 where
 pub record AreOfficeRows (rows : List OfficeRow) : Type 0 where
   pub ascend : AscendFrom 0 rows
   pub each : AllByRecursion (IsOfficeRow rows) rows
-  pub head : is_some (row_at 1 rows) ≡ true
+  pub head : is_some (office_row_in 1 rows) ≡ true

@@ -3,9 +3,9 @@
 ghost use Rattle.std.specs.Prelude.{◌≡◌, ◌≢◌, ℕ, pos, ◌≤◌, ◌↔◌, IsTrue, length, IfSome, Some, None, ◌^◌};
 ghost use Rattle.mf_account.specs.Loan.{HasColumns};
 ghost use Rattle.mf_account.specs.declared.entry.Entry.{Entry};
-ghost use Rattle.mf_account.specs.declared.entry.Kind.{Kind as AnyKind};
-ghost use Rattle.mf_alloc.specs.declared.row.Portion.{Portion as AnyPortion};
-ghost use Rattle.mf_alloc.specs.declared.row.Portion.TheVariants.{Penalty as PenaltyPart, Fee as FeePart, Principal};
+ghost use Rattle.mf_account.specs.declared.entry.Kind.{Kind};
+ghost use Rattle.mf_alloc.specs.declared.row.Portion.{Portion};
+ghost use Rattle.mf_alloc.specs.declared.row.Portion.TheVariants.{Penalty, Fee, Principal};
 ghost use Rattle.mf_alloc.specs.Portions.{portion_number};
 ghost use Rattle.mf_account.specs.Receipts.{IsReceipt};
 ghost use Rattle.mf_store_values.specs.Ledgers.{IsReadable};

@@ -3,7 +3,7 @@
 ghost use Rattle.std.specs.Prelude.{◌≡◌, ℕ, List, ◌≤◌, ◌≤ℤ◌, ◌↔◌, IsTrue, length, is_some};
 ghost use Rattle.mf_base.specs.DayText.{last_entered_day};
 ghost use Rattle.mf_catalog.specs.Product.{allows};
-ghost use Rattle.mf_model.specs.Institution.{Catalogue, Offer, product_in, item_numbered};
+ghost use Rattle.mf_model.specs.Institution.{Catalogue, ListedProduct, product_in, item_numbered};
 ghost use Rattle.mf_model.specs.Sound.{IsStageBy, lends};
 ghost use Rattle.mf_model.specs.declared.loan.Loan.{Loan};
 ghost use Rattle.mf_store_values.specs.Flat.{loan_in, product_as, numbered_from};
@@ -108,7 +108,7 @@ pub fn are_periods_allowed(product: &ProductRow, row: &LoanRow) -> bool
 
 /// Whether a product's row allows the principal and the periods of a loan's.
 fn is_allowed(product: &ProductRow, row: &LoanRow) -> bool
-    ensures { (number : ℕ) (p : Offer) → product_as number p ≡ product.now → (l : Loan) →
+    ensures { (number : ℕ) (p : ListedProduct) → product_as number p ≡ product.now → (l : Loan) →
         loan_in row.now.office row.now.number l ≡ row.now →
         result ≡ allows p.members l.principal l.periods }
 {

@@ -5,8 +5,8 @@ ghost use Rattle.std.specs.List.{AllByRecursion};
 ghost use Rattle.mf_base.specs.declared.fault.Fault.TheVariants.{F20};
 ghost use Rattle.mf_model.specs.Tree.{Ascending};
 ghost use Rattle.mf_office.specs.Keys.{child_key, head_key, key_depth};
-ghost use Rattle.mf_store_sound.specs.Offices.{IsNumberedAndNamed, AscendFrom, row_at, parent_row, HasParentsText};
-ghost use Rattle.mf_store_sound.specs.Offices.{IsOfficeRow, AreOfficeRows, AreOffices};
+ghost use Rattle.mf_store_sound.specs.Offices.{IsNumberedAndNamed, AscendFrom, office_row_in, parent_row};
+ghost use Rattle.mf_store_sound.specs.Offices.{HasParentsText, IsOfficeRow, AreOfficeRows, AreOffices};
 ghost use Rattle.mf_store_values.specs.Parts.{office_of};
 
 use mf_base::Fault;
@@ -34,7 +34,7 @@ fn is_ascending(offices: &[OfficeRow]) -> bool
 
 /// The row of the office with this number. The rows are in the order of their numbers.
 fn find_office(offices: &[OfficeRow], number: u32) -> Option<&OfficeRow>
-    ensures { AscendFrom 0 offices.now → option_copied result ≡ row_at number offices.now }
+    ensures { AscendFrom 0 offices.now → option_copied result ≡ office_row_in number offices.now }
 {
     match offices.binary_search_by_key(&number, |office| office.number) {
         Ok(place) => Some(&offices[place]),

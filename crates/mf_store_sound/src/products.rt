@@ -1,11 +1,11 @@
 //! Whether a row is that of a product with its number, over the charges that there are.
 
 ghost use Rattle.std.specs.Prelude.{◌≡◌, ℕ, pos, ◌≤◌, ◌↔◌, IsTrue, length, option_copied};
-ghost use Rattle.mf_base.specs.declared.day.Freq.{Freq as AnyFreq};
+ghost use Rattle.mf_base.specs.declared.day.Freq.{Freq};
 ghost use Rattle.mf_catalog.specs.declared.limits.TheConstants.{MOST_PERIODS};
 ghost use Rattle.mf_catalog.specs.Limits.{longest_step};
 ghost use Rattle.mf_catalog.specs.Product.{AreMembersWithinLimits, limits_agree, kinds_right, is_of_kind};
-ghost use Rattle.mf_model.specs.Institution.{Catalogue, Offer, charge_in, item_numbered};
+ghost use Rattle.mf_model.specs.Institution.{Catalogue, ListedProduct, charge_in, item_numbered};
 ghost use Rattle.mf_model.specs.Sound.{IsSoundOffer};
 ghost use Rattle.mf_store_values.specs.Flat.{charge_as, product_as, numbered_from};
 ghost use Rattle.mf_base.specs.Choices.{frequency_number};
@@ -24,7 +24,7 @@ use mf_store_values::{amount_from, flag_from, row_numbered};
 
 /// Whether each number that stands for a choice is that of one, and no amount is negative.
 fn has_choices(row: &ProductRow) -> bool
-    ensures { IsTrue result ↔ ((p : Offer) × (product_as row.now.number p ≡ row.now)) }
+    ensures { IsTrue result ↔ ((p : ListedProduct) × (product_as row.now.number p ≡ row.now)) }
 {
     match (
         Method::from_number(row.method),
@@ -41,9 +41,9 @@ fn has_choices(row: &ProductRow) -> bool
 
 /// Whether a step between due days is one that the frequency of this number allows.
 pub fn is_step(frequency: u32, every: u32) -> bool
-    ensures within { (freq : AnyFreq) → frequency_number freq ≡ frequency →
+    ensures within { (freq : Freq) → frequency_number freq ≡ frequency →
         IsTrue result ↔ ((1 ≤ every) × (every ≤ longest_step freq)) }
-    ensures there { IsTrue result → (freq : AnyFreq) × (frequency_number freq ≡ frequency) }
+    ensures there { IsTrue result → (freq : Freq) × (frequency_number freq ≡ frequency) }
 {
     match Freq::from_number(frequency) {
         Some(freq) => every >= 1 && every <= longest_step(freq),
@@ -60,7 +60,8 @@ pub fn are_periods(periods: u32) -> bool
 
 /// Whether the members of the row's product lie in their ranges.
 fn is_within_limits(row: &ProductRow) -> bool
-    ensures { (p : Offer) → product_as row.now.number p ≡ row.now → IsTrue result ↔ AreMembersWithinLimits p.members }
+    ensures { (p : ListedProduct) → product_as row.now.number p ≡ row.now → IsTrue result
+        ↔ AreMembersWithinLimits p.members }
 {
     row.rate <= GREATEST_RATE
         && is_step(row.frequency, row.every)
@@ -74,7 +75,7 @@ fn is_within_limits(row: &ProductRow) -> bool
 
 /// Whether the limits of the row's product agree.
 fn do_limits_agree(row: &ProductRow) -> bool
-    ensures { (p : Offer) → product_as row.now.number p ≡ row.now → result ≡ limits_agree p.members }
+    ensures { (p : ListedProduct) → product_as row.now.number p ≡ row.now → result ≡ limits_agree p.members }
 {
     row.min_principal <= row.max_principal
         && row.min_periods <= row.max_periods
@@ -99,7 +100,7 @@ pub fn is_of_kind(charges: &[ChargeRow], kind: ChargeKind, named: Option<u32>) -
 
 /// Whether the charges that the row's product names exist and are of the right kinds.
 fn are_kinds_right(charges: &[ChargeRow], row: &ProductRow) -> bool
-    ensures { (k : Catalogue) → numbered_from charge_as 1 k.charges ≡ charges.now → (p : Offer) →
+    ensures { (k : Catalogue) → numbered_from charge_as 1 k.charges ≡ charges.now → (p : ListedProduct) →
         product_as row.now.number p ≡ row.now →
         result ≡ kinds_right (charge_in k) p.members }
 {

@@ -2,9 +2,9 @@
 
 ghost use Rattle.std.specs.Prelude.{◌≡◌, ◌==◌, ◌||◌, not, ℕ, List, map};
 ghost use Rattle.std.specs.List.{AllByRecursion};
-ghost use Rattle.mf_account.specs.Kinds.{is_seal as is_seal_kind};
-ghost use Rattle.mf_account.specs.Lawful.{is_last_of, are_seals_last as are_all_seals_last};
-ghost use Rattle.mf_account.specs.Standing.{is_before as comes_before};
+ghost use Rattle.mf_account.specs.Kinds.{is_seal};
+ghost use Rattle.mf_account.specs.Lawful.{is_last_of, are_seals_last};
+ghost use Rattle.mf_account.specs.Standing.{is_before};
 ghost use Rattle.mf_account.specs.declared.entry.Entry.{Entry};
 ghost use Rattle.mf_store_values.specs.Ledgers.{IsReadable};
 ghost use Rattle.mf_store_values.specs.Flat.{entry_in};
@@ -17,7 +17,7 @@ use mf_store_schema::EntryRow;
 fn is_before(row: &EntryRow, last: &EntryRow) -> bool
     ensures { (x m : ℕ) (f e : Entry) → IsReadable f → entry_in x m f ≡ row.now → IsReadable e → entry_in x m e
         ≡ last.now →
-        result ≡ comes_before f e }
+        result ≡ is_before f e }
 {
     let Some(day) = Day::parse(row.day.as_str().as_bytes()) else {
         return false;
@@ -30,7 +30,7 @@ fn is_before(row: &EntryRow, last: &EntryRow) -> bool
 
 /// Whether a row is of a write-off or a refund. Of a row that is none of an entry it says nothing.
 pub fn is_seal(row: &EntryRow) -> bool
-    ensures { (x m : ℕ) (e : Entry) → entry_in x m e ≡ row.now → result ≡ is_seal_kind e.kind }
+    ensures { (x m : ℕ) (e : Entry) → entry_in x m e ≡ row.now → result ≡ is_seal e.kind }
 {
     match Kind::from_number(row.kind) {
         Some(kind) => kind.is_seal(),
@@ -50,7 +50,7 @@ pub fn is_reversed(row: &EntryRow) -> bool
 pub fn is_past(row: &EntryRow, last: &EntryRow) -> bool
     ensures { (x m : ℕ) (f e : Entry) → IsReadable f → entry_in x m f ≡ row.now → IsReadable e → entry_in x m e
         ≡ last.now →
-        result ≡ (f.reversed || ((f.seq == e.seq) || comes_before f e)) }
+        result ≡ (f.reversed || ((f.seq == e.seq) || is_before f e)) }
 {
     is_reversed(row) || row.seq == last.seq || is_before(row, last)
 }
@@ -73,7 +73,7 @@ fn is_last(rows: &[EntryRow], last: &EntryRow) -> bool
 fn is_in_order(rows: &[EntryRow], row: &EntryRow) -> bool
     ensures { (x m : ℕ) (entries : List Entry) (e : Entry) → AllByRecursion IsReadable entries →
         map (entry_in x m) entries ≡ rows.now → IsReadable e → entry_in x m e ≡ row.now →
-        result ≡ (e.reversed || (not (is_seal_kind e.kind) || is_last_of entries e)) }
+        result ≡ (e.reversed || (not (is_seal e.kind) || is_last_of entries e)) }
 {
     is_reversed(row) || !is_seal(row) || is_last(rows, row)
 }
@@ -83,7 +83,7 @@ fn is_in_order(rows: &[EntryRow], row: &EntryRow) -> bool
 pub(crate) fn are_seals_last(rows: &[EntryRow]) -> bool
     ensures { (x m : ℕ) (entries : List Entry) → AllByRecursion IsReadable entries → map (entry_in x m) entries
         ≡ rows.now →
-        result ≡ are_all_seals_last entries }
+        result ≡ are_seals_last entries }
 {
     for row in rows {
         if !is_in_order(rows, row) {

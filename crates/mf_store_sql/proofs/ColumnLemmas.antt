@@ -1,17 +1,18 @@
 -- Columns of a row, by their places, as terms read them.
-use Rattle.std.proofs.Common.{◌≡◌, ℕ, ℤ, zero, suc, ◌+◌, ◌≤◌, Bool, true, false, List, [], ◌∷◌, ◌++◌, map, take, length}
-use Rattle.std.proofs.Common.{refl, sym, ap, ap₂, ◌∙◌, arith, subst}
-use Rattle.std.proofs.lemmas.Bool.{and_parts}
+use Rattle.std.proofs.Common.{◌≡◌, ℕ, ℤ, zero, suc, ◌+◌, ◌≤◌, Bool, true, false, List, [], ◌∷◌, ◌++◌, map, length, refl}
+use Rattle.std.proofs.Common.{sym, ap, ap₂, ◌∙◌, arith, true≢false, cond, pos, None, Some, ◌⊎◌, inl, inr}
 use Rattle.sqlite.specs.declared.types.Value.{Value}
-use Rattle.sqlite.specs.declared.types.Value.TheVariants.{Null, Int}
+use Rattle.sqlite.specs.declared.types.Value.TheVariants.{Int, Text as Words}
 use Rattle.sqlite.specs.Order.{Row, column}
-use Rattle.sqlite.specs.Term.{Term, col, eval, eval_all}
+use Rattle.sqlite.specs.Term.{eval_all}
 use Rattle.sqlite_sql.specs.Ops.{is_null}
 use Rattle.sqlite.specs.Kind.TheVariants as kind
-use Rattle.mf_store_sql.proofs.CompareLemmas.{AllKept, keeps_value, null_kept, text_kept}
-use Rattle.mf_store_sql.specs.Columns.{Field, Number, Amount, Text, MaybeNumber, MaybeText, Named, Columns, upwards}
-use Rattle.mf_store_sql.specs.Columns.{sql_column, sql_kind, is_always}
-use Rattle.mf_store_sql.specs.Rows.{Fits, AllFit, IsPlainValue, ArePlain}
+use Rattle.mf_store_sql.proofs.CompareLemmas.{cast_int, cast_null}
+use Rattle.sqlite.specs.Cast.{cast}
+use Rattle.sqlite_rules.specs.Cast.{cast_all}
+use Rattle.mf_store_sql.specs.Columns.{Field, Number, Amount, Text, MaybeNumber, MaybeText, Named, sql_column, sql_kind}
+use Rattle.mf_store_sql.specs.Columns.{is_always}
+use Rattle.mf_store_sql.specs.Rows.{IsKeepable, AreKeepable, IsPlainValue, ArePlain}
 use Rattle.mf_store_sql.specs.Meanings.{columns_of, are_always}
 
 -- so many columns of a row, from this one on
@@ -52,56 +53,54 @@ reads_row params id at (suc n) row = ap (λ vs. column row at ∷ vs) (reads_row
 
 -- ---- fields
 
-pub as_many : (cs : List Named) (row : Row) → AllFit cs row → length row ≡ length cs
+pub as_many : (cs : List Named) (row : Row) → AreKeepable cs row → length row ≡ length cs
 as_many [] [] fit = refl
 as_many [] (v ∷ vs) fit = absurd fit
 as_many (c ∷ cs) [] fit = absurd fit
 as_many (c ∷ cs) (v ∷ vs) fit = ap suc (as_many cs vs fit.1)
 
-kept : (f : Field) (v : Value) → Fits f v → keeps_value (sql_kind f) v ≡ true
-kept Number v fit = ap (keeps_value kind.Integer) fit.1
-kept Amount v fit = ap (keeps_value kind.Integer) fit.1
-kept Text v fit = ap (keeps_value kind.Text) fit.1
-kept MaybeNumber v fit = ap (keeps_value kind.Integer) fit.1 ∙ null_kept fit.0
-kept MaybeText v fit = ap (keeps_value kind.Text) fit.1 ∙ text_kept fit.0
+kept : (f : Field) (v : Value) → IsKeepable f v → cast (sql_kind f) v ≡ v
+kept Number v (n, is) = ap (cast kind.Integer) is ∙ cast_int _ ∙ sym is
+kept Amount v (n, is) = ap (cast kind.Integer) is ∙ cast_int n ∙ sym is
+kept Text v (t, is) = ap (cast kind.Text) is ∙ sym is
+kept MaybeNumber v (None, is) = ap (cast kind.Integer) is ∙ cast_null ∙ sym is
+kept MaybeNumber v (Some n, is) = ap (cast kind.Integer) is ∙ cast_int _ ∙ sym is
+kept MaybeText v (None, is) = ap (cast kind.Text) is ∙ sym is
+kept MaybeText v (Some t, is) = ap (cast kind.Text) is ∙ sym is
 
 -- each column keeps its field as it is
-pub all_kept : (cs : List Named) (row : Row) → AllFit cs row → AllKept (map sql_column cs) row
-all_kept [] row fit = tt
-all_kept (c ∷ cs) [] fit = tt
-all_kept (c ∷ cs) (v ∷ vs) fit = (kept c.field v fit.0, all_kept cs vs fit.1)
+pub all_kept : (cs : List Named) (row : Row) → AreKeepable cs row → cast_all (map sql_column cs) row ≡ row
+all_kept [] row fit = refl
+all_kept (c ∷ cs) [] fit = refl
+all_kept (c ∷ cs) (v ∷ vs) fit = ap₂ ◌∷◌ (kept c.field v fit.0) (all_kept cs vs fit.1)
 
 plain_later : (at n : ℕ) (v : Value) (row : Row) → ArePlain at n row → ArePlain (suc at) n (v ∷ row)
 plain_later at zero v row h = tt
 plain_later at (suc n) v row h = (h.0, plain_later (suc at) n v row h.1)
 
+both_on : (b c : Bool) → cond b c false ≡ true → (b ≡ true) × (c ≡ true)
+both_on true c h = (refl, h)
+both_on false c h = absurd (true≢false (sym h))
+
 pub few_always : (n : ℕ) (cs : List Named) → are_always n cs ≡ true → n ≤ length cs
 few_always zero cs h = omega arith
-few_always (suc n) [] h = absurd (let e : false ≡ true = h in cc)
-few_always (suc n) (c ∷ cs) h = go (is_always c.field) h (few_always n cs)
-  where
-    go : (b : Bool) → Rattle.std.proofs.Common.cond b (are_always n cs) false ≡ true → (are_always n cs ≡ true
-        → n ≤ length cs) → suc n ≤ suc (length cs)
-    go true h rest = let l : n ≤ length cs = rest h in omega (arith, l)
-    go false h rest = absurd (let e : false ≡ true = h in cc)
+few_always (suc n) [] h = absurd (true≢false (sym h))
+few_always (suc n) (c ∷ cs) h = let l = few_always n cs (both_on (is_always c.field) _ h).1 in omega (arith, l)
 
-pub are_plain : (n : ℕ) (cs : List Named) (row : Row) → are_always n cs ≡ true → AllFit cs row → ArePlain 0 n row
+pub are_plain : (n : ℕ) (cs : List Named) (row : Row) → are_always n cs ≡ true → AreKeepable cs row → ArePlain 0 n row
 are_plain zero cs row h fit = tt
-are_plain (suc n) [] row h fit = absurd (let e : false ≡ true = h in cc)
+are_plain (suc n) [] row h fit = absurd (true≢false (sym h))
 are_plain (suc n) (c ∷ cs) [] h fit = absurd fit
-are_plain (suc n) (c ∷ cs) (v ∷ vs) h fit = go (is_always c.field) refl h (λ more. are_plain n cs vs more fit.1)
-  where
-    go : (b : Bool) → is_always c.field ≡ b → Rattle.std.proofs.Common.cond b (are_always n cs) false ≡ true
-        → (are_always n cs ≡ true → ArePlain 0 n vs) → IsPlainValue v × ArePlain 1 n (v ∷ vs)
-    go true e h rest = ((c.field, e, fit.0), plain_later 0 n v vs (rest h))
-    go false e h rest = absurd (let e : false ≡ true = h in cc)
+are_plain (suc n) (c ∷ cs) (v ∷ vs) h fit = let both = both_on (is_always c.field) _ h in
+    ((c.field, both.0, fit.0), plain_later 0 n v vs (are_plain n cs vs both.1 fit.1))
+
+-- a value that is always there is an integer or a text
+pub int_or_text : (v : Value) → IsPlainValue v → ((n : ℤ) × (v ≡ Int n)) ⊎ ((t : List ℕ) × (v ≡ Words t))
+int_or_text v (Number, a, fit) = inl (pos fit.0, fit.1)
+int_or_text v (Amount, a, fit) = inl fit
+int_or_text v (Text, a, fit) = inr fit
+int_or_text v (MaybeNumber, a, fit) = absurd (true≢false (sym a))
+int_or_text v (MaybeText, a, fit) = absurd (true≢false (sym a))
 
 pub not_null : (v : Value) → IsPlainValue v → is_null v ≡ false
-not_null v h = go h.0 h.1 h.2
-  where
-    go : (f : Field) → is_always f ≡ true → Fits f v → is_null v ≡ false
-    go Number a fit = ap is_null fit.1
-    go Amount a fit = ap is_null fit.1
-    go Text a fit = ap is_null fit.1
-    go MaybeNumber a fit = absurd (let e : false ≡ true = a in cc)
-    go MaybeText a fit = absurd (let e : false ≡ true = a in cc)
+not_null v h = elim (int_or_text v h) [ inl number ↦ ap is_null number.1 | inr text ↦ ap is_null text.1 ]

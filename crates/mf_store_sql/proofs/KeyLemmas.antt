@@ -1,17 +1,15 @@
 -- What SQL's comparisons make of keys.
-use Rattle.std.proofs.Common.{◌≡◌, ℕ, ℤ, zero, suc, ◌+◌, Bool, true, false, ◌&&◌, ◌||◌, List, [], ◌∷◌, ◌++◌, map}
-use Rattle.std.proofs.Common.{length}
-use Rattle.std.proofs.Common.{refl, sym, ap, ap₂, ◌∙◌, arith, subst, Ordering, Less, Equal, Greater, is_eq}
-use Rattle.std.specs.Ordering.{ordering_then, ordering_reverse}
+use Rattle.std.proofs.Common.{◌≡◌, ℕ, ℤ, zero, suc, false, List, [], ◌∷◌, map, refl, ap, ◌∙◌, Equal, is_eq}
+use Rattle.std.specs.Ordering.{ordering_then}
 use Rattle.std.specs.Cmp.{IsTotalOrder}
 use Rattle.std.specs.List.{list_all}
 use Rattle.std.proofs.lemmas.Cmp.{on_total, then_total}
 use Rattle.sqlite.specs.declared.types.Value.{Value}
 use Rattle.sqlite.specs.declared.types.Value.TheVariants.{Int}
 use Rattle.sqlite.specs.Order.{Row, column, value_cmp}
-use Rattle.sqlite.specs.Term.{Term, col, holds, eval, eval_all}
-use Rattle.sqlite.specs.Query.{output_cmp, key_cmp}
-use Rattle.sqlite.specs.Ops.{binary, is_true, from_truth}
+use Rattle.sqlite.specs.Term.{holds, eval_all}
+use Rattle.sqlite.specs.Query.{key_cmp}
+use Rattle.sqlite.specs.Ops.{binary, is_true}
 use Rattle.sqlite.specs.Collation.TheVariants.{Binary}
 use Rattle.sqlite_sql.specs.Ops.{is_null}
 use Rattle.sqlite_sql.specs.declared.ops.BinaryOp.TheVariants.{Compare}
@@ -20,11 +18,10 @@ use Rattle.sqlite_schema.specs.Rules.{agree}
 use Rattle.sqlite_value.specs.declared.keys.Key.{Key}
 use Rattle.sqlite_value.specs.Keys.{first_key}
 use Rattle.sqlite_value.proofs.OrderLemmas.{value_cmp_total}
-use Rattle.mf_store_sql.proofs.CompareLemmas.{truth_back, eq_then, key_step}
+use Rattle.mf_store_sql.proofs.CompareLemmas.{truth_back, tied_back, key_step}
 use Rattle.mf_store_sql.specs.Columns.{upwards}
-use Rattle.mf_store_sql.specs.Rows.{columns_cmp, first_cmp, begins}
+use Rattle.mf_store_sql.specs.Rows.{columns_cmp, ArePlain}
 use Rattle.mf_store_sql.specs.Meanings.{tests_from, order_from}
-use Rattle.mf_store_sql.specs.Rows.{ArePlain, IsPlainValue}
 use Rattle.mf_store_sql.proofs.ColumnLemmas.{columns_at, not_null}
 
 -- ---- the order of keys is one
@@ -38,27 +35,11 @@ columns_total at (suc n) = then_total (on_total (λ (r : Row). column r at) valu
 
 -- ---- equality of values that are there
 
-reversed_eq : (o : Ordering) → is_eq (ordering_reverse o) ≡ is_eq o
-reversed_eq Less = refl
-reversed_eq Equal = refl
-reversed_eq Greater = refl
-
-eq_back : (a b : Value) → is_eq (value_cmp a b) ≡ is_eq (value_cmp b a)
-eq_back a b = ap is_eq (value_cmp_total.antisymm a b) ∙ reversed_eq (value_cmp b a)
-
 -- with the sides as a row and a parameter stand
 pub equals_back : (a b : Value) → is_null a ≡ false → is_null b ≡ false
     → is_true (binary (Compare Eq Binary) a b) ≡ is_eq (value_cmp b a)
 unfolding binary
-equals_back a b h k = go (is_null a) (is_null b) h k ∙ truth_back _ ∙ eq_back a b
-  where
-    go : (c d : Bool) → c ≡ false → d ≡ false
-        → is_true (Rattle.std.proofs.Common.cond (c || d) Rattle.sqlite.specs.declared.types.Value.TheVariants.Null
-        (from_truth (Rattle.std.proofs.Common.Some (is_eq (value_cmp a b)))))
-        ≡ is_true (from_truth (Rattle.std.proofs.Common.Some (is_eq (value_cmp a b))))
-    go false false h k = refl
-    go true d h k = absurd (let e : true ≡ false = h in cc)
-    go false true h k = absurd (let e : true ≡ false = k in cc)
+equals_back a b h k = rw (h, k) (truth_back _ ∙ tied_back a b)
 
 -- ---- the tests of a query
 

@@ -1,6 +1,5 @@
 pub mod CompareLemmas
 pub mod KeepLemmas
-pub mod ItemLemmas
 pub mod ReadLemmas
 pub mod AlikeLemmas
 pub mod WriteLemmas

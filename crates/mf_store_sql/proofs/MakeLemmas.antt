@@ -1,5 +1,6 @@
 -- What CREATE TABLE makes, of one table and of several.
-use Rattle.std.proofs.Common.{◌≡◌, ◌<◌, ◌≤◌, ◌-◌, ℕ, false, List, [], ◌∷◌, ◌++◌, Ok, map, length, take, drop, get_or, IsTrue, arith, refl, sym, ap, ◌∙◌, subst}
+use Rattle.std.proofs.Common.{◌≡◌, ◌≤◌, ◌-◌, ℕ, false, List, [], ◌∷◌, ◌++◌, Ok, map, length, take, drop, get_or, IsTrue}
+use Rattle.std.proofs.Common.{arith, refl, sym, ap, ◌∙◌, subst}
 use Rattle.std.specs.List.{AllByRecursion}
 use Rattle.std.proofs.lemmas.List.{take_all}
 use Rattle.sqlite.specs.Table.{Table}
@@ -11,7 +12,7 @@ use Rattle.sqlite.specs.Effect.{Database}
 use Rattle.sqlite.specs.Listing.{understood}
 use Rattle.sqlite.specs.State.{State, Executes}
 use Rattle.sqlite.proofs.Callers.{statement_of, runs_as}
-use Rattle.sqlite_keyed.proofs.ListLemmas.{all_both}
+use Rattle.sqlite_keyed.proofs.ListLemmas.{all_of, all_both}
 use Rattle.sqlite_catalog.specs.Listing.{IsSound}
 use Rattle.mf_store_sql.specs.Columns.{Columns, sql_table}
 use Rattle.mf_store_sql.specs.Making.{IsDefined, AreDefined, AreMade, Makes}
@@ -53,18 +54,10 @@ makes_one before tree t old new count d has h =
 
 -- ---- several tables
 
-module _ {X : Type 0} (P : X → Type 0) where
-  all_of : ((x : X) → P x) → (xs : List X) → AllByRecursion P xs
-  all_of each [] = tt
-  all_of each (x ∷ xs) = (each x, all_of each xs)
-
-  all_split : (xs : List X) (y : X) → AllByRecursion P (xs ++ y ∷ []) → AllByRecursion P xs × P y
-  all_split [] y all = (tt, all.0)
-  all_split (x ∷ xs) y all = let rest = all_split xs y all.1 in ((all.0, rest.0), rest.1)
-
-pub none_there : {X : Type 0} (xs : List X) → length xs < 1 → xs ≡ []
-none_there [] short = refl
-none_there (x ∷ xs) short = absurd (omega (arith, short))
+all_split : {X : Type 0} (P : X → Type 0) (xs : List X) (y : X) → AllByRecursion P (xs ++ y ∷ [])
+    → AllByRecursion P xs × P y
+all_split P [] y all = (tt, all.0)
+all_split P (x ∷ xs) y all = let rest = all_split P xs y all.1 in ((all.0, rest.0), rest.1)
 
 -- the first and those after it
 pub first_and_others : {X : Type 0} (xs : List X) (x : X) → 1 ≤ length xs

@@ -1,6 +1,7 @@
 -- What a database in memory is as it is made; and it is clean ever after.
-use Rattle.std.proofs.Common.{◌≡◌, ◌&&◌, Bool, List, [], ◌∷◌, true, false, refl, ap, subst, ◌∙◌, IsTrue}
+use Rattle.std.proofs.Common.{◌≡◌, List, [], ◌∷◌, true, refl, ap, subst, ◌∙◌, IsTrue}
 use Rattle.std.specs.List.{AllZip}
+use Rattle.std.proofs.lemmas.Bool.{and_from}
 use Rattle.sqlite_disk.specs.declared.Disk.{Ghosts}
 use Rattle.sqlite_pool.specs.Pool as pool
 use Rattle.sqlite_store.specs.declared.store.FileStore.{FileStore}
@@ -17,16 +18,11 @@ use Rattle.sqlite.specs.Held.{Held}
 use Rattle.sqlite.specs.Steps as steps
 use Rattle.sqlite.specs.Files.{file_state, IsOpened}
 
-both_true : (a b : Bool) → a ≡ true → b ≡ true → (a && b) ≡ true
-both_true true true p q = refl
-both_true true false p q = q
-both_true false b p q = p
-
 -- where each file of a type is clean, so is each store over two of them
 clean_store : {D : Type 0} {g : Ghosts D} → ((file : D) → g.is_clean file ≡ true) → (store : FileStore D g)
     → IsTrue (view store).is_clean
 unfolding pool.state
-clean_store clean store = both_true _ _ (clean _) (clean _)
+clean_store clean store = and_from _ _ (clean _) (clean _)
 
 -- and each connection
 pub always_clean : {D : Type 0} {g : Ghosts D} → ((file : D) → g.is_clean file ≡ true) → (c : Held (FileStore D g))

@@ -1,9 +1,6 @@
 -- A query that writes nothing, and what is read of its rows.
-use Rattle.std.proofs.Common.{◌≡◌, inl, inr, subst, subst₂, ℕ, ◌+◌, ◌<◌, ◌++◌, length, take, get_or, slice_get, find}
-use Rattle.std.proofs.Common.{Option, Some, None, Result, Ok, Err, IfOk, IfErr, OnOk, Bool, refl, arith, List, [], ◌∷◌}
-use Rattle.std.proofs.Common.{map, filter, sym, ap, ap₂, ◌∙◌, IsTrue}
-use Rattle.std.proofs.lemmas.List.{take_more, map-append, length-map, get_or-map}
-use Rattle.sqlite_keyed.proofs.ListLemmas.{slice_get-filter}
+use Rattle.std.proofs.Common.{◌≡◌, inl, inr, subst, ℕ, Option, Some, None, Result, Ok, Err, IfOk, IfErr, refl, arith}
+use Rattle.std.proofs.Common.{List, sym, ◌∙◌, IsTrue}
 use Rattle.sqlite.specs.Order.{Row}
 use Rattle.sqlite.specs.Clock.{timed}
 use Rattle.sqlite_schema.specs.declared.command.Returning.{Returning}
@@ -23,11 +20,6 @@ pub either_way : {A E : Type 0} (r : Result A E) (P : A → Type 0) (Q : E → T
     → ((e : E) → Q e → R) → IfOk r P → IfErr r Q → R
 either_way (Ok a) P Q R on_ok on_err h k = on_ok a h
 either_way (Err e) P Q R on_ok on_err h k = on_err e k
-
--- what follows from each answer holds of the call that gave one
-pub on_ok_if : {A E : Type 0} (r : Result A E) (P : A → Type 0) (Q : Type 0) → ((a : A) → P a → Q) → IfOk r P → OnOk r Q
-on_ok_if (Ok a) P Q f h = f a h
-on_ok_if (Err e) P Q f h = tt
 
 pub shown_same : (sql : List ℕ) (params : Row) (old new : State) (rows : List Row)
     → IsPlain (understood old.now.schema sql) → Shown sql params old new rows → new.now ≡ old.now
@@ -96,37 +88,3 @@ module _ (sql : List ℕ) (params : Row) (old mid new : State) where
       × ¬ IsPlain (understood old.now.schema sql)) (λ _ db none. absurd none)
       (λ clean db wrote. let early : HasCleanDisk mid = omega (arith, clean, second.clean) in let it = prepared early in
       (it.0.was_open, λ plain. never_commits sql params mid db (still_plain it plain) wrote)) first second
-
--- ---- rows that are read into items
-
-pub each_more : {R C : Type 0} (row : R → Row) (of : C → R) (rows : List Row) (i : ℕ) (item : Row) (x : C)
-    (xs ys : List C) (rs : List R) → rows ≡ map row rs → i < length rows → item ≡ get_or rows i item → ys ≡ xs ++ x ∷ []
-    → map of xs ≡ take i rs
-    → ((r : R) → item ≡ row r → of x ≡ r) → map of ys ≡ take (i + 1) rs
-each_more row of rows i item x xs ys rs are low is more before reads =
-    let low' : i < length rs = subst (λ n. i < n) (ap length are ∙ length-map rs row) low in
-    let here = reads (get_or rs i (of x)) (is ∙ ap (λ l. get_or l i item) are ∙ get_or-map row rs i (of x) item low') in
-    ap (map of) more ∙ map-append of xs (x ∷ []) ∙ ap₂ ◌++◌ before (ap (λ r. r ∷ []) here)
-    ∙ sym (take_more rs i (of x) low')
-
-pub first_none : {R : Type 0} (row : R → Row) (p : R → Bool) (rows : List Row) (rs : List R)
-    → rows ≡ map row (filter p rs) → slice_get rows 0 ≡ None → None ≡ find p rs
-first_none {R} row p rows rs are none = go (filter p rs) refl (sym (ap (λ l. slice_get l 0) are) ∙ none)
-  where
-    go : (l : List R) → filter p rs ≡ l → slice_get (map row l) 0 ≡ None → None ≡ find p rs
-    go [] e h = sym (ap (λ l. slice_get l 0) e) ∙ slice_get-filter p rs
-    go (r ∷ l) e h = absurd (let x : Some (row r) ≡ None = h in cc)
-
-pub first_some : {R : Type 0} (row : R → Row) (p : R → Bool) (rows : List Row) (rs : List R) (first : Row)
-    → rows ≡ map row (filter p rs) → slice_get rows 0 ≡ Some first → (r : R) × (first ≡ row r) × (find p rs ≡ Some r)
-first_some {R} row p rows rs first are some = go (filter p rs) refl (sym (ap (λ l. slice_get l 0) are) ∙ some)
-  where
-    go : (l : List R) → filter p rs ≡ l → slice_get (map row l) 0 ≡ Some first → (r : R) × (first ≡ row r)
-        × (find p rs ≡ Some r)
-    go [] e h = absurd (let x : ◌≡◌ {A = Option Row} None (Some first) = h in cc)
-    go (r ∷ l) e h = (
-      r,
-      (let x : Some (row r) ≡ Some first = h in cc),
-      sym (slice_get-filter p rs)
-          ∙ ap (λ l. slice_get l 0) e,
-    )

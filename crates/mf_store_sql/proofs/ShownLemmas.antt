@@ -16,10 +16,10 @@ use Rattle.sqlite.specs.Effect.{Database, Reads}
 use Rattle.sqlite.proofs.Callers.{IsPlain, command_of}
 use Rattle.sqlite_value.specs.declared.keys.Key.{Key}
 use Rattle.sqlite_keyed.proofs.ListLemmas.{ascending-filter, ascending_weaker}
-use Rattle.mf_store_sql.specs.Keep.{AreAlike, Keeps}
+use Rattle.mf_store_sql.specs.Keep.{Keeps}
 use Rattle.mf_store_sql.specs.Scan.{scan, cut_at}
 use Rattle.mf_store_sql.specs.Queries.{Answers}
-use Rattle.mf_store_sql.proofs.AlikeLemmas.{answer_alike}
+use Rattle.mf_store_sql.proofs.AlikeLemmas.{answer_full}
 use Rattle.mf_store_sql.proofs.ReadLemmas.{shows}
 
 pub shown_kept : {X : Type 0} (stored : X → Row) (cmp : X → X → Ordering) (schema : Schema) (tree : ℕ) (sql : List ℕ)
@@ -38,13 +38,12 @@ shown_kept stored cmp schema tree sql plain unlisted tests project order names i
     under db items rows has k h =
     let read = subst (λ c. Reads c db params rows) (ap (λ s. command_of (understood s sql)) has ∙ is)
     (h (subst (λ s. IsPlain (understood s sql)) (sym has) plain) (ap (λ s. reads_listing s sql) has ∙ unlisted)) in
-    let near = subst (λ t. AreAlike t k.full) (sym (under db.trees)) k.alike in
     let q = scan tree tests project order in
     let rising = ascending_weaker _ (λ a b. output_cmp q (sort a, show a) (sort b, show b) ≡ Less) (λ a b h. ranks a b
     ∙ h) _ (ascending-filter (λ a b. cmp a b ≡ Less) test items k.whole.rising) in
-    shows stored cmp tree tests project order params test tested sort show out (λ _. k.full) items k.whole rising Null
-    rows (answer_alike tree tests project order params Null (overlay db.trees []) (λ _. k.full) near rows
-    (read.answer Null))
+    shows stored cmp tree tests project order params test tested (λ _. k.full) items k.whole Null rows
+    (answer_full tree tests project order params under db.trees k.full k.alike rows
+    (read.answer Null)) sort show out rising
 
 -- the answer of a query that is cut is the start of the whole answer
 whole : (lost : Value) (count tree : ℕ) (tests project : List Term) (order : List (Term × Key)) (db : Trees)
@@ -83,11 +82,10 @@ shown_first_kept stored cmp schema tree count sql plain unlisted tests project o
     show out ranks under db items rows has k h =
     let read = subst (λ c. Reads c db params rows) (ap (λ s. command_of (understood s sql)) has ∙ is)
     (h (subst (λ s. IsPlain (understood s sql)) (sym has) plain) (ap (λ s. reads_listing s sql) has ∙ unlisted)) in
-    let near = subst (λ t. AreAlike t k.full) (sym (under db.trees)) k.alike in
     let q = scan tree tests project order in
     let rising = ascending_weaker _ (λ a b. output_cmp q (sort a, show a) (sort b, show b) ≡ Less) (λ a b h. ranks a b
     ∙ h) _ (ascending-filter (λ a b. cmp a b ≡ Less) test items k.whole.rising) in
     let all = whole Null count tree tests project order (overlay db.trees []) params rows (read.answer Null) in
-    all.2 ∙ ap (take count) (shows stored cmp tree tests project order params test tested sort show out (λ _. k.full)
-    items k.whole rising Null all.0 (answer_alike tree tests project order params Null (overlay db.trees [])
-    (λ _. k.full) near all.0 all.1))
+    all.2 ∙ ap (take count) (shows stored cmp tree tests project order params test tested (λ _. k.full) items k.whole
+    Null all.0 (answer_full tree tests project order params under db.trees k.full k.alike all.0 all.1)
+    sort show out rising)

@@ -1,11 +1,8 @@
 -- What the texts of a table do to the rows that it keeps, whatever its columns are.
-use Rattle.std.proofs.Common.{◌≡◌, ℕ, ℤ, zero, suc, ◌+◌, ◌-◌, ◌/◌, ◌*◌, ◌≤◌, ◌<◌, Bool, true, false, List, [], ◌∷◌}
-use Rattle.std.proofs.Common.{◌++◌}
-use Rattle.std.proofs.Common.{map, filter, find, take, length, None, Some, Ok, refl, sym, ap, ap₂, ◌∙◌, arith, subst}
-use Rattle.std.proofs.Common.{Ordering}
+use Rattle.std.proofs.Common.{◌≡◌, ℕ, ℤ, zero, suc, ◌+◌, ◌-◌, ◌/◌, ◌*◌, Bool, true, List, [], ◌∷◌, ◌++◌, map, filter}
+use Rattle.std.proofs.Common.{find, take, length, None, Ok, refl, sym, ap, ap₂, ◌∙◌, arith, subst, Ordering, inl, inr}
 use Rattle.std.proofs.Common.{is_eq}
 use Rattle.std.specs.Cmp.{IsTotalOrder}
-use Rattle.std.specs.Ordering.{ordering_reverse}
 use Rattle.std.proofs.lemmas.Cmp.{on_total}
 use Rattle.std.proofs.lemmas.List.{append-nil, length-map, take_all}
 use Rattle.std.proofs.lemmas.Nat.{div-mul-add}
@@ -15,34 +12,32 @@ use Rattle.sqlite.specs.Order.{Row, column}
 use Rattle.sqlite.specs.Cast.{cast, cast_row}
 use Rattle.sqlite.specs.Kind.TheVariants as kind
 use Rattle.sqlite.specs.Tree.{Trees}
-use Rattle.sqlite.specs.Term.{Term, lit, col, eval, eval_all}
+use Rattle.sqlite.specs.Term.{lit, col, eval_all}
 use Rattle.sqlite.specs.Effect.{Database, value_rows}
-use Rattle.sqlite.specs.Rows.{stamped, shown}
+use Rattle.sqlite.specs.Rows.{stamped}
 use Rattle.sqlite.specs.Schema.{Schema}
 use Rattle.sqlite.specs.State.{State, Executes}
 use Rattle.sqlite.specs.Program.{overlay}
-use Rattle.sqlite.specs.Query.{output, output_cmp}
 use Rattle.sqlite_catalog.specs.Listing.{IsSound}
-use Rattle.sqlite_rules.specs.Keys.{conflicts}
 use Rattle.sqlite_schema.specs.Rules.{agree}
+use Rattle.sqlite_value.specs.Keys.{plain}
 use Rattle.mf_store_sql.specs.Keep.{Keeps, put_item}
 use Rattle.mf_store_sql.specs.Queries.{Answers}
-use Rattle.mf_store_sql.specs.Scan.{scan, eq}
-use Rattle.mf_store_sql.proofs.CompareLemmas.{each_kept, or_false}
+use Rattle.mf_store_sql.proofs.CompareLemmas.{or_false}
 use Rattle.mf_store_sql.proofs.KeptLemmas.{Spares}
 use Rattle.mf_store_sql.proofs.InsertLemmas.{inserts_kept}
 use Rattle.mf_store_sql.proofs.ShownLemmas.{shown_kept}
-use Rattle.mf_store_sql.proofs.UpsertLemmas.{upserts_kept}
-use Rattle.mf_store_sql.specs.Columns.{Columns, Named, upwards, sql_table, key_index}
+use Rattle.mf_store_sql.proofs.UpsertLemmas.{upserted, puts_kept, updates_kept}
+use Rattle.mf_store_sql.proofs.WriteLemmas.{opened, task}
+use Rattle.mf_store_sql.specs.Scan.{eq, scan}
+use Rattle.mf_store_sql.specs.Columns.{Columns, upwards, sql_table, key_index}
 use Rattle.mf_store_sql.specs.Texts.{select_text, insert_text, upsert_text, names_of}
-use Rattle.mf_store_sql.specs.Rows.{first_cmp, columns_cmp, begins, AllFit}
-use Rattle.mf_store_sql.specs.Meanings.{columns_of, tests_from, order_from, are_always, Asks, Adds, Puts, IsKept}
-use Rattle.mf_store_sql.specs.Rows.{ArePlain, IsPlainValue}
-use Rattle.mf_store_sql.proofs.ColumnLemmas.{columns_at, all_columns, reads_row, reads_parameters, as_many}
-use Rattle.mf_store_sql.proofs.ColumnLemmas.{all_kept}
+use Rattle.mf_store_sql.specs.Rows.{first_cmp, begins, AreKeepable, ArePlain}
+use Rattle.mf_store_sql.specs.Meanings.{columns_of, tests_from, order_from, are_always, Asks, IsKept}
+use Rattle.mf_store_sql.proofs.ColumnLemmas.{columns_at, all_columns, reads_row, reads_parameters, as_many, all_kept}
 use Rattle.mf_store_sql.proofs.ColumnLemmas.{are_plain, few_always}
 use Rattle.mf_store_sql.proofs.KeyLemmas.{columns_total, tested, sorts, sorted_by, agrees}
-use Rattle.mf_store_sql.proofs.UpdateLemmas.{updated}
+use Rattle.mf_store_sql.proofs.UpdateLemmas.{updated, behind}
 
 many_upwards : (at n : ℕ) → length (upwards at n) ≡ n
 many_upwards at zero = refl
@@ -66,22 +61,15 @@ one_row tree t row many =
     ap₂ (λ ps n. value_rows ps (suc w) n terms) (append-nil row) once
     ∙ ap (λ ts. eval_all ts (row ∷ []) ∷ []) whole ∙ ap (λ r. r ∷ []) values
 
--- an order that is another, item by item, is a total order where that one is
-total_as : {X : Type 0} (f g : X → X → Ordering) → ((a b : X) → f a b ≡ g a b) → IsTotalOrder g → IsTotalOrder f
-total_as f g same total = record {
-  antisymm = λ x y. same x y ∙ total.antisymm x y ∙ ap ordering_reverse (sym (same y x));
-  trans = λ x y z h k. same x z ∙ total.trans x y z (sym (same x y) ∙ h) (sym (same y z) ∙ k);
-  congr = λ x y z h. same x z ∙ total.congr x y z (sym (same x y) ∙ h) ∙ sym (same y z);
-}
-
 -- an order by first columns is a total one
 pub keyed_total : {X : Type 0} (stored : X → Row) (by : X → X → Ordering) (n : ℕ)
     → ((a b : X) → by a b ≡ first_cmp n (stored a) (stored b)) → IsTotalOrder by
-keyed_total stored by n ordered = total_as by _ ordered (on_total stored (columns_total 0 n))
+keyed_total stored by n ordered = subst IsTotalOrder (λ i a b. sym (ordered a b) i)
+    (on_total stored (columns_total 0 n))
 
 module _ {X : Type 0} (stored : X → Row) (by : X → X → Ordering) (schema : Schema) (place tree : ℕ) (t : Columns)
     (ordered : (a b : X) → by a b ≡ first_cmp t.key (stored a) (stored b))
-    (fit : (x : X) → AllFit t.columns (stored x))
+    (fit : (x : X) → AreKeepable t.columns (stored x))
     (under : (trees : Trees) → overlay trees [] tree ≡ trees tree) where
   whole_row : (params : Row) (id : ℤ) (x : X)
       → eval_all (columns_of 1 1 (length t.columns)) (params ∷ (Int id ∷ stored x)
@@ -104,7 +92,7 @@ module _ {X : Type 0} (stored : X → Row) (by : X → X → Ordering) (schema :
 
 module _ {X : Type 0} (stored : X → Row) (by : X → X → Ordering) (schema : Schema) (place tree : ℕ) (t : Columns)
     (ordered : (a b : X) → by a b ≡ first_cmp t.key (stored a) (stored b))
-    (fit : (x : X) → AllFit t.columns (stored x)) (k : IsKept schema place tree t) where
+    (fit : (x : X) → AreKeepable t.columns (stored x)) (k : IsKept schema place tree t) where
   by_total : IsTotalOrder by
   by_total = keyed_total stored by t.key ordered
 
@@ -115,7 +103,11 @@ module _ {X : Type 0} (stored : X → Row) (by : X → X → Ordering) (schema :
   many x = as_many t.columns (stored x) (fit x)
 
   kept_row : (x : X) (v : Value) → cast_row (sql_table tree t) (v ∷ stored x) ≡ cast kind.Integer v ∷ stored x
-  kept_row x v = each_kept (sql_table tree t) v (stored x) (all_kept t.columns (stored x) (fit x))
+  kept_row x v = ap (λ r. cast kind.Integer v ∷ r) (all_kept t.columns (stored x) (fit x))
+
+  agreed : (x : X) (id i : ℤ) (y : X) → agree plain (upwards 1 t.key) (Int i ∷ stored y) (upwards 1 t.key) (Int id
+      ∷ stored x) ≡ is_eq (by x y)
+  agreed x id i y = agrees 0 t.key id i (stored x) (stored y) (keyed x) (keyed y) ∙ ap is_eq (sym (ordered x y))
 
   -- INSERT: the row is put, and none had its key
   pub added : (x : X) (old new : State) (count : ℕ) (items : List X) → old.now.schema ≡ schema
@@ -127,17 +119,7 @@ module _ {X : Type 0} (stored : X → Row) (by : X → X → Ordering) (schema :
       inserts_kept stored by by_total schema place (sql_table tree t) k.there k.quiet refl (insert_text t) k.adds.plain
       (lit Null ∷ columns_of 0 0 (length t.columns)) (suc (length t.columns)) (key_index tree t) k.adds.is k.index
       k.guards_it (stored x) x (one_row tree t (stored x) (many x)) (kept_row x)
-      (λ id i y. agrees 0 t.key id i (stored x) (stored y) (keyed x) (keyed y) ∙ ap is_eq (sym (ordered x y))) old new
-      count items has keeps h
-
-  clash : (x : X) (id i : ℤ) (y : X) → conflicts (Some (upwards 1 t.key)) schema.indexes (sql_table tree t) (Int id
-      ∷ stored x) (Int i ∷ stored y) ≡ is_eq (by x y)
-  clash x id i y = k.alone (Int id ∷ stored x) (Int i ∷ stored y) ∙ or_false _
-      ∙ agrees 0 t.key id i (stored x) (stored y) (keyed x) (keyed y) ∙ ap is_eq (sym (ordered x y))
-
-  next_to : (row : Row) (n : ℕ) (v : Value) (vs : Row) → length row ≡ n → column (row ++ v ∷ vs) n ≡ v
-  next_to [] n v vs long = ap (column (v ∷ vs)) (sym long)
-  next_to (w ∷ row) n v vs long = ap (column (w ∷ row ++ v ∷ vs)) (sym long) ∙ next_to row (length row) v vs refl
+      (agreed x) old new count items has keeps h
 
   -- INSERT .. ON CONFLICT: the row is put, in place of the one with its key
   pub put : (x : X) (old new : State) (count : ℕ) (items : List X) → old.now.schema ≡ schema
@@ -145,11 +127,27 @@ module _ {X : Type 0} (stored : X → Row) (by : X → X → Ordering) (schema :
       → (new.now.schema ≡ schema) × Keeps stored by (new.now.trees tree) (put_item by x items)
       × Spares schema tree old.now.trees new.now.trees × IsSound schema new.now.trees
   put x old new count items has keeps h =
-      upserts_kept stored by by_total schema place (sql_table tree t) k.there k.quiet refl (upsert_text t) k.puts.plain
-      (lit Null ∷ columns_of 0 0 (length t.columns)) (suc (length t.columns)) (upwards 1 t.key) (length t.columns)
-      (col 1 0 ∷ col 1 0 ∷ columns_of 1 1 t.key ++ columns_of 0 (length t.columns + 2 + t.key)
-      (length t.columns - t.key)) k.puts.is (stored x) x
-      (one_row tree t (stored x) (many x)) (kept_row x) (clash x)
-      (λ v vs. next_to (stored x) (length t.columns) v vs (many x))
-      (λ id i y tied. updated tree t id i (stored x) (stored y) k.always (many x) (few_always t.key t.columns k.always)
-      (keyed x) (keyed y) (ap is_eq (sym (ordered x y)) ∙ tied)) k.under old new count items has keeps h
+      let w = length t.columns in
+      let key = upwards 1 t.key in
+      let db = old.now.trees in
+      let next = new.now.trees in
+      let sql = upsert_text t in
+      let its = task schema place (sql_table tree t) k.there sql (stored x) old new has k.puts.plain count in
+      let it = opened schema place (sql_table tree t) k.there sql (stored x) old new has k.puts.plain count _
+      k.puts.is h (λ w. w) (λ out d. d) in
+      let project = col 1 0 ∷ col 1 0 ∷ columns_of 1 1 t.key ++ columns_of 0 (w + 2 + t.key) (w - t.key) in
+      let did = upserted its place k.quiet refl db (lit Null ∷ columns_of 0 0 w) (suc w) (stored x) key (scan tree
+      (eq (col 1 0) (col 0 w) ∷ []) project []) _ (one_row tree t (stored x) (many x)) (kept_row x) it.2 in
+      let id = did.0 in
+      let at_end : w ≡ length (stored x) + 0 = omega (arith, many x) in
+      let few = few_always t.key t.columns k.always in
+      let clash = λ (i : ℤ) (y : X). k.alone (Int id ∷ stored x) (Int i ∷ stored y) ∙ or_false _ ∙ agreed x id i y in
+      let ends : Keeps stored by (next tree) (put_item by x items) × Spares schema tree db next = elim did.3 [
+        | inl free ↦ puts_kept stored by by_total its db next x items keeps (kept_row x) key id clash did.1 did.2 free.0
+            free.1
+        | inr other ↦ updates_kept stored by by_total its db next x items keeps (kept_row x) key id clash did.1 did.2 w
+            project (λ v vs. ap (column (stored x ++ v ∷ vs)) at_end ∙ behind (stored x) (v ∷ vs) 0)
+            (λ i y tied. updated tree t id i (stored x) (stored y) k.always (many x) few (keyed x) (keyed y)
+            (ap is_eq (sym (ordered x y)) ∙ tied)) k.under other.0 other.1 other.2
+      ] in
+      (it.3, ends.0, ends.1, it.4)

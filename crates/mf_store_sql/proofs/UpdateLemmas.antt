@@ -1,24 +1,20 @@
 -- What an update of a row under the same key makes of it.
-use Rattle.std.proofs.Common.{◌≡◌, ℕ, ℤ, zero, suc, ◌+◌, ◌-◌, ◌≤◌, Bool, true, false, List, [], ◌∷◌, ◌++◌, map, length}
-use Rattle.std.proofs.Common.{refl, sym, ap, ap₂, ◌∙◌, arith, subst, Ordering, Less, Equal, Greater, is_eq, true≢false}
+use Rattle.std.proofs.Common.{◌≡◌, ℕ, ℤ, zero, suc, ◌+◌, ◌-◌, ◌≤◌, true, false, List, [], ◌∷◌, ◌++◌, map, length, ◌⊎◌}
+use Rattle.std.proofs.Common.{inl, inr, refl, sym, ap, ap₂, ◌∙◌, arith, is_eq, true≢false}
 use Rattle.std.specs.List.{range_with_len}
 use Rattle.std.proofs.lemmas.List.{map-append, length-map, append_assoc, length-append}
 use Rattle.std.proofs.lemmas.Map.Lookups.{exact_signed, exact_bytes}
 use Rattle.sqlite.specs.declared.types.Value.{Value}
-use Rattle.sqlite.specs.declared.types.Value.TheVariants.{Null, Int, Text as Words}
+use Rattle.sqlite.specs.declared.types.Value.TheVariants.{Int, Text as Words}
 use Rattle.sqlite.specs.Order.{Row, column, value_cmp}
 use Rattle.sqlite.specs.Rows.{shown}
 use Rattle.sqlite.specs.Term.{Term, col, eval, eval_all}
 use Rattle.sqlite_value.proofs.OrderLemmas.{value_cmp-Int, value_cmp-Text}
-use Rattle.mf_store_sql.proofs.CompareLemmas.{both_equal}
-use Rattle.mf_store_sql.specs.Columns.{Field, Number, Amount, Text, MaybeNumber, MaybeText, Named, Columns, upwards}
-use Rattle.mf_store_sql.specs.Columns.{is_always}
-use Rattle.mf_store_sql.specs.Columns.{sql_column, sql_table}
-use Rattle.mf_store_sql.specs.Rows.{columns_cmp, Fits, AllFit}
+use Rattle.mf_store_sql.proofs.CompareLemmas.{both_equal, equal_is, tied_back}
+use Rattle.mf_store_sql.specs.Columns.{Columns, sql_column, sql_table}
+use Rattle.mf_store_sql.specs.Rows.{columns_cmp, ArePlain, IsPlainValue}
 use Rattle.mf_store_sql.specs.Meanings.{columns_of, are_always}
-use Rattle.mf_store_sql.specs.Rows.{ArePlain, IsPlainValue}
-use Rattle.mf_store_sql.proofs.ColumnLemmas.{columns_at, all_columns, reads_row, reads_parameters}
-use Rattle.mf_store_sql.proofs.ColumnLemmas.{columns_split}
+use Rattle.mf_store_sql.proofs.ColumnLemmas.{columns_at, all_columns, reads_row, int_or_text, columns_split}
 
 -- ---- the columns that `excluded` names
 
@@ -41,7 +37,7 @@ shown_is tree t id row many = ap (λ vs. Int id ∷ vs)
 
 -- ---- columns behind others
 
-behind : (pre row : Row) (at : ℕ) → column (pre ++ row) (length pre + at) ≡ column row at
+pub behind : (pre row : Row) (at : ℕ) → column (pre ++ row) (length pre + at) ≡ column row at
 behind [] row at = ap (column row) (let e : 0 + at ≡ at = omega arith in e)
 behind (v ∷ pre) row at = ap (column (v ∷ pre ++ row)) (let e : suc (length pre) + at ≡ suc (length pre + at) =
     omega arith in e) ∙ behind pre row at
@@ -55,45 +51,23 @@ reads_behind pre row env at (suc n) = ap₂ (λ w vs. w ∷ vs) (behind pre row 
 
 -- ---- the same key
 
--- an integer or a text
-data IsIntOrText (v : Value) : Type 0 where
-  an_int : (n : ℤ) → v ≡ Int n → IsIntOrText v
-  a_text : (t : List ℕ) → v ≡ Words t → IsIntOrText v
-
-int_or_text : (v : Value) → IsPlainValue v → IsIntOrText v
-int_or_text v h = go h.0 h.1 h.2
-  where
-    go : (f : Field) → is_always f ≡ true → Fits f v → IsIntOrText v
-    go Number a fit = an_int _ fit.1
-    go Amount a fit = an_int _ fit.1
-    go Text a fit = a_text _ fit.1
-    go MaybeNumber a fit = absurd (true≢false (sym a))
-    go MaybeText a fit = absurd (true≢false (sym a))
-
-equal_is : (o : Ordering) → is_eq o ≡ true → o ≡ Equal
-equal_is Less h = absurd (true≢false (sym h))
-equal_is Equal h = refl
-equal_is Greater h = absurd (true≢false (sym h))
-
 -- an integer comes before a text
 apart : (n : ℤ) (t : List ℕ) → is_eq (value_cmp (Int n) (Words t)) ≡ false
 unfolding value_cmp
 apart n t = refl
 
-apart_back : (n : ℤ) (t : List ℕ) → is_eq (value_cmp (Words t) (Int n)) ≡ false
-unfolding value_cmp
-apart_back n t = refl
-
-pub value_same : (v w : Value) → IsPlainValue v → IsPlainValue w → is_eq (value_cmp v w) ≡ true → w ≡ v
+value_same : (v w : Value) → IsPlainValue v → IsPlainValue w → is_eq (value_cmp v w) ≡ true → w ≡ v
 value_same v w p q h = go (int_or_text v p) (int_or_text w q)
   where
-    go : IsIntOrText v → IsIntOrText w → w ≡ v
-    go (an_int m a) (an_int n b) = let same = sym (value_cmp-Int m n) ∙ sym (ap₂ value_cmp a b)
-        ∙ equal_is (value_cmp v w) h in b ∙ sym (ap (λ k. Int k) (exact_signed m n same)) ∙ sym a
-    go (an_int m a) (a_text t b) = absurd (true≢false (sym h ∙ ap is_eq (ap₂ value_cmp a b) ∙ apart m t))
-    go (a_text t a) (an_int n b) = absurd (true≢false (sym h ∙ ap is_eq (ap₂ value_cmp a b) ∙ apart_back n t))
-    go (a_text s a) (a_text t b) = let same = sym (value_cmp-Text s t) ∙ sym (ap₂ value_cmp a b)
-        ∙ equal_is (value_cmp v w) h in b ∙ sym (ap (λ k. Words k) (exact_bytes s t same)) ∙ sym a
+    go : ((n : ℤ) × (v ≡ Int n)) ⊎ ((t : List ℕ) × (v ≡ Words t)) → ((n : ℤ) × (w ≡ Int n)) ⊎ ((t : List ℕ)
+        × (w ≡ Words t)) → w ≡ v
+    go (inl (m, a)) (inl (n, b)) = b ∙ sym (ap (λ k. Int k) (exact_signed m n (sym (value_cmp-Int m n)
+        ∙ sym (ap₂ value_cmp a b) ∙ equal_is _ h))) ∙ sym a
+    go (inl (m, a)) (inr (t, b)) = absurd (true≢false (sym h ∙ ap is_eq (ap₂ value_cmp a b) ∙ apart m t))
+    go (inr (t, a)) (inl (n, b)) = absurd (true≢false (sym h ∙ ap is_eq (ap₂ value_cmp a b) ∙ tied_back (Words t)
+        (Int n) ∙ apart n t))
+    go (inr (s, a)) (inr (t, b)) = b ∙ sym (ap (λ k. Words k) (exact_bytes s t (sym (value_cmp-Text s t)
+        ∙ sym (ap₂ value_cmp a b) ∙ equal_is _ h))) ∙ sym a
 
 -- rows whose first columns are equal have the same values there
 pub same_columns : (at n : ℕ) (x y : Row) → ArePlain at n x → ArePlain at n y → is_eq (columns_cmp at n x y) ≡ true

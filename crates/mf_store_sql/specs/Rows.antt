@@ -24,23 +24,23 @@ abbrev pub begins : ℕ → Row → Row → Bool
 begins n values row = is_eq (first_cmp n values row)
 
 -- a value that a field can keep, but for its size
-abbrev pub Fits : Field → Value → Type 0
-Fits Number v = (n : ℕ) × (v ≡ Int (pos n))
-Fits Amount v = (n : ℤ) × (v ≡ Int n)
-Fits Text v = (t : List ℕ) × (v ≡ Words t)
-Fits MaybeNumber v = (n : Option ℕ) × (v ≡ Rattle.mf_store_sql.specs.Values.or_null n)
-Fits MaybeText v = (t : Option (List ℕ)) × (v ≡ Rattle.mf_store_sql.specs.Values.or_text t)
+abbrev pub IsKeepable : Field → Value → Type 0
+IsKeepable Number v = (n : ℕ) × (v ≡ Int (pos n))
+IsKeepable Amount v = (n : ℤ) × (v ≡ Int n)
+IsKeepable Text v = (t : List ℕ) × (v ≡ Words t)
+IsKeepable MaybeNumber v = (n : Option ℕ) × (v ≡ Rattle.mf_store_sql.specs.Values.or_null n)
+IsKeepable MaybeText v = (t : Option (List ℕ)) × (v ≡ Rattle.mf_store_sql.specs.Values.or_text t)
 
 -- column by column, and as many
-abbrev pub AllFit : List Named → Row → Type 0
-AllFit [] [] = Unit {0}
-AllFit [] (v ∷ vs) = ⊥
-AllFit (c ∷ cs) [] = ⊥
-AllFit (c ∷ cs) (v ∷ vs) = Fits c.field v × AllFit cs vs
+abbrev pub AreKeepable : List Named → Row → Type 0
+AreKeepable [] [] = Unit {0}
+AreKeepable [] (v ∷ vs) = ⊥
+AreKeepable (c ∷ cs) [] = ⊥
+AreKeepable (c ∷ cs) (v ∷ vs) = IsKeepable c.field v × AreKeepable cs vs
 
 -- a value of a field that is always there
 abbrev pub IsPlainValue : Value → Type 0
-IsPlainValue v = (f : Field) × (is_always f ≡ true) × Fits f v
+IsPlainValue v = (f : Field) × (is_always f ≡ true) × IsKeepable f v
 
 -- so many columns have such values, from this one on
 abbrev pub ArePlain : ℕ → ℕ → Row → Type 0

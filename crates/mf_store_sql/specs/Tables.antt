@@ -1,6 +1,6 @@
 -- Tables as SQL sees them: columns, the table with its keys, and its indexes.
 use Rattle.sqlite.specs.Collation.TheVariants.{Binary}
-use Rattle.std.specs.Prelude.{ℕ, ◌-◌, Bool, true, false, List, [], ◌∷◌, map, None}
+use Rattle.std.specs.Prelude.{ℕ, Bool, true, false, List, [], map, None}
 use Rattle.sqlite.specs.declared.types.Value.TheVariants.{Null}
 use Rattle.sqlite.specs.Table.{Table}
 use Rattle.sqlite.specs.Schema.{Schema}
@@ -53,18 +53,10 @@ table_with tree name columns key uniques = record {
   is_counted = false;
 }
 
--- a table with a primary key and no other
-abbrev pub table_of : ℕ → List ℕ → List Column → List ℕ → Table
-table_of tree name columns key = table_with tree name columns key (key ∷ [])
-
 -- the index of a key
 abbrev pub index_on : ℕ → ℕ → List ℕ → List ℕ → Index
 index_on table tree name key =
     record { name = name; tree = tree; table = table; columns = key; order = record { digits = 0 }; is_unique = true }
-
--- the index of a table that has one
-abbrev pub index_of : ℕ → List ℕ → List ℕ → Index
-index_of tree = index_on (tree - 1) tree
 
 -- no table, no index and no view
 abbrev pub no_schema : Schema

@@ -1,53 +1,98 @@
 -- What the rows of shares tell of a sound loan is what its entries settle, by entry.
-use Rattle.std.proofs.Common.{◌≡◌, ◌≢◌, ◌⊎◌, ◌<◌, ◌≤◌, ◌+◌, ◌∙◌, ℕ, zero, suc, Bool, cond, List, [], ◌∷◌, ◌++◌, map}
-use Rattle.std.proofs.Common.{length, inl, inr, refl, sym, ap, subst, arith}
+use Rattle.std.proofs.Common.{◌≡◌, ◌≢◌, ◌==◌, ◌<◌, ◌≤◌, ◌+◌, ◌∙◌, true, ℕ, zero, suc, List, [], ◌∷◌, ◌++◌, map, length}
+use Rattle.std.proofs.Common.{inl, inr, refl, sym, ap, subst, arith}
 use Rattle.std.specs.List.{AllByRecursion}
-use Rattle.std.proofs.lemmas.Bool.{eq-eqb, ne_eqb, cases_order}
-use Rattle.std.proofs.lemmas.List.{map-append}
-use Rattle.std.proofs.lemmas.List.Elements.{recursion_from_All}
-use Rattle.mf_account.specs.declared.settled.Settled.{Settled}
+use Rattle.std.proofs.lemmas.Bool.{eq-eqb, ne_eqb, eqb-true, cases_eq, cases_lt}
+use Rattle.std.proofs.lemmas.List.{map-append, append-nil}
+use Rattle.std.proofs.lemmas.List.Elements.{recursion_from_All, filter_passes}
+use Rattle.sqlite_keyed.proofs.ListLemmas.{all_weaker, filter_all, filter_none}
+use Rattle.mf_account.specs.declared.entry.Entry.{Entry}
+use Rattle.mf_account.specs.declared.settled.SettledPart.{SettledPart}
+use Rattle.mf_account.specs.Account.{Orders, parts_numbered, settled_by, first_state}
 use Rattle.mf_account.specs.Change.{settled_in}
-use Rattle.mf_account.specs.Loan.{Loan as Running, IsSound as IsSoundAccount, settled_of_loan}
+use Rattle.mf_account.specs.Effect.{State, Part, parts_of, after_entry}
+use Rattle.mf_account.specs.Loan.{DisbursedLoan, IsSoundDisbursed, orders_of, schedule_of, settled_of_loan}
+use Rattle.mf_account.specs.Standing.{entry_at, standing_entries}
 use Rattle.mf_account.specs.Told.{IsNumberedTo}
 use Rattle.mf_account.proofs.ChangeLemmas.{settled_in-append}
+use Rattle.mf_account.proofs.TailLemmas.{numbers-standing}
 use Rattle.mf_account.proofs.ToldLemmas.{parts-numbered}
 use Rattle.mf_store_values.specs.Flat.{numbered_from, placed_parts, parts_from, shares_kept}
 use Rattle.mf_store_values.specs.Kept.{part_told}
-use Rattle.mf_store_values.proofs.PlaceLemmas.{AreAt, places-sound}
 
 -- ---- the parts of one number
 
-abbrev HasNumber : ℕ → Settled → Type 0
-HasNumber q p = p.seq ≡ q
+abbrev HaveNumber : ℕ → List SettledPart → Type 0
+HaveNumber q parts = AllByRecursion (λ (p : SettledPart). p.seq ≡ q) parts
 
-all_own : (q : ℕ) (parts : List Settled) → AllByRecursion (HasNumber q) (settled_in q parts)
-all_own q [] = tt
-all_own q (p ∷ parts) =
-    elim (cases_order p.seq q) [
-      | inl same ↦ subst (λ (b : Bool). AllByRecursion (HasNumber q) (cond b (p ∷ settled_in q parts)
-          (settled_in q parts))) (sym (eq-eqb p.seq q same)) (same, all_own q parts)
-      | inr way ↦ subst (λ (b : Bool). AllByRecursion (HasNumber q) (cond b (p ∷ settled_in q parts)
-          (settled_in q parts))) (sym (ne_eqb p.seq q (apart p.seq q way))) (all_own q parts)
+own_all : (q : ℕ) (parts : List SettledPart) → HaveNumber q parts → settled_in q parts ≡ parts
+own_all q parts all = filter_all (λ (p : SettledPart). p.seq == q) parts (all_weaker (λ (p : SettledPart). p.seq ≡ q) _
+    (λ p same. eq-eqb p.seq q same) parts all)
+
+none_other : (q s : ℕ) (parts : List SettledPart) → s ≢ q → HaveNumber s parts → settled_in q parts ≡ []
+none_other q s parts other all = filter_none (λ (p : SettledPart). p.seq == q) parts (all_weaker (λ (p : SettledPart).
+    p.seq ≡ s) _ (λ p same. ne_eqb p.seq q (λ is. other (sym same ∙ is))) parts all)
+
+all_own : (q : ℕ) (parts : List SettledPart) → HaveNumber q (settled_in q parts)
+all_own q parts = all_weaker (λ (p : SettledPart). (p.seq == q) ≡ true) (λ p. p.seq ≡ q) (λ p. eqb-true p.seq q)
+    (settled_in q parts) (recursion_from_All _ (settled_in q parts)
+    (filter_passes (λ (p : SettledPart). p.seq == q) parts))
+
+-- ---- the places of a replay
+
+-- parts in the places from n on
+abbrev AreAt : ℕ → List SettledPart → Type 0
+AreAt n [] = Unit {0}
+AreAt n (part ∷ parts) = (part.place ≡ n) × AreAt (n + 1) parts
+
+at_numbered : (seq place : ℕ) (parts : List Part) → AreAt place (parts_numbered seq place parts)
+at_numbered seq place [] = tt
+at_numbered seq place (part ∷ parts) = (refl, at_numbered seq (place + 1) parts)
+
+have_number : (seq place : ℕ) (parts : List Part) → HaveNumber seq (parts_numbered seq place parts)
+have_number seq place [] = tt
+have_number seq place (part ∷ parts) = (refl, have_number seq (place + 1) parts)
+
+-- entries of other numbers settle nothing of this one
+none_by : (orders : Orders) (entries : List Entry) (before : State) (q : ℕ) → ((j : ℕ) → j < length entries
+    → (entry_at entries j).seq ≢ q) → settled_in q (settled_by orders entries before) ≡ []
+none_by orders [] before q other = refl
+none_by orders (e ∷ entries) before q other =
+    let own = parts_numbered e.seq 1 (parts_of (orders e) e before) in
+    let next = after_entry (orders e) e before in
+    settled_in-append q own (settled_by orders entries next) ∙ (λ t.
+    none_other q e.seq own (other 0 (omega arith)) (have_number e.seq 1 (parts_of (orders e) e before)) t
+    ++ none_by orders entries next q (λ j less. other (suc j) (omega (arith, less))) t)
+
+places_by : (orders : Orders) (entries : List Entry) (before : State) (q : ℕ) → ((i j : ℕ) → i < j → j < length entries
+    → (entry_at entries i).seq ≢ (entry_at entries j).seq) → AreAt 1 (settled_in q (settled_by orders entries before))
+places_by orders [] before q apart = tt
+places_by orders (e ∷ entries) before q apart =
+    let parts : List Part = parts_of (orders e) e before in
+    let own : List SettledPart = parts_numbered e.seq 1 parts in
+    let next : State = after_entry (orders e) e before in
+    let rest : List SettledPart = settled_by orders entries next in
+    let all : HaveNumber e.seq own = have_number e.seq 1 parts in
+    elim (cases_eq e.seq q) [
+      | inl same ↦
+          let others = none_by orders entries next q (λ j less is. apart 0 (suc j) (omega arith) (omega (arith, less))
+          (same ∙ sym is)) in
+          let mine = own_all q own (subst (λ n. HaveNumber n own) same all) in
+          subst (AreAt 1) (sym (settled_in-append q own rest ∙ (λ t. mine t ++ others t) ∙ append-nil own))
+          (at_numbered e.seq 1 parts)
+      | inr differ ↦
+          subst (AreAt 1) (sym (settled_in-append q own rest ∙ (λ t. none_other q e.seq own differ all t
+          ++ settled_in q rest))) (places_by orders entries next q (λ i j less within. apart (suc i) (suc j)
+          (omega (arith, less)) (omega (arith, within))))
     ]
-  where
-    apart : (a b : ℕ) → (a < b) ⊎ (b < a) → a ≢ b
-    apart a b (inl less) same = omega (arith, less, same)
-    apart a b (inr more) same = omega (arith, more, same)
 
-own_again : (q : ℕ) (parts : List Settled) → AllByRecursion (HasNumber q) parts → settled_in q parts ≡ parts
-own_again q [] all = refl
-own_again q (p ∷ parts) all = ap (λ (b : Bool). cond b (p ∷ settled_in q parts) (settled_in q parts))
-    (eq-eqb p.seq q all.0) ∙ ap (λ x. p ∷ x) (own_again q parts all.1)
-
-none_other : (q s : ℕ) (parts : List Settled) → s ≢ q → AllByRecursion (HasNumber s) parts → settled_in q parts ≡ []
-none_other q s [] other all = refl
-none_other q s (p ∷ parts) other all =
-    ap (λ (b : Bool). cond b (p ∷ settled_in q parts) (settled_in q parts))
-    (ne_eqb p.seq q (λ same. other (sym all.0 ∙ same))) ∙ none_other q s parts other all.1
+places_sound : (loan : DisbursedLoan) (q : ℕ) → IsSoundDisbursed loan → AreAt 1 (settled_in q (settled_of_loan loan))
+places_sound loan q sound = places_by (orders_of loan) (standing_entries loan.entries) (first_state (schedule_of loan))
+    q (λ i j less within. numbers-standing loan.periods loan.day loan.entries i j sound.entries less within)
 
 -- ---- told by their rows
 
-told_placed : (q n : ℕ) (parts : List Settled) → AllByRecursion (HasNumber q) parts → AreAt n parts
+told_placed : (q n : ℕ) (parts : List SettledPart) → HaveNumber q parts → AreAt n parts
     → map part_told (numbered_from (λ place part. (q, (place, part))) n parts) ≡ parts
 told_placed q n [] all at = refl
 told_placed q n (p ∷ parts) all at = (λ t. record {
@@ -58,97 +103,62 @@ told_placed q n (p ∷ parts) all at = (λ t. record {
   amount = p.amount;
 } ∷ told_placed q (n + 1) parts all.1 at.1 t)
 
-abbrev Told : List Settled → ℕ → ℕ → List Settled
-Told settled seq count = map part_told (parts_from (λ q. settled_in q settled) seq count)
+module _ (settled : List SettledPart) (at : (q : ℕ) → AreAt 1 (settled_in q settled)) (q : ℕ) where
+  abbrev Told : ℕ → ℕ → List SettledPart
+  Told seq count = map part_told (parts_from (λ q. settled_in q settled) seq count)
 
-told_more : (settled : List Settled) (seq count : ℕ) → ((q : ℕ) → AreAt 1 (settled_in q settled))
-    → Told settled seq (suc count) ≡ settled_in seq settled ++ Told settled (seq + 1) count
-told_more settled seq count at =
-    map-append part_told (placed_parts seq (settled_in seq settled)) (parts_from (λ q. settled_in q settled)
-    (seq + 1) count)
-    ∙ ap (λ x. x ++ Told settled (seq + 1) count) (told_placed seq 1 (settled_in seq settled) (all_own seq settled)
-    (at seq))
+  -- of the parts of a number, and then of those of the later ones
+  told_more : (seq count : ℕ) → settled_in q (Told seq (suc count)) ≡ settled_in q (settled_in seq settled)
+      ++ settled_in q (Told (seq + 1) count)
+  told_more seq count =
+      ap (settled_in q) (map-append part_told (placed_parts seq (settled_in seq settled)) (parts_from (λ q.
+      settled_in q settled) (seq + 1) count)
+      ∙ ap (λ x. x ++ Told (seq + 1) count) (told_placed seq 1 (settled_in seq settled) (all_own seq settled) (at seq)))
+      ∙ settled_in-append q (settled_in seq settled) (Told (seq + 1) count)
 
--- none of a number below the first or beyond the last
-told_none : (settled : List Settled) (q seq count : ℕ) → ((q : ℕ) → AreAt 1 (settled_in q settled)) → (q < seq)
-    ⊎ (seq + count ≤ q) → settled_in q (Told settled seq count) ≡ []
-told_none settled q seq zero at off = refl
-told_none settled q seq (suc count) at off =
-    ap (settled_in q) (told_more settled seq count at)
-    ∙ settled_in-append q (settled_in seq settled) (Told settled (seq + 1) count)
-    ∙ ap (λ x. x ++ settled_in q (Told settled (seq + 1) count)) (none_other q seq (settled_in seq settled) (differ off)
-    (all_own seq settled))
-    ∙ told_none settled q (seq + 1) count at (further off)
-  where
-    differ : (q < seq) ⊎ (seq + suc count ≤ q) → seq ≢ q
-    differ (inl below) same = omega (arith, below, same)
-    differ (inr beyond) same = omega (arith, beyond, same)
+  told_none : (seq count : ℕ) → (seq ≤ q → q < seq + count → ⊥) → settled_in q (Told seq count) ≡ []
+  told_none seq zero off = refl
+  told_none seq (suc count) off =
+      told_more seq count ∙ (λ t. none_other q seq (settled_in seq settled) (λ same. off (omega (arith, same))
+      (omega (arith, same))) (all_own seq settled) t
+      ++ told_none (seq + 1) count (λ low high. off (omega (arith, low)) (omega (arith, high))) t)
 
-    further : (q < seq) ⊎ (seq + suc count ≤ q) → (q < seq + 1) ⊎ (seq + 1 + count ≤ q)
-    further (inl below) = inl (omega (arith, below))
-    further (inr beyond) = inr (omega (arith, beyond))
-
-append_none : (xs ys : List Settled) → ys ≡ [] → xs ++ ys ≡ xs
-append_none [] ys none = none
-append_none (x ∷ xs) ys none = ap (λ z. x ∷ z) (append_none xs ys none)
-
-told_own : (settled : List Settled) (q seq count : ℕ) → ((q : ℕ) → AreAt 1 (settled_in q settled)) → seq ≤ q
-    → q < seq + count → settled_in q (Told settled seq count) ≡ settled_in q settled
-told_own settled q seq zero at from to = absurd (omega (arith, from, to))
-told_own settled q seq (suc count) at from to =
-    ap (settled_in q) (told_more settled seq count at)
-    ∙ settled_in-append q (settled_in seq settled) (Told settled (seq + 1) count)
-    ∙ go (cases_order seq q) (λ less. told_own settled q (seq + 1) count at (omega (arith, less)) (omega (arith, to)))
-  where
-    rest : List Settled
-    rest = settled_in q (Told settled (seq + 1) count)
-
-    go : (seq ≡ q) ⊎ ((seq < q) ⊎ (q < seq)) → (seq < q → rest ≡ settled_in q settled)
-        → settled_in q (settled_in seq settled) ++ rest ≡ settled_in q settled
-    go (inl same) later =
-        ap (λ s. settled_in q (settled_in s settled) ++ rest) same
-        ∙ append_none (settled_in q (settled_in q settled)) rest (told_none settled q (seq + 1) count at
-        (inl (omega (arith, same))))
-        ∙ own_again q (settled_in q settled) (all_own q settled)
-    go (inr (inl less)) later =
-        ap (λ x. x ++ rest) (none_other q seq (settled_in seq settled) (λ same. omega (arith, less, same))
-        (all_own seq settled))
-        ∙ later less
-    go (inr (inr more)) later = absurd (omega (arith, more, from))
-
-none_beyond : (n q : ℕ) (parts : List Settled) → AllByRecursion (IsNumberedTo n) parts → (q < 1) ⊎ (1 + n ≤ q)
-    → settled_in q parts ≡ []
-none_beyond n q [] all off = refl
-none_beyond n q (p ∷ parts) all off =
-    ap (λ (b : Bool). cond b (p ∷ settled_in q parts) (settled_in q parts)) (ne_eqb p.seq q (differ off))
-    ∙ none_beyond n q parts all.1 off
-  where
-    differ : (q < 1) ⊎ (1 + n ≤ q) → p.seq ≢ q
-    differ (inl below) same = let from : 1 ≤ p.seq = all.0.0 in omega (arith, below, same, from)
-    differ (inr beyond) same = let to : p.seq ≤ n = all.0.1 in omega (arith, beyond, same, to)
+  told_own : (seq count : ℕ) → seq ≤ q → q < seq + count → settled_in q (Told seq count) ≡ settled_in q settled
+  told_own seq zero from to = absurd (omega (arith, from, to))
+  told_own seq (suc count) from to =
+      let rest : settled_in q (settled_in seq settled) ++ settled_in q (Told (seq + 1) count) ≡ settled_in q settled =
+      elim (cases_eq seq q) [
+        | inl same ↦ (λ t. settled_in q (settled_in (same t) settled)
+            ++ told_none (seq + 1) count (λ low high. omega (arith, low, same)) t)
+            ∙ append-nil (settled_in q (settled_in q settled))
+            ∙ own_all q (settled_in q settled) (all_own q settled)
+        | inr other ↦ (λ t. none_other q seq (settled_in seq settled) other (all_own seq settled) t
+            ++ told_own (seq + 1) count (omega (arith, other, from)) (omega (arith, to)) t)
+      ] in
+      told_more seq count ∙ rest
 
 -- the rows of a sound loan's shares tell the parts of each entry
-pub shares_told : (loan : Running) (q : ℕ) → IsSoundAccount loan → settled_in q (map part_told (shares_kept loan))
+pub shares_told : (loan : DisbursedLoan) (q : ℕ) → IsSoundDisbursed loan
+    → settled_in q (map part_told (shares_kept loan))
     ≡ settled_in q (settled_of_loan loan)
-shares_told loan q sound = go (cases_order q 0) (cases_order q (length loan.entries))
+shares_told loan q sound = elim (cases_lt 0 q) [
+  | inl above ↦ elim (cases_lt q (1 + length loan.entries)) [
+    | inl within ↦ told_own settled at q 1 (length loan.entries) (omega (arith, above)) within
+    | inr beyond ↦ off (λ low high. omega (arith, beyond, high))
+  ]
+  | inr none ↦ off (λ low high. omega (arith, none, low))
+]
   where
-    settled : List Settled
+    settled : List SettledPart
     settled = settled_of_loan loan
 
     at : (q : ℕ) → AreAt 1 (settled_in q settled)
-    at q = places-sound loan q sound
+    at q = places_sound loan q sound
 
-    off : (q < 1) ⊎ (1 + length loan.entries ≤ q) → settled_in q (Told settled 1 (length loan.entries))
+    -- an entry beyond those of the loan settles nothing
+    off : (1 ≤ q → q < 1 + length loan.entries → ⊥) → settled_in q (map part_told (shares_kept loan))
         ≡ settled_in q settled
-    off way = told_none settled q 1 (length loan.entries) at way ∙ sym (none_beyond (length loan.entries) q settled
-        (recursion_from_All (IsNumberedTo (length loan.entries)) settled (parts-numbered loan sound)) way)
-
-    go : (q ≡ 0) ⊎ ((q < 0) ⊎ (0 < q)) → (q ≡ length loan.entries) ⊎ ((q < length loan.entries)
-        ⊎ (length loan.entries < q)) → settled_in q (Told settled 1 (length loan.entries)) ≡ settled_in q settled
-    go (inl none) end = off (inl (omega (arith, none)))
-    go (inr (inl below)) end = absurd (omega (arith, below))
-    go (inr (inr above)) (inl last) = told_own settled q 1 (length loan.entries) at (omega (arith, above))
-        (omega (arith, last))
-    go (inr (inr above)) (inr (inl within)) = told_own settled q 1 (length loan.entries) at (omega (arith, above))
-        (omega (arith, within))
-    go (inr (inr above)) (inr (inr beyond)) = off (inr (omega (arith, beyond)))
+    off beyond = told_none settled at q 1 (length loan.entries) beyond
+        ∙ sym (filter_none (λ (p : SettledPart). p.seq == q) settled (all_weaker (IsNumberedTo (length loan.entries)) _
+        (λ p in_range. ne_eqb p.seq q (λ same. beyond (omega (arith, same, in_range)) (omega (arith, same, in_range))))
+        settled (recursion_from_All (IsNumberedTo (length loan.entries)) settled (parts-numbered loan sound))))

@@ -5,16 +5,13 @@ pub mod AccountLemmas
 pub mod MadeLemmas
 pub mod ShareLemmas
 pub mod AccountRowLemmas
-pub mod PlaceLemmas
 pub mod KeptLemmas
 pub mod PartLemmas
 pub mod SortedLemmas
 pub mod ReceiptLemmas
-pub mod DecodedLemmas
 pub mod CatalogueLemmas
 pub mod LoanLemmas
 pub mod ReadLemmas
-pub mod InstalmentLemmas
 pub mod FoldLemmas
 pub mod RowsLemmas
 pub mod SumLemmas

@@ -1,6 +1,6 @@
 -- Rows that are numbered by their places.
 use Rattle.std.proofs.Common.{◌≡◌, ◌+◌, ◌-◌, ℕ, zero, suc, Bool, true, false, cond, List, [], ◌∷◌, slice_get, Some}
-use Rattle.std.proofs.Common.{None, refl, ap, arith, ◌==◌}
+use Rattle.std.proofs.Common.{None, Option, refl, sym, ap, ◌∙◌, arith, ◌==◌}
 use Rattle.std.specs.Option.{option_map}
 use Rattle.std.proofs.lemmas.Bool.Decides.{nat_tests}
 use Rattle.mf_model.specs.Institution.{item_numbered}
@@ -22,3 +22,23 @@ module _ {A R : Type 0} (make : ℕ → A → R) where
           (cond b None (slice_get xs (n - 1)))
       go true e = refl
       go false e = let some : n ≡ 1 + (n - 1) = grind (arith, nat_tests) in at_place xs 1 (n - 1) n some
+
+  -- what is made of the value whose row is found under a number, and where no row is
+  pub by_row : {C : Type 0} (G : Option A → C) (xs : List A) (n : ℕ) (rows : List R) (row : R) (found : C)
+      → numbered_from make 1 xs ≡ rows → Some row ≡ item_numbered rows n
+      → ((a : A) → make n a ≡ row → found ≡ G (Some a)) → found ≡ G (item_numbered xs n)
+  by_row G xs n rows row found e is each =
+      go (item_numbered xs n) (is ∙ ap (λ rs. item_numbered rs n) (sym e) ∙ numbered_row xs n)
+    where
+      go : (o : Option A) → Some row ≡ option_map (make n) o → found ≡ G o
+      go None f = absurd (cc)
+      go (Some a) f = each a (cc)
+
+  pub by_no_row : {C : Type 0} (G : Option A → C) (xs : List A) (n : ℕ) (rows : List R) → numbered_from make 1 xs ≡ rows
+      → None ≡ item_numbered rows n → G None ≡ G (item_numbered xs n)
+  by_no_row G xs n rows e is =
+      go (item_numbered xs n) (is ∙ ap (λ rs. item_numbered rs n) (sym e) ∙ numbered_row xs n)
+    where
+      go : (o : Option A) → None ≡ option_map (make n) o → G None ≡ G o
+      go None f = refl
+      go (Some a) f = absurd (cc)

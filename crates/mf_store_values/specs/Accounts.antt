@@ -1,8 +1,8 @@
 -- Rows of instalments and of shares of the accounts of loans, loan by loan over all offices.
 use Rattle.std.specs.Prelude.{◌≡◌, ◌≢◌, ℕ, ◌+◌, ◌&&◌, ◌==◌, Bool, List, [], ◌∷◌, ◌++◌, map, take, drop}
 use Rattle.std.specs.List.{AllByRecursion, prefix_len}
-use Rattle.mf_alloc.specs.Sums.{Sums}
-use Rattle.mf_account.specs.declared.settled.Settled.{Settled}
+use Rattle.mf_alloc.specs.Sums.{Instalment}
+use Rattle.mf_account.specs.declared.settled.SettledPart.{SettledPart}
 use Rattle.mf_model.specs.Accounts.{account_in, of_account}
 use Rattle.mf_model.specs.Institution.{Catalogue, Ledger, Office}
 use Rattle.mf_store_schema.specs.declared.entries.EntryRow.{EntryRow}
@@ -14,12 +14,12 @@ use Rattle.mf_store_values.specs.Flat.{shares_kept}
 use Rattle.mf_store_values.specs.Ledgers.{IsPlainLoan}
 
 -- what is kept of a loan's account, where it has one
-abbrev pub instalments_of : Catalogue → Ledger → List (ℕ × Sums)
-instalments_of k l = of_account [] instalments_kept (account_in k l)
+abbrev pub account_instalments : Catalogue → Ledger → List (ℕ × Instalment)
+account_instalments k l = of_account [] instalments_kept (account_in k l)
 
 -- the shares of a loan's account, each with its entry and place
-abbrev pub shares_of : Catalogue → Ledger → List (ℕ × (ℕ × Settled))
-shares_of k l = of_account [] shares_kept (account_in k l)
+abbrev pub account_shares : Catalogue → Ledger → List (ℕ × (ℕ × SettledPart))
+account_shares k l = of_account [] shares_kept (account_in k l)
 
 -- a loan of an office, under its number
 pub record PlacedLoan : Type 0 where
@@ -38,13 +38,13 @@ all_placed [] = []
 all_placed (f ∷ fs) = placed_loans f.number 1 f.rows.loans ++ all_placed fs
 
 -- the rows of what these loans have
-abbrev pub rows_of : {A R : Type 0} → (ℕ → ℕ → A → R) → (Ledger → List A) → List PlacedLoan → List R
-rows_of make of [] = []
-rows_of make of (p ∷ ps) = map (make p.office p.number) (of p.ledger) ++ rows_of make of ps
+abbrev pub rows_of_placed : {A R : Type 0} → (ℕ → ℕ → A → R) → (Ledger → List A) → List PlacedLoan → List R
+rows_of_placed make of [] = []
+rows_of_placed make of (p ∷ ps) = map (make p.office p.number) (of p.ledger) ++ rows_of_placed make of ps
 
 -- a placed loan's row
-abbrev pub row_of : PlacedLoan → LoanRow
-row_of p = loan_in p.office p.number p.ledger.loan
+abbrev pub row_of_placed : PlacedLoan → LoanRow
+row_of_placed p = loan_in p.office p.number p.ledger.loan
 
 -- a row belongs to a loan of an office
 abbrev pub is_of_loan : {R : Type 0} → (R → ℕ) → (R → ℕ) → ℕ → ℕ → R → Bool
@@ -77,11 +77,11 @@ pub record AreLoansOf (k : Catalogue) (loans : List LoanRow) (entries : List Ent
     0 where
   pub apart : AreApartLoans ps
   pub plain : AllByRecursion (IsPlainPlaced k) ps
-  pub rows_are : map row_of ps ≡ loans
-  pub entries_are : rows_of entry_in own_entries ps ≡ entries
+  pub rows_are : map row_of_placed ps ≡ loans
+  pub entries_are : rows_of_placed entry_in own_entries ps ≡ entries
 
 -- the rows are those of their accounts
 pub record AreAccounts (k : Catalogue) (ps : List PlacedLoan) (instalments : List InstalmentRow)
     (shares : List ShareRow) : Type 0 where
-  pub instalments_are : rows_of instalment_in (instalments_of k) ps ≡ instalments
-  pub shares_are : rows_of share_in (shares_of k) ps ≡ shares
+  pub instalments_are : rows_of_placed instalment_in (account_instalments k) ps ≡ instalments
+  pub shares_are : rows_of_placed share_in (account_shares k) ps ≡ shares

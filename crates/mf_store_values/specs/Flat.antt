@@ -2,12 +2,12 @@
 use Rattle.std.specs.Prelude.{ℕ, zero, suc, pos, Bool, true, false, ◌+◌, length, slice_index, List, [], ◌∷◌, ◌++◌, map}
 use Rattle.std.specs.Prelude.{option_map, Option, Some, None, nat_le}
 use Rattle.mf_account.specs.declared.entry.Entry.{Entry}
-use Rattle.mf_account.specs.declared.settled.Settled.{Settled}
+use Rattle.mf_account.specs.declared.settled.SettledPart.{SettledPart}
 use Rattle.mf_account.specs.Change.{settled_in}
 pub use Rattle.mf_account.specs.Names.{entry_kind_number, how_number}
-use Rattle.mf_account.specs.Loan.{Loan as Running, state_of_loan, settled_of_loan}
+use Rattle.mf_account.specs.Loan.{DisbursedLoan, state_of_loan, settled_of_loan}
 pub use Rattle.mf_alloc.specs.Portions.{portion_number}
-use Rattle.mf_alloc.specs.Sums.{Sums}
+use Rattle.mf_alloc.specs.Sums.{Instalment}
 use Rattle.mf_base.specs.Choices.{frequency_number}
 use Rattle.mf_base.specs.DayText.{day_text}
 use Rattle.mf_catalog.specs.Names.{kind_number, calc_number, method_number, strategy_number}
@@ -15,7 +15,8 @@ use Rattle.mf_office.specs.Keys.{key_of, key_depth, with_last_raised, is_in_rang
 use Rattle.mf_office.specs.Roles.{role_number}
 use Rattle.mf_office.specs.Written.{caller_text}
 use Rattle.mf_model.specs.Accounts.{account_in, of_account, status_in}
-use Rattle.mf_model.specs.Institution.{Institution, Catalogue, Charge, Ledger, Offer, Office, Rows, Staff, office_at}
+use Rattle.mf_model.specs.Institution.{Institution, Catalogue, ListedCharge, Ledger, ListedProduct, Office, Rows, Staff}
+use Rattle.mf_model.specs.Institution.{office_at}
 use Rattle.mf_model.specs.Institution.{item_numbered}
 use Rattle.mf_model.specs.Stages.{stage_number, disbursed_on}
 use Rattle.mf_model.specs.declared.loan.Loan.{Loan}
@@ -75,7 +76,7 @@ abbrev pub client_in : ℕ → ℕ → List ℕ → ClientRow
 client_in office number name = record { office = office; number = number; name = name }
 
 -- the row of a charge under its number
-abbrev pub charge_as : ℕ → Charge → ChargeRow
+abbrev pub charge_as : ℕ → ListedCharge → ChargeRow
 charge_as number c = record {
   number = number;
   name = c.name;
@@ -85,7 +86,7 @@ charge_as number c = record {
 }
 
 -- the row of a product under its number
-abbrev pub product_as : ℕ → Offer → ProductRow
+abbrev pub product_as : ℕ → ListedProduct → ProductRow
 product_as number p = record {
   number = number;
   name = p.members.name;
@@ -138,7 +139,7 @@ entry_in office loan e = record {
 }
 
 -- the row of an instalment, with its number: office, loan
-abbrev pub instalment_in : ℕ → ℕ → ℕ × Sums → InstalmentRow
+abbrev pub instalment_in : ℕ → ℕ → ℕ × Instalment → InstalmentRow
 instalment_in office loan numbered = record {
   office = office;
   loan = loan;
@@ -163,7 +164,7 @@ instalment_in office loan numbered = record {
 }
 
 -- the row of what an entry settled in a cell, with the entry's number and its place within the entry: office, loan
-abbrev pub share_in : ℕ → ℕ → ℕ × (ℕ × Settled) → ShareRow
+abbrev pub share_in : ℕ → ℕ → ℕ × (ℕ × SettledPart) → ShareRow
 share_in office loan placed = record {
   office = office;
   loan = loan;
@@ -208,20 +209,20 @@ abbrev pub own_entries : Ledger → List Entry
 own_entries l = l.entries
 
 -- an account's instalments as they stand, with their numbers
-abbrev pub instalments_kept : Running → List (ℕ × Sums)
+abbrev pub instalments_kept : DisbursedLoan → List (ℕ × Instalment)
 instalments_kept a = numbered_from (λ n row. (n, row)) 1 (state_of_loan a).rows
 
 -- the parts that an entry settles, with its number and their places
-abbrev pub placed_parts : ℕ → List Settled → List (ℕ × (ℕ × Settled))
+abbrev pub placed_parts : ℕ → List SettledPart → List (ℕ × (ℕ × SettledPart))
 placed_parts seq parts = numbered_from (λ place part. (seq, (place, part))) 1 parts
 
 -- the same of so many entries, the first with this number
-abbrev pub parts_from : (ℕ → List Settled) → ℕ → ℕ → List (ℕ × (ℕ × Settled))
+abbrev pub parts_from : (ℕ → List SettledPart) → ℕ → ℕ → List (ℕ × (ℕ × SettledPart))
 parts_from parts seq zero = []
 parts_from parts seq (suc count) = placed_parts seq (parts seq) ++ parts_from parts (seq + 1) count
 
 -- what an account's entries settle, by entry and place
-abbrev pub shares_kept : Running → List (ℕ × (ℕ × Settled))
+abbrev pub shares_kept : DisbursedLoan → List (ℕ × (ℕ × SettledPart))
 shares_kept a = parts_from (λ seq. settled_in seq (settled_of_loan a)) 1 (length a.entries)
 
 -- the rows of all entries
@@ -229,7 +230,7 @@ abbrev pub entry_rows : List Office → List EntryRow
 entry_rows fs = rows_by_loan entry_in own_entries fs
 
 -- what is read off a loan's account; nothing before it is disbursed
-abbrev pub kept_of : {A : Type 0} → (Running → List A) → Catalogue → Ledger → List A
+abbrev pub kept_of : {A : Type 0} → (DisbursedLoan → List A) → Catalogue → Ledger → List A
 kept_of read k l = of_account [] read (account_in k l)
 
 -- the rows of all instalments, as the replay of each loan's entries leaves them
@@ -286,8 +287,8 @@ had_by of None = []
 had_by of (Some l) = of l
 
 -- the entries of a loan that is there
-abbrev pub entries_of : Option Ledger → List Entry
-entries_of found = had_by own_entries found
+abbrev pub ledger_entries : Option Ledger → List Entry
+ledger_entries found = had_by own_entries found
 
 -- an entry, reversed
 abbrev pub reversed_entry : Entry → Entry

@@ -8,10 +8,10 @@ use Rattle.sqlite.specs.Held.{Held, state}
 use Rattle.sqlite.specs.State.{HasCleanDisk, IsUnchanged, Begins, Shown, FailsToQuery}
 use Rattle.sqlite.specs.declared.error.Error.{Error}
 use Rattle.sqlite_trees.specs.declared.store.Store.{Ghosts}
-use Rattle.mf_alloc.specs.Sums.{Sums, IsWhole}
+use Rattle.mf_alloc.specs.Sums.{Instalment, IsWhole}
 use Rattle.mf_account.specs.Balance.{open_in}
-use Rattle.mf_arrears.specs.Line.{Line, line_of}
-use Rattle.mf_store_schema.specs.Rows.{instalment_row as instalment_stored}
+use Rattle.mf_arrears.specs.Line.{OfficeLine, line_of_loans}
+use Rattle.mf_store_schema.specs.Rows.{instalment_row}
 use Rattle.mf_store_values.specs.Flat.{instalment_in}
 use Rattle.mf_store_values.specs.Arrears.{NumberedLoan, AreAbove, AreWholeLoans, rows_of_office, IsLineOf}
 use Rattle.mf_store_values.specs.declared.fold.NoLine.{NoLine}
@@ -20,26 +20,26 @@ use Rattle.mf_store_values.specs.declared.fold.NoLine.TheVariants.{TooGreat}
 -- ---- what a line can sum
 
 -- what is outstanding of a loan's principal, by its instalments
-abbrev pub principal_of : NumberedLoan → ℕ
-principal_of loan = open_in 3 (map (λ item. item.1) loan.1)
+abbrev pub principal_left_of : NumberedLoan → ℕ
+principal_left_of loan = open_in 3 (map (λ item. item.1) loan.1)
 
 -- an office's loans are few, and none is large
 pub record AreWithinSums (loans : List NumberedLoan) : Type 0 where
   pub few : length loans ≤ 999999
-  pub small : AllByRecursion (λ loan. principal_of loan ≤ 10 ^ 12) loans
+  pub small : AllByRecursion (λ loan. principal_left_of loan ≤ 10 ^ 12) loans
 
 -- the rows begin those of no office whose loans are within
-abbrev pub IsOver : List Row → Line → Type 0
+abbrev pub IsOver : List Row → OfficeLine → Type 0
 IsOver rows empty = (office : ℕ) (loans : List NumberedLoan) (rest : List Row) → AreAbove 0 loans → AreWholeLoans loans
-    → AreWithinSums loans → rows ++ rest ≡ map instalment_stored (rows_of_office office loans)
-    → empty ≡ line_of office [] → ⊥
+    → AreWithinSums loans → rows ++ rest ≡ map instalment_row (rows_of_office office loans)
+    → empty ≡ line_of_loans office [] → ⊥
 
 -- ---- rows of a query
 
 -- the row is read as an instalment with the number of its loan
-abbrev pub IsReadAs : Row → ℕ × Sums → Type 0
-IsReadAs row found = (office loan number : ℕ) (sums : Sums) → IsWhole sums
-    → row ≡ instalment_stored (instalment_in office loan (number, sums)) → found ≡ (loan, sums)
+abbrev pub IsReadAs : Row → ℕ × Instalment → Type 0
+IsReadAs row found = (office loan number : ℕ) (sums : Instalment) → IsWhole sums
+    → row ≡ instalment_row (instalment_in office loan (number, sums)) → found ≡ (loan, sums)
 
 module _ {S : Type 0} (g : Ghosts S) where
   -- while the connection is open, the tables are as they were, or as the last commit left them, which stays
@@ -50,7 +50,7 @@ module _ {S : Type 0} (g : Ghosts S) where
         ⊎ ((state g new).now ≡ (state g old).committed)
 
   -- the next row is taken and read as this instalment, or none is left
-  abbrev pub Takes : Held S → Held S → Option (ℕ × Sums) → Type 0
+  abbrev pub Takes : Held S → Held S → Option (ℕ × Instalment) → Type 0
   Takes old new None = HasCleanDisk (state g new) → Advances g old new None
   Takes old new (Some found) = (row : Row) × (HasCleanDisk (state g new) → Advances g old new (Some row))
       × IsReadAs row found
@@ -75,7 +75,7 @@ module _ {S : Type 0} (g : Ghosts S) where
 
   -- The rows that are taken begin the answer of the query that gives them, and it has given no others; at Ok they are
   -- all of it, and the line is that of the loans whose rows they are.
-  pub record Folds (today : ℕ) (old new : Held S) (empty line : Line) {A E : Type 0} (result : Result A E) : Type
+  pub record Folds (today : ℕ) (old new : Held S) (empty line : OfficeLine) {A E : Type 0} (result : Result A E) : Type
       0 where
     pub taken : List Row
     pub given : HasCleanDisk (state g new) → (sql : List ℕ) (params : Row) → HasGiven g sql params old []
@@ -87,7 +87,7 @@ module _ {S : Type 0} (g : Ghosts S) where
     pub line_is : OnOk result (IsLineOf today taken empty line)
 
   -- where they come to too much, the rows that were taken do, which begin the answer
-  abbrev pub IsTooGreat : Held S → Held S → Line → NoLine → Type 0
+  abbrev pub IsTooGreat : Held S → Held S → OfficeLine → NoLine → Type 0
   IsTooGreat old new empty why =
       why ≡ TooGreat → HasCleanDisk (state g new) → (sql : List ℕ) (params : Row) → HasGiven g sql params old []
       → (taken : List Row) × Begins sql params (state g old) taken × IsOver taken empty

@@ -2,7 +2,7 @@
 use Rattle.std.specs.Prelude.{◌≡◌, ℕ, Bool, true, List, [], ◌∷◌, find, Some}
 use Rattle.sqlite.specs.declared.types.Value.TheVariants.{Int}
 use Rattle.sqlite.specs.Order.{Row}
-use Rattle.mf_alloc.specs.Sums.{Sums, is_open}
+use Rattle.mf_alloc.specs.Sums.{Instalment, is_open}
 use Rattle.mf_store_schema.specs.declared.instalments.InstalmentRow.{InstalmentRow}
 use Rattle.mf_store_values.specs.Flat.{instalment_in}
 
@@ -13,7 +13,7 @@ principal_row x =
 
 -- the sums whose row it is have something outstanding
 abbrev pub IsOpenRow : InstalmentRow → Type 0
-IsOpenRow r = (office loan number : ℕ) (sums : Sums) → r ≡ instalment_in office loan (number, sums) → is_open sums
+IsOpenRow r = (office loan number : ℕ) (sums : Instalment) → r ≡ instalment_in office loan (number, sums) → is_open sums
     ≡ true
 
 -- the first of the rows that pass the test is such a row

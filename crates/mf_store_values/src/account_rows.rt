@@ -7,7 +7,7 @@ ghost use Rattle.mf_model.specs.Institution.{Catalogue, Ledger};
 ghost use Rattle.mf_model.specs.Sound.{IsSoundCatalogue};
 ghost use Rattle.mf_store_values.specs.Accounts.{is_of_loan, first_rows, later_rows, PlacedLoan, AreLoansOf};
 ghost use Rattle.mf_store_values.specs.Accounts.{AreAccounts};
-ghost use Rattle.mf_store_values.specs.Accounts.{instalments_of, shares_of};
+ghost use Rattle.mf_store_values.specs.Accounts.{account_instalments, account_shares};
 ghost use Rattle.mf_store_values.specs.Flat.{charge_as, product_as, loan_in, entry_in, instalment_in, share_in};
 ghost use Rattle.mf_store_values.specs.Flat.{numbered_from};
 ghost use Rattle.mf_store_values.specs.Ledgers.{IsPlainLoan};
@@ -103,8 +103,8 @@ fn add_account(
         loan_in row.now.office row.now.number l.loan ≡ row.now →
         map (entry_in row.now.office row.now.number) l.entries ≡ entries.now →
         (instalments.new.items ≡ instalments.old.items ++ map (instalment_in row.now.office row.now.number)
-        (instalments_of k l))
-        × (shares.new.items ≡ shares.old.items ++ map (share_in row.now.office row.now.number) (shares_of k l))) }
+        (account_instalments k l))
+        × (shares.new.items ≡ shares.old.items ++ map (share_in row.now.office row.now.number) (account_shares k l))) }
     ensures gives_up { IfErr result (λ fault. fault ≡ F20) }
 {
     let found = account_of(alloc, charges, products, row, entries)?;
@@ -130,8 +130,8 @@ fn is_account(
         (names : List (List ℕ)) (l : Ledger) → IsPlainLoan k names l →
         loan_in row.now.office row.now.number l.loan ≡ row.now →
         map (entry_in row.now.office row.now.number) l.entries ≡ entries.now →
-        IsTrue yes ↔ ((map (instalment_in row.now.office row.now.number) (instalments_of k l) ≡ instalments.now)
-        × (map (share_in row.now.office row.now.number) (shares_of k l) ≡ shares.now))) }
+        IsTrue yes ↔ ((map (instalment_in row.now.office row.now.number) (account_instalments k l) ≡ instalments.now)
+        × (map (share_in row.now.office row.now.number) (account_shares k l) ≡ shares.now))) }
     ensures gives_up { IfErr result (λ fault. fault ≡ F20) }
 {
     let mut own_instalments = Vec::new(alloc);

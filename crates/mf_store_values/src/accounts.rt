@@ -56,7 +56,7 @@ pub fn account_of(
         return Ok(None);
     };
     let list = entries_of(alloc, entries)?;
-    let disbursed = mf_account::Loan {
+    let disbursed = mf_account::DisbursedLoan {
         terms,
         principal,
         periods: row.periods,

@@ -32,7 +32,7 @@ impl From<TooMuch> for NoLine {
 }
 
 /// The instalment of a row as the tables give it, with the number of its loan.
-fn placed_in_row(row: &Row) -> Result<(u32, mf_alloc::Row), Fault>
+fn placed_in_row(row: &Row) -> Result<(u32, mf_alloc::Instalment), Fault>
     ensures row { IfOk result (λ found. IsReadAs row.now found) }
     ensures gives_up { IfErr result (λ fault. fault ≡ F20) }
 {
@@ -42,7 +42,9 @@ fn placed_in_row(row: &Row) -> Result<(u32, mf_alloc::Row), Fault>
 }
 
 /// The next instalment with the number of its loan, or none past the last.
-fn next_instalment<S: Alter>(rows: &mut Rows<'_, S>) -> Result<Option<(u32, mf_alloc::Row)>, NoLine>
+fn next_instalment<S: Alter>(
+    rows: &mut Rows<'_, S>,
+) -> Result<Option<(u32, mf_alloc::Instalment)>, NoLine>
     ensures same_reference { rows.new.conn.ghost_name ≡ rows.old.conn.ghost_name }
     ensures takes { IfOk result (λ found. Takes S.Store rows.old.conn.now rows.new.conn.now found) }
     ensures refuses { OnErr result (Refuses S.Store rows.old.conn.now rows.new.conn.now) }

@@ -4,8 +4,8 @@ ghost use Rattle.std.specs.Prelude.{◌≡◌, ◌++◌, map, OnOk, IfOk, IfErr}
 ghost use Rattle.mf_base.specs.declared.fault.Fault.TheVariants.{F20};
 ghost use Rattle.mf_store_values.specs.Flat.{instalment_in, numbered_from};
 
-use crate::numbers::signed;
-use mf_alloc::Row;
+use crate::numbers::to_signed;
+use mf_alloc::Instalment;
 use mf_base::Fault;
 use mf_store_schema::{InstalmentRow, Text};
 use std::alloc::Global;
@@ -16,12 +16,12 @@ pub fn instalment_row(
     office: u32,
     loan: u32,
     number: u32,
-    row: &Row,
+    row: &Instalment,
 ) -> Result<InstalmentRow, Fault>
     ensures row { IfOk result (λ made. made ≡ instalment_in office loan (number, row.now)) }
     ensures gives_up { IfErr result (λ fault. fault ≡ F20) }
 {
-    let Row {
+    let Instalment {
         due,
         owed,
         paid,
@@ -32,22 +32,22 @@ pub fn instalment_row(
         office,
         loan,
         number,
-        owed_penalty: signed(owed[0])?,
-        paid_penalty: signed(paid[0])?,
-        waived_penalty: signed(waived[0])?,
-        written_off_penalty: signed(written_off[0])?,
-        owed_fee: signed(owed[1])?,
-        paid_fee: signed(paid[1])?,
-        waived_fee: signed(waived[1])?,
-        written_off_fee: signed(written_off[1])?,
-        owed_interest: signed(owed[2])?,
-        paid_interest: signed(paid[2])?,
-        waived_interest: signed(waived[2])?,
-        written_off_interest: signed(written_off[2])?,
-        owed_principal: signed(owed[3])?,
-        paid_principal: signed(paid[3])?,
-        waived_principal: signed(waived[3])?,
-        written_off_principal: signed(written_off[3])?,
+        owed_penalty: to_signed(owed[0])?,
+        paid_penalty: to_signed(paid[0])?,
+        waived_penalty: to_signed(waived[0])?,
+        written_off_penalty: to_signed(written_off[0])?,
+        owed_fee: to_signed(owed[1])?,
+        paid_fee: to_signed(paid[1])?,
+        waived_fee: to_signed(waived[1])?,
+        written_off_fee: to_signed(written_off[1])?,
+        owed_interest: to_signed(owed[2])?,
+        paid_interest: to_signed(paid[2])?,
+        waived_interest: to_signed(waived[2])?,
+        written_off_interest: to_signed(written_off[2])?,
+        owed_principal: to_signed(owed[3])?,
+        paid_principal: to_signed(paid[3])?,
+        waived_principal: to_signed(waived[3])?,
+        written_off_principal: to_signed(written_off[3])?,
         due: Text::new(due.text(alloc)?),
     })
 }
@@ -57,7 +57,7 @@ pub(crate) fn add_instalments(
     alloc: Global,
     office: u32,
     loan: u32,
-    rows: &[Row],
+    rows: &[Instalment],
     made: &mut Vec<InstalmentRow>,
 ) -> Result<(), Fault>
     ensures added { OnOk result (made.new.items ≡ made.old.items ++ map (instalment_in office loan)

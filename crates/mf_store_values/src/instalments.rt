@@ -4,12 +4,12 @@ ghost use Rattle.std.specs.Prelude.{◌≡◌, ◌+◌, ◌≤◌, ℕ, List, []
 ghost use Rattle.mf_base.specs.DayText.{day_text};
 ghost use Rattle.mf_base.specs.declared.fault.Fault.TheVariants.{F20};
 ghost use Rattle.std.specs.List.{AllByRecursion, list_any};
-ghost use Rattle.mf_alloc.specs.Sums.{Sums, AreWhole, AreWithin, IsRowWithin, IsWithin, IsWhole, is_open};
-ghost use Rattle.mf_store_schema.specs.Rows.{instalment_row as instalment_stored};
+ghost use Rattle.mf_alloc.specs.Sums.{Instalment, AreWhole, AreWithin, IsRowWithin, IsWithin, IsWhole, is_open};
+ghost use Rattle.mf_store_schema.specs.Rows.{instalment_row};
 ghost use Rattle.mf_store_values.specs.Flat.{instalment_in};
 
 use crate::loans::day_from;
-use crate::values::unsigned;
+use crate::values::to_unsigned;
 use mf_base::Fault;
 use mf_store_schema::{InstalmentRow, read_row};
 use sqlite::Row;
@@ -21,10 +21,10 @@ fn four(penalty: &i64, fee: &i64, interest: &i64, principal: &i64) -> Result<[u6
     ensures gives_up { IfErr result (λ fault. fault ≡ F20) }
 {
     Ok([
-        unsigned(*penalty)?,
-        unsigned(*fee)?,
-        unsigned(*interest)?,
-        unsigned(*principal)?,
+        to_unsigned(*penalty)?,
+        to_unsigned(*fee)?,
+        to_unsigned(*interest)?,
+        to_unsigned(*principal)?,
     ])
 }
 
@@ -58,7 +58,7 @@ fn instalment_of(
     paid: [u64; 4],
     waived: [u64; 4],
     written_off: [u64; 4],
-) -> Result<mf_alloc::Row, Fault>
+) -> Result<mf_alloc::Instalment, Fault>
     ensures row { IfOk result (λ found. (due : ℕ) → row.now.due ≡ day_text due → found ≡ record {
       due = due;
       owed = owed;
@@ -73,7 +73,7 @@ fn instalment_of(
     if !are_within(&owed, &paid, &waived, &written_off) {
         return Err(Fault::F20);
     }
-    Ok(mf_alloc::Row {
+    Ok(mf_alloc::Instalment {
         due,
         owed,
         paid,
@@ -83,8 +83,8 @@ fn instalment_of(
 }
 
 /// The instalment of a row; F20 where that can be none.
-pub fn instalment_from(row: &InstalmentRow) -> Result<mf_alloc::Row, Fault>
-    ensures row { IfOk result (λ found. (office loan number : ℕ) (sums : Sums) → IsWhole sums
+pub fn instalment_from(row: &InstalmentRow) -> Result<mf_alloc::Instalment, Fault>
+    ensures row { IfOk result (λ found. (office loan number : ℕ) (sums : Instalment) → IsWhole sums
         → row.now ≡ instalment_in office loan (number, sums) → found ≡ sums) }
     ensures within { IfOk result (λ found. IsWhole found × IsRowWithin found) }
     ensures gives_up { IfErr result (λ fault. fault ≡ F20) }
@@ -117,9 +117,9 @@ pub fn instalment_from(row: &InstalmentRow) -> Result<mf_alloc::Row, Fault>
 }
 
 /// The instalment of a row as the tables give it.
-fn instalment_in_row(row: &Row) -> Result<mf_alloc::Row, Fault>
-    ensures row { IfOk result (λ found. (office loan number : ℕ) (sums : Sums) → IsWhole sums
-        → row.now ≡ instalment_stored (instalment_in office loan (number, sums)) → found ≡ sums) }
+fn instalment_in_row(row: &Row) -> Result<mf_alloc::Instalment, Fault>
+    ensures row { IfOk result (λ found. (office loan number : ℕ) (sums : Instalment) → IsWhole sums
+        → row.now ≡ instalment_row (instalment_in office loan (number, sums)) → found ≡ sums) }
     ensures within { IfOk result (λ found. IsWhole found × IsRowWithin found) }
     ensures gives_up { IfErr result (λ fault. fault ≡ F20) }
 {
@@ -128,10 +128,10 @@ fn instalment_in_row(row: &Row) -> Result<mf_alloc::Row, Fault>
 }
 
 /// The instalments of the rows, in order.
-pub fn instalments_from(alloc: Global, rows: &[Row]) -> Result<Vec<mf_alloc::Row>, Fault>
-    ensures rows { IfOk result (λ list. (office loan : ℕ) (all : List (ℕ × Sums))
+pub fn instalments_from(alloc: Global, rows: &[Row]) -> Result<Vec<mf_alloc::Instalment>, Fault>
+    ensures rows { IfOk result (λ list. (office loan : ℕ) (all : List (ℕ × Instalment))
         → AllByRecursion (λ item. IsWhole item.1) all
-        → rows.now ≡ map (λ item. instalment_stored (instalment_in office loan item)) all
+        → rows.now ≡ map (λ item. instalment_row (instalment_in office loan item)) all
         → list.items ≡ map (λ item. item.1) all) }
     ensures whole { IfOk result (λ list. AreWhole list.items) }
     ensures within { IfOk result (λ list. AreWithin list.items) }
@@ -145,7 +145,7 @@ pub fn instalments_from(alloc: Global, rows: &[Row]) -> Result<Vec<mf_alloc::Row
 }
 
 /// Whether anything is outstanding in one of the instalments.
-pub fn is_active(rows: &[mf_alloc::Row]) -> bool
+pub fn is_active(rows: &[mf_alloc::Instalment]) -> bool
     ensures { result ≡ list_any is_open rows.now }
 {
     rows.iter().any(|row| row.is_open())

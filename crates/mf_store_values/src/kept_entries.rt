@@ -4,7 +4,7 @@ ghost use Rattle.std.specs.Prelude.{◌≡◌, ℕ, Some, List, map, IfSome, IfO
 ghost use Rattle.std.specs.List.{AllByRecursion};
 ghost use Rattle.mf_base.specs.declared.fault.Fault.TheVariants.{F20};
 ghost use Rattle.mf_office.specs.Texts.{IsCaller};
-ghost use Rattle.mf_account.specs.declared.entry.Entry.{Entry as ModelEntry};
+ghost use Rattle.mf_account.specs.declared.entry.Entry.{Entry};
 ghost use Rattle.mf_store_values.specs.Decoded.{entry_of_columns, entry_with, entry_columns_of};
 ghost use Rattle.mf_store_values.specs.Ledgers.{IsReadable};
 ghost use Rattle.mf_store_values.specs.Flat.{entry_in};
@@ -33,9 +33,9 @@ pub struct EntryColumns {
 pub fn entry_columns(row: &EntryRow) -> Option<EntryColumns>
     ensures some { IfSome result (λ c. IsReadable (entry_of_columns row.now c)
         × (entry_in row.now.office row.now.loan (entry_of_columns row.now c) ≡ row.now)) }
-    ensures every { (office loan : ℕ) (e : ModelEntry) → IsReadable e → entry_in office loan e ≡ row.now
+    ensures every { (office loan : ℕ) (e : Entry) → IsReadable e → entry_in office loan e ≡ row.now
         → result ≡ Some (entry_columns_of e) }
-    ensures only { IfSome result (λ c. (office loan : ℕ) (e : ModelEntry) → IsCaller e.staff
+    ensures only { IfSome result (λ c. (office loan : ℕ) (e : Entry) → IsCaller e.staff
         → entry_in office loan e ≡ row.now → c ≡ entry_columns_of e) }
 {
     match (
@@ -95,7 +95,7 @@ impl EntryColumns {
 
 /// The entry of a row, or None where it is that of none.
 fn entry_of(alloc: Global, row: &EntryRow) -> Result<Option<Entry>, Fault>
-    ensures entry { IfOk result (λ found. (office loan : ℕ) (e : ModelEntry) → IsReadable e →
+    ensures entry { IfOk result (λ found. (office loan : ℕ) (e : Entry) → IsReadable e →
         entry_in office loan e ≡ row.now → found ≡ Some e) }
     ensures gives_up { IfErr result (λ fault. fault ≡ F20) }
 {
@@ -108,7 +108,7 @@ fn entry_of(alloc: Global, row: &EntryRow) -> Result<Option<Entry>, Fault>
 
 /// The entries of the rows, in order, up to the first row that is of none.
 pub(crate) fn entries_of(alloc: Global, rows: &[EntryRow]) -> Result<Vec<Entry>, Fault>
-    ensures entries { IfOk result (λ list. (office loan : ℕ) (es : List ModelEntry) → AllByRecursion IsReadable es →
+    ensures entries { IfOk result (λ list. (office loan : ℕ) (es : List Entry) → AllByRecursion IsReadable es →
         map (entry_in office loan) es ≡ rows.now → list.items ≡ es) }
     ensures gives_up { IfErr result (λ fault. fault ≡ F20) }
 {

@@ -1,5 +1,6 @@
 //! What the rows of the tables stand for: charges, products, loans, entries, instalments, offices. A row that can be
-//! none of these is F20. And which rows of instalments and of shares an institution has, made and checked by the rows of
+//! none of these is F20. And which rows of instalments and of shares an institution has, made and checked by the rows
+//! of
 //! loans and of their entries.
 #![tactic(auto)]
 
@@ -37,7 +38,7 @@ pub use instalments::{instalment_from, instalments_from, is_active};
 pub use kept_entries::{EntryColumns, entry_columns};
 pub use kept_shares::part_of;
 pub use loans::{loan_from, loan_in_row};
-pub use numbers::{amount_from, flag_from, signed};
+pub use numbers::{amount_from, flag_from, to_signed};
 pub use office_line::line_of_office;
 pub use office_rows::{Ledger, OfficeRows, StaffMember, names_from, staff_from};
 pub use offices::offices_from;
@@ -48,4 +49,4 @@ pub use row_numbers::row_numbered;
 pub use same::{Same, are_same};
 pub use shares::share_row;
 pub use shut::see_open;
-pub use values::stored;
+pub use values::or_give_up;

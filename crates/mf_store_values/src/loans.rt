@@ -4,13 +4,13 @@ ghost use Rattle.std.specs.Prelude.{◌≡◌, ℕ, Some, IfOk, IfErr};
 ghost use Rattle.mf_base.specs.declared.fault.Fault.TheVariants.{F20};
 ghost use Rattle.mf_base.specs.DayText.{day_text};
 ghost use Rattle.mf_model.specs.Stages.{stage_number};
-ghost use Rattle.mf_model.specs.declared.loan.Loan.{Loan as ModelLoan};
-ghost use Rattle.mf_model.specs.declared.loan.Stage.{Stage as ModelStage};
-ghost use Rattle.mf_store_schema.specs.Rows.{loan_row as loan_stored};
+ghost use Rattle.mf_model.specs.declared.loan.Loan.{Loan};
+ghost use Rattle.mf_model.specs.declared.loan.Stage.{Stage};
+ghost use Rattle.mf_store_schema.specs.Rows.{loan_row};
 ghost use Rattle.mf_store_values.specs.Flat.{loan_in, approval_text, disbursal_text};
 
 use crate::offices::office_number;
-use crate::values::unsigned;
+use crate::values::to_unsigned;
 use mf_base::{Day, Fault, laws};
 use mf_model::{Loan, Stage};
 use mf_office::{Account, AccountNo};
@@ -31,7 +31,7 @@ pub(crate) fn day_from(text: &Text) -> Result<Day, Fault>
 
 /// The stage that a number and the days of approval and disbursement stand for.
 fn stage_from(number: u32, approved: Option<Text>, disbursed: Option<Text>) -> Result<Stage, Fault>
-    ensures stage { IfOk result (λ stage. (s : ModelStage) → stage_number s ≡ number → approval_text s ≡ approved
+    ensures stage { IfOk result (λ stage. (s : Stage) → stage_number s ≡ number → approval_text s ≡ approved
         → disbursal_text s ≡ disbursed → stage ≡ s) }
     ensures gives_up { IfErr result (λ fault. fault ≡ F20) }
 {
@@ -61,12 +61,12 @@ pub(crate) fn account_number(number: u32) -> Result<AccountNo, Fault>
 
 /// The loan of a row.
 pub fn loan_from(row: LoanRow) -> Result<Loan, Fault>
-    ensures loan { IfOk result (λ loan. (office number : ℕ) (l : ModelLoan) → row ≡ loan_in office number l
+    ensures loan { IfOk result (λ loan. (office number : ℕ) (l : Loan) → row ≡ loan_in office number l
         → loan ≡ l) }
     ensures gives_up { IfErr result (λ fault. fault ≡ F20) }
 {
     let client = account_number(row.client)?;
-    let principal = unsigned(row.principal)?;
+    let principal = to_unsigned(row.principal)?;
     let stage = stage_from(row.stage, row.approved, row.disbursed)?;
     Ok(Loan {
         client,
@@ -79,7 +79,7 @@ pub fn loan_from(row: LoanRow) -> Result<Loan, Fault>
 
 /// The loan of a row as the tables give it, with its number.
 pub fn loan_in_row(row: &Row) -> Result<(Account, Loan), Fault>
-    ensures loan { IfOk result (λ found. (office number : ℕ) (l : ModelLoan) → row.now ≡ loan_stored
+    ensures loan { IfOk result (λ found. (office number : ℕ) (l : Loan) → row.now ≡ loan_row
         (loan_in office number l) → (found.0 ≡ record { office = office; number = number }) × (found.1 ≡ l)) }
     ensures gives_up { IfErr result (λ fault. fault ≡ F20) }
 {

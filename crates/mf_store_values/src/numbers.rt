@@ -32,7 +32,7 @@ pub fn amount_from(number: i64) -> Option<u64>
 }
 
 /// An amount in cents as rows keep it. One that 63 bits don't hold is F20.
-pub fn signed(amount: u64) -> Result<i64, Fault>
+pub fn to_signed(amount: u64) -> Result<i64, Fault>
     ensures amount { IfOk result (λ n. n ≡ pos amount) }
     ensures gives_up { IfErr result (λ fault. fault ≡ F20) }
 {

@@ -1,14 +1,14 @@
 //! An office's line of arrears, by one query over the instalments of its loans.
 
 ghost use Rattle.std.specs.Prelude.{◌≡◌, false, List, filter, IsTrue, OnOk, IfOk, IfErr};
-ghost use Rattle.mf_arrears.specs.Line.{line_of as line_of_loans};
-ghost use Rattle.sqlite.specs.Order.{Row as SqlRow};
+ghost use Rattle.mf_arrears.specs.Line.{line_of_loans};
+ghost use Rattle.sqlite.specs.Order.{Row};
 ghost use Rattle.sqlite.specs.Given.{IsPlain};
 ghost use Rattle.sqlite.specs.Held.{state};
 ghost use Rattle.sqlite.specs.Listing.{understood};
 ghost use Rattle.sqlite.specs.State.{HasCleanDisk, Survives, Shown, Begins, CommitsShowing};
 ghost use Rattle.sqlite.specs.Values.{bound};
-ghost use Rattle.mf_store_schema.specs.Calls.{IsUnchanged, IsKeeping};
+ghost use Rattle.mf_store_schema.specs.Calls.{IsAsBefore, IsKeeping};
 ghost use Rattle.mf_store_schema.specs.Rows.{Lists, is_instalment_in};
 ghost use Rattle.mf_store_values.specs.Arrears.{NumberedLoan, AreAbove, AreWholeLoans, rows_of_office, aged_loans};
 ghost use Rattle.mf_store_values.specs.Arrears.{IsLineOf};
@@ -30,7 +30,7 @@ fn fold_answer<S: Alter>(
     line: &mut OfficeLine,
 ) -> Result<(), NoLine>
     ensures line { HasCleanDisk (state S.Store connection.new) → IsPlain (understood connection.old.schema sql.now)
-        → OnOk result ((taken : List SqlRow) × Shown sql.now (bound params.now) (state S.Store connection.old)
+        → OnOk result ((taken : List Row) × Shown sql.now (bound params.now) (state S.Store connection.old)
         (state S.Store connection.new) taken × IsLineOf today taken line.old line.new) }
     ensures same { HasCleanDisk (state S.Store connection.new) → IsPlain (understood connection.old.schema sql.now)
         → (IsTrue (state S.Store connection.old).is_open → (state S.Store connection.old).now
@@ -40,7 +40,7 @@ fn fold_answer<S: Alter>(
     ensures open { HasCleanDisk (state S.Store connection.new)
         → OnOk result (IsTrue (state S.Store connection.new).is_open) }
     ensures sums { HasCleanDisk (state S.Store connection.new) → IsPlain (understood connection.old.schema sql.now)
-        → IfErr result (λ why. why ≡ NoLine.TooGreat → (taken : List SqlRow) × Begins sql.now (bound params.now)
+        → IfErr result (λ why. why ≡ NoLine.TooGreat → (taken : List Row) × Begins sql.now (bound params.now)
         (state S.Store connection.old) taken × IsOver taken line.old) }
     ensures mode { connection.old.in_transaction ≡ false → connection.new.in_transaction ≡ false }
     ensures survives { Survives (state S.Store connection.old) (state S.Store connection.new)
@@ -60,7 +60,7 @@ pub fn line_of_office<S: Alter>(
     today: Day,
 ) -> Result<OfficeLine, NoLine>
     requires alone { connection.old.in_transaction ≡ false }
-    ensures kept { IsUnchanged (state S.Store connection.old) (state S.Store connection.new) }
+    ensures kept { IsAsBefore (state S.Store connection.old) (state S.Store connection.new) }
     ensures sums { HasCleanDisk (state S.Store connection.new) → (lists : Lists)
         → IsKeeping (state S.Store connection.old) lists → (loans : List NumberedLoan) → AreAbove 0 loans
         → AreWholeLoans loans → AreWithinSums loans

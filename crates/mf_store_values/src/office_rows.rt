@@ -6,7 +6,7 @@ ghost use Rattle.mf_model.specs.Institution.{Institution, Staff};
 ghost use Rattle.mf_store_schema.specs.Rows.{staff_row, client_row};
 ghost use Rattle.mf_store_values.specs.Flat.{staff_in, client_in, numbered_from};
 
-use crate::values::stored;
+use crate::values::or_give_up;
 use mf_account::Entry;
 use mf_base::{Choice, Fault};
 use mf_model::Loan;
@@ -59,7 +59,11 @@ impl Model for OfficeRows {
 
     ghost Value = { Rows };
 
-    ghost view = { λ rows. record { staff = rows.staff.items; clients = rows.clients.items; loans = rows.loans.items } };
+    ghost view = { λ rows. record {
+      staff = rows.staff.items;
+      clients = rows.clients.items;
+      loans = rows.loans.items;
+    } };
 }
 
 impl OfficeRows {
@@ -103,7 +107,7 @@ fn member_from(row: &Row) -> Result<StaffMember, Fault>
     ensures gives_up { IfErr result (λ fault. fault ≡ F20) }
 {
     let found = read_row::<StaffRow>(row)?;
-    let role = stored(Role::from_number(found.role))?;
+    let role = or_give_up(Role::from_number(found.role))?;
     Ok(StaffMember {
         name: found.name.into_name(),
         role,

@@ -2,14 +2,14 @@
 
 ghost use Rattle.std.specs.Prelude.{◌≡◌, ℕ, List, Option, map, IfOk, IfErr};
 ghost use Rattle.mf_base.specs.declared.fault.Fault.TheVariants.{F20};
-ghost use Rattle.mf_model.specs.Institution.{Office as ModelOffice};
-ghost use Rattle.mf_model.specs.Desk.{line_of};
+ghost use Rattle.mf_model.specs.Institution.{Office};
+ghost use Rattle.mf_model.specs.Desk.{office_shown};
 ghost use Rattle.mf_store_values.specs.Flat.{office_under};
 ghost use Rattle.mf_store_schema.specs.Rows.{office_row};
 
 use mf_base::Fault;
 use mf_model::OfficeList;
-use mf_office::{Office, OfficeNo};
+use mf_office::OfficeNo;
 use mf_store_schema::{OfficeRow, read_row};
 use sqlite::Row;
 use std::alloc::Global;
@@ -37,15 +37,15 @@ fn parent_number(number: Option<u32>) -> Result<Option<OfficeNo>, Fault>
 }
 
 /// The office of a row.
-fn office_from(row: &Row) -> Result<Office, Fault>
-    ensures office { IfOk result (λ office. (parents : ℕ → Option ℕ) (f : ModelOffice)
-        → row.now ≡ office_row (office_under parents f) → office ≡ line_of f) }
+fn office_from(row: &Row) -> Result<mf_office::Office, Fault>
+    ensures office { IfOk result (λ office. (parents : ℕ → Option ℕ) (f : Office)
+        → row.now ≡ office_row (office_under parents f) → office ≡ office_shown f) }
     ensures gives_up { IfErr result (λ fault. fault ≡ F20) }
 {
     let found = read_row::<OfficeRow>(row)?;
     let number = office_number(found.number)?;
     let parent = parent_number(found.parent)?;
-    Ok(Office {
+    Ok(mf_office::Office {
         number,
         parent,
         name: found.name.into_name(),
@@ -54,8 +54,8 @@ fn office_from(row: &Row) -> Result<Office, Fault>
 
 /// The offices of the rows, in order.
 pub fn offices_from(alloc: Global, rows: &[Row]) -> Result<OfficeList, Fault>
-    ensures offices { IfOk result (λ list. (parents : ℕ → Option ℕ) (fs : List ModelOffice)
-        → rows.now ≡ map (λ f. office_row (office_under parents f)) fs → list ≡ map line_of fs) }
+    ensures offices { IfOk result (λ list. (parents : ℕ → Option ℕ) (fs : List Office)
+        → rows.now ≡ map (λ f. office_row (office_under parents f)) fs → list ≡ map office_shown fs) }
     ensures gives_up { IfErr result (λ fault. fault ≡ F20) }
 {
     let mut offices = Vec::new(alloc);

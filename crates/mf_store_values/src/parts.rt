@@ -2,33 +2,33 @@
 
 ghost use Rattle.std.specs.Prelude.{◌≡◌, ℕ, List, map, IfOk, IfErr};
 ghost use Rattle.mf_base.specs.declared.fault.Fault.TheVariants.{F20};
-ghost use Rattle.mf_account.specs.declared.settled.Settled.{Settled as Part};
-ghost use Rattle.mf_store_schema.specs.Rows.{share_row as share_stored};
+ghost use Rattle.mf_account.specs.declared.settled.SettledPart.{SettledPart};
+ghost use Rattle.mf_store_schema.specs.Rows.{share_row};
 ghost use Rattle.mf_store_values.specs.Flat.{share_in};
 ghost use Rattle.mf_store_values.specs.Kept.{part_told};
 
 use crate::kept_shares::part_of;
-use crate::values::stored;
-use mf_account::Settled;
+use crate::values::or_give_up;
+use mf_account::SettledPart;
 use mf_base::Fault;
 use mf_store_schema::{ShareRow, read_row};
 use sqlite::Row;
 use std::alloc::Global;
 
 /// The part of a row as the tables give it.
-fn part_in_row(row: &Row) -> Result<Settled, Fault>
-    ensures part { IfOk result (λ part. (office loan : ℕ) (placed : ℕ × (ℕ × Part))
-        → row.now ≡ share_stored (share_in office loan placed) → part ≡ part_told placed) }
+fn part_in_row(row: &Row) -> Result<SettledPart, Fault>
+    ensures part { IfOk result (λ part. (office loan : ℕ) (placed : ℕ × (ℕ × SettledPart))
+        → row.now ≡ share_row (share_in office loan placed) → part ≡ part_told placed) }
     ensures gives_up { IfErr result (λ fault. fault ≡ F20) }
 {
     let found = read_row::<ShareRow>(row)?;
-    stored(part_of(&found))
+    or_give_up(part_of(&found))
 }
 
 /// The parts of the rows, in order.
-pub fn parts_from(alloc: Global, rows: &[Row]) -> Result<Vec<Settled>, Fault>
-    ensures parts { IfOk result (λ list. (office loan : ℕ) (all : List (ℕ × (ℕ × Part)))
-        → rows.now ≡ map (λ item. share_stored (share_in office loan item)) all → list.items ≡ map part_told all) }
+pub fn parts_from(alloc: Global, rows: &[Row]) -> Result<Vec<SettledPart>, Fault>
+    ensures parts { IfOk result (λ list. (office loan : ℕ) (all : List (ℕ × (ℕ × SettledPart)))
+        → rows.now ≡ map (λ item. share_row (share_in office loan item)) all → list.items ≡ map part_told all) }
     ensures gives_up { IfErr result (λ fault. fault ≡ F20) }
 {
     let mut parts = Vec::new(alloc);

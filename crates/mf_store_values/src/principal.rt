@@ -6,12 +6,12 @@ ghost use Rattle.sqlite.specs.Order.{column};
 ghost use Rattle.sqlite.specs.Held.{state};
 ghost use Rattle.sqlite.specs.State.{HasCleanDisk};
 ghost use Rattle.sqlite.specs.declared.types.Value.TheVariants.{Int};
-ghost use Rattle.mf_store_schema.specs.Calls.{IsUnchanged, IsKeeping};
-ghost use Rattle.mf_store_schema.specs.Rows.{Lists, is_instalment};
+ghost use Rattle.mf_store_schema.specs.Calls.{IsAsBefore, IsKeeping};
+ghost use Rattle.mf_store_schema.specs.Rows.{Lists, is_row_of_instalment};
 ghost use Rattle.mf_store_schema.specs.declared.instalments.InstalmentRow.{InstalmentRow};
 ghost use Rattle.mf_store_values.specs.Principal.{principal_row, IsOpenRow, IsFirstOpen};
 
-use crate::values::unsigned;
+use crate::values::to_unsigned;
 use mf_base::Fault;
 use mf_store_schema::ask;
 use sqlite::{Alter, Connection, Row, params};
@@ -22,7 +22,7 @@ fn amount(row: &Row, at: usize) -> Result<u64, Fault>
     ensures gives_up { IfErr result (λ fault. fault ≡ F20) }
 {
     match row.get::<i64>(at) {
-        Ok(number) => unsigned(number),
+        Ok(number) => to_unsigned(number),
         Err(_) => Err(Fault::F20),
     }
 }
@@ -54,13 +54,13 @@ pub fn is_principal_open<S: Alter>(
     number: u32,
 ) -> Result<bool, Fault>
     requires alone { connection.old.in_transaction ≡ false }
-    ensures kept { IsUnchanged (state S.Store connection.old) (state S.Store connection.new) }
+    ensures kept { IsAsBefore (state S.Store connection.old) (state S.Store connection.new) }
     ensures gives_up { IfErr result (λ fault. fault ≡ F20) }
     ensures open { HasCleanDisk (state S.Store connection.new)
         → OnOk result (IsTrue (state S.Store connection.new).is_open) }
     ensures left { HasCleanDisk (state S.Store connection.new) → (lists : Lists)
         → IsKeeping (state S.Store connection.old) lists
-        → IfOk result (λ left. IsTrue left → IsFirstOpen (is_instalment office loan number) lists.instalments) }
+        → IfOk result (λ left. IsTrue left → IsFirstOpen (is_row_of_instalment office loan number) lists.instalments) }
     ensures mode { connection.new.in_transaction ≡ false }
 {
     let rows = ask(

@@ -5,12 +5,12 @@ ghost use Rattle.std.specs.List.Sorted.{IsSortedByKey, IsPermutation};
 ghost use Rattle.std.specs.Ordering.{nat_cmp};
 ghost use Rattle.mf_base.specs.declared.fault.Fault.TheVariants.{F20};
 ghost use Rattle.mf_account.specs.Change.{settled_in};
-ghost use Rattle.mf_account.specs.declared.settled.Settled.{Settled as Part};
+ghost use Rattle.mf_account.specs.declared.settled.SettledPart.{SettledPart};
 ghost use Rattle.mf_store_values.specs.Flat.{share_in, parts_from};
-ghost use Rattle.mf_store_values.specs.Kept.{next_place as place_after, placed_from};
+ghost use Rattle.mf_store_values.specs.Kept.{next_place, placed_from};
 
-use crate::numbers::signed;
-use mf_account::{LoanAccount, Settled};
+use crate::numbers::to_signed;
+use mf_account::{LoanAccount, SettledPart};
 use mf_base::{Choice, Fault};
 use mf_store_schema::ShareRow;
 use std::alloc::Global;
@@ -21,12 +21,12 @@ pub fn share_row(
     loan: u32,
     seq: u32,
     place: u32,
-    part: &Settled,
+    part: &SettledPart,
 ) -> Result<ShareRow, Fault>
     ensures row { IfOk result (λ made. made ≡ share_in office loan (seq, (place, part.now))) }
     ensures gives_up { IfErr result (λ fault. fault ≡ F20) }
 {
-    let amount = signed(part.amount)?;
+    let amount = to_signed(part.amount)?;
     Ok(ShareRow {
         office,
         loan,
@@ -41,8 +41,8 @@ pub fn share_row(
 
 /// The place of a part within its entry, after a part with this entry's number and place. One that 32 bits don't hold
 /// is F20.
-fn next_place(seq: u32, place: u32, part: &Settled) -> Result<u32, Fault>
-    ensures place { IfOk result (λ next. next ≡ place_after seq place part.now) }
+fn next_place(seq: u32, place: u32, part: &SettledPart) -> Result<u32, Fault>
+    ensures place { IfOk result (λ next. next ≡ next_place seq place part.now) }
     ensures gives_up { IfErr result (λ fault. fault ≡ F20) }
 {
     if part.seq != seq {
@@ -58,7 +58,7 @@ fn next_place(seq: u32, place: u32, part: &Settled) -> Result<u32, Fault>
 fn add_placed(
     office: u32,
     loan: u32,
-    parts: &[Settled],
+    parts: &[SettledPart],
     made: &mut Vec<ShareRow>,
 ) -> Result<(), Fault>
     ensures added { OnOk result (made.new.items ≡ made.old.items ++ map (share_in office loan)
@@ -77,8 +77,8 @@ fn add_placed(
 }
 
 /// The parts by entry; those of one entry stay in their order.
-fn by_entry(alloc: Global, parts: &[Settled]) -> Result<Vec<Settled>, Fault>
-    ensures sorted { IfOk result (λ sorted. IsSortedByKey (λ (part : Part). part.seq) nat_cmp sorted.items) }
+fn by_entry(alloc: Global, parts: &[SettledPart]) -> Result<Vec<SettledPart>, Fault>
+    ensures sorted { IfOk result (λ sorted. IsSortedByKey (λ (part : SettledPart). part.seq) nat_cmp sorted.items) }
     ensures permutation { IfOk result (λ sorted. IsPermutation parts.now sorted.items) }
     ensures same { IfOk result (λ sorted. (seq : ℕ) → settled_in seq sorted.items ≡ settled_in seq parts.now) }
     ensures gives_up { IfErr result (λ fault. fault ≡ F20) }

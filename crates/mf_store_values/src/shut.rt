@@ -4,7 +4,7 @@ ghost use Rattle.std.specs.Prelude.{◌≡◌, false, IsTrue, OnOk, IfErr};
 ghost use Rattle.mf_base.specs.declared.fault.Fault.TheVariants.{F20};
 ghost use Rattle.sqlite.specs.Held.{state};
 ghost use Rattle.sqlite.specs.State.{HasCleanDisk};
-ghost use Rattle.mf_store_schema.specs.Calls.{IsUnchanged};
+ghost use Rattle.mf_store_schema.specs.Calls.{IsAsBefore};
 
 use mf_base::Fault;
 use sqlite::{Alter, Connection};
@@ -12,7 +12,7 @@ use sqlite::{Alter, Connection};
 /// F20 where a fault has shut the connection. No table is asked.
 pub fn see_open<S: Alter>(connection: &mut Connection<S>) -> Result<(), Fault>
     requires alone { connection.old.in_transaction ≡ false }
-    ensures kept { IsUnchanged (state S.Store connection.old) (state S.Store connection.new) }
+    ensures kept { IsAsBefore (state S.Store connection.old) (state S.Store connection.new) }
     ensures gives_up { IfErr result (λ fault. fault ≡ F20) }
     ensures open { HasCleanDisk (state S.Store connection.new)
         → OnOk result (IsTrue (state S.Store connection.new).is_open) }

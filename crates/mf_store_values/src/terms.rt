@@ -2,9 +2,10 @@
 
 ghost use Rattle.std.specs.Prelude.{◌≡◌, ℕ, Some, IfOk, IfErr};
 ghost use Rattle.mf_base.specs.declared.fault.Fault.TheVariants.{F20};
-ghost use Rattle.mf_catalog.specs.Product.{charge_of, terms_of as terms_by};
+ghost use Rattle.mf_catalog.specs.Product.{charge_of, terms_of};
 ghost use Rattle.mf_model.specs.Accounts.{terms_in};
-ghost use Rattle.mf_model.specs.Institution.{Catalogue, Charge, Offer, charge_def as charge_with, charge_in};
+ghost use Rattle.mf_model.specs.Institution.{Catalogue, ListedCharge, ListedProduct, charge_def};
+ghost use Rattle.mf_model.specs.Institution.{charge_in};
 ghost use Rattle.mf_store_values.specs.Flat.{charge_as, product_as, numbered_from};
 
 use crate::numbers::amount_from;
@@ -16,8 +17,8 @@ use std::alloc::Global;
 
 /// The charge of a row under its number, or None where it is that of none.
 fn charge_def(alloc: Global, number: u32, row: &ChargeRow) -> Result<Option<ChargeDef>, Fault>
-    ensures charge { IfOk result (λ found. (c : Charge) → charge_as number c ≡ row.now
-        → found ≡ Some (charge_with number c)) }
+    ensures charge { IfOk result (λ found. (c : ListedCharge) → charge_as number c ≡ row.now
+        → found ≡ Some (charge_def number c)) }
     ensures gives_up { IfErr result (λ fault. fault ≡ F20) }
 {
     let name = Name::new(String::from_str(alloc, row.name.as_str())?);
@@ -63,11 +64,11 @@ fn terms_with(
     instalment: Option<ChargeDef>,
     overdue: Option<ChargeDef>,
 ) -> Option<Terms>
-    ensures { (k : Catalogue) (number : ℕ) (p : Offer) → product_as number p ≡ row.now →
+    ensures { (k : Catalogue) (number : ℕ) (p : ListedProduct) → product_as number p ≡ row.now →
         disbursement ≡ charge_of (charge_in k) row.now.disbursement_charge →
         instalment ≡ charge_of (charge_in k) row.now.instalment_charge →
         overdue ≡ charge_of (charge_in k) row.now.overdue_charge →
-        result ≡ Some (terms_by (charge_in k) p.members) }
+        result ≡ Some (terms_of (charge_in k) p.members) }
 {
     match (
         Method::from_number(row.method),

@@ -7,7 +7,7 @@ use crate::numbers::amount_from;
 use mf_base::Fault;
 
 /// What a value stands for, if for anything.
-pub fn stored<T>(meant: Option<T>) -> Result<T, Fault>
+pub fn or_give_up<T>(meant: Option<T>) -> Result<T, Fault>
     ensures value { IfOk result (λ x. meant ≡ Some x) }
     ensures gives_up { IfErr result (λ fault. fault ≡ F20) }
 {
@@ -18,9 +18,9 @@ pub fn stored<T>(meant: Option<T>) -> Result<T, Fault>
 }
 
 /// The amount that the tables keep.
-pub(crate) fn unsigned(number: i64) -> Result<u64, Fault>
+pub(crate) fn to_unsigned(number: i64) -> Result<u64, Fault>
     ensures amount { IfOk result (λ amount. pos amount ≡ number) }
     ensures gives_up { IfErr result (λ fault. fault ≡ F20) }
 {
-    stored(amount_from(number))
+    or_give_up(amount_from(number))
 }

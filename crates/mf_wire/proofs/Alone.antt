@@ -11,10 +11,10 @@ use Rattle.mf_model.specs.declared.reply.Reply.{Reply}
 use Rattle.mf_model.specs.Institution.{Institution}
 use Rattle.mf_model.specs.Tree.{IsTree, view}
 use Rattle.mf_model.specs.Desk.{reply}
-use Rattle.mf_model.specs.Run.{Line, Touch, answer, change_of, from_office, is_of, is_touched, but_given_up}
+use Rattle.mf_model.specs.Run.{Line, Touch, answer, change_of_line, from_office, is_of, is_touched, but_given_up}
 use Rattle.mf_model.specs.Run.{play_replies, RepliesArePlay}
 use Rattle.mf_model.specs.declared.store.InstitutionStore.{Ghosts}
-use Rattle.mf_wire_messages.specs.Messages.{IsMessage, Request as Message}
+use Rattle.mf_wire_messages.specs.Messages.{IsMessage, Message}
 use Rattle.mf_wire_messages.specs.Responses.{response, refusal}
 use Rattle.mf_wire_messages.proofs.MessageLemmas.{one_message}
 use Rattle.mf_wire_replies.specs.Shown.{IsReplyText}
@@ -36,9 +36,9 @@ only a b e = cc
 own_line : (l : Line) (o : ℕ) (i : Institution) → from_office o l.call ≡ true → RepliesArePlay i (l ∷ [])
     → answer l i ≡ or_given_up l.given_up (reply l.call (view o i))
 own_line l o i own law =
-    let touch : Touch = record { call = l.call; accepted = is_some (change_of l i) } in
+    let touch : Touch = record { call = l.call; accepted = is_some (change_of_line l i) } in
     let outer : Bool → Type 0 = λ b. cond b (answer l i ∷ []) [] ≡ but_given_up (cond b (l.given_up ∷ []) [])
-    (play_replies (from_office o) (cond (b || is_touched o i (change_of l i)) (touch ∷ []) []) (view o i)) in
+    (play_replies (from_office o) (cond (b || is_touched o i (change_of_line l i)) (touch ∷ []) []) (view o i)) in
     let inner : Bool → Type 0 =
     λ b. answer l i ∷ [] ≡ but_given_up (l.given_up ∷ []) (cond b (reply l.call (view o i) ∷ []) []) in
     only (answer l i) (or_given_up l.given_up (reply l.call (view o i))) (subst inner own (subst outer own (law o)))

@@ -1,8 +1,7 @@
 -- From the desk's answer to the text of a reply.
-use Rattle.std.proofs.Common.{◌≡◌, ℕ, ◌≤◌, nat_le, Bool, true, false, cond, List, Option, Some, None, Result, Err, sym}
+use Rattle.std.proofs.Common.{◌≡◌, ℕ, nat_le, Bool, true, false, cond, List, Option, Some, None, Result, Err, sym}
 use Rattle.std.proofs.Common.{ap, ◌∙◌, subst}
-use Rattle.std.specs.Prelude.{◌&&◌, is_some, option_map, option_and_then, length, ◌∷◌}
-use Rattle.std.proofs.lemmas.Bool.{le-leb}
+use Rattle.std.specs.Prelude.{◌&&◌, is_some, length, ◌∷◌}
 use Rattle.mf_base.specs.declared.fault.Fault.{Fault}
 use Rattle.mf_base.specs.declared.fault.Fault.TheVariants.{F20}
 use Rattle.mf_model.specs.declared.request.Call.{Call}
@@ -20,7 +19,7 @@ use Rattle.mf_model.specs.Unseen.{call_from}
 pub use Rattle.mf_desk.proofs.Calling.{told_of_answer}
 use Rattle.mf_office.specs.Texts.{caller_of}
 use Rattle.mf_office.specs.declared.caller.Caller.{Caller}
-use Rattle.mf_wire_requests.specs.RequestLine.{Parts, after_caller, parts_after, parts_of_line, split_space, is_token}
+use Rattle.mf_wire_requests.specs.RequestLine.{Parts, parts_of_line, is_token}
 use Rattle.mf_wire_requests.specs.Requests.{request_of, asked_in, call_of_parts, call_of}
 use Rattle.mf_wire.specs.Runs.{Calls}
 
@@ -64,36 +63,6 @@ module _ {S : Type 0} (store : Ghosts S) where
           → store.leaves s (left_by change true i is)
       left None i is l = l
       left (Some change) i is l = more (after change i) is l
-
-caller_in : (line : List ℕ) (p : Parts) → Some p ≡ parts_of_line line → option_and_then (λ q. caller_of q.0)
-    (split_space line) ≡ caller_of p.caller
-caller_in line p e = at (split_space line) e
-  where
-    rest : (first : List ℕ × List ℕ) (second : Option (List ℕ × List ℕ)) → Some p ≡ option_map (after_caller first)
-        second → caller_of first.0 ≡ caller_of p.caller
-    rest first None e = absurd (cc)
-    rest first (Some s) e = ap (λ (o : Option Parts). option_and_then (λ q. caller_of q.caller) o) (sym e)
-
-    at : (first : Option (List ℕ × List ℕ)) → Some p ≡ parts_after first → option_and_then (λ q. caller_of q.0) first
-        ≡ caller_of p.caller
-    at None e = absurd (cc)
-    at (Some first) e = rest first (split_space first.1) e
-
-pub call_in_parts : (line : List ℕ) (p : Parts) → length line ≤ 65536 → Some p ≡ parts_of_line line → call_of_parts p
-    ≡ call_of line
-call_in_parts line p fits e =
-    let c = caller_in line p e in
-    let r : cond (nat_le (length line) 65536) (asked_in (parts_of_line line)) (Unreadable Malformed)
-    ≡ asked_in (Some p) =
-    ap (λ b. cond b (asked_in (parts_of_line line)) (Unreadable Malformed)) (le-leb (length line) 65536 fits)
-    ∙ ap asked_in (sym e) in
-    sym (ap (λ (x : Option Caller). record { caller = x; request = (call_of line).request }) c
-    ∙ ap (λ (x : Request). record { caller = caller_of p.caller; request = x }) r)
-
-pub no_parts : (line : List ℕ) → length line ≤ 65536 → None ≡ parts_of_line line → (call_of line).request
-    ≡ Unreadable Malformed
-no_parts line fits e = ap (λ b. cond b (asked_in (parts_of_line line)) (Unreadable Malformed))
-    (le-leb (length line) 65536 fits) ∙ ap asked_in (sym e)
 
 pub too_long : (line : List ℕ) → nat_le (length line) 65536 ≡ false → (call_of line).request ≡ Unreadable Malformed
 too_long line e = ap (λ b. cond b (asked_in (parts_of_line line)) (Unreadable Malformed)) e

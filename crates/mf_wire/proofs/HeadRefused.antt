@@ -8,7 +8,7 @@ use Rattle.mf_model.specs.declared.request.Flaw.TheVariants.{Malformed, NoRoute,
 use Rattle.mf_model.specs.declared.request.Request.{Request}
 use Rattle.mf_model.specs.declared.request.Request.TheVariants.{Unreadable}
 use Rattle.mf_office.specs.Texts.{caller_of}
-use Rattle.mf_wire_messages.specs.Messages.{is_head, Request as Message}
+use Rattle.mf_wire_messages.specs.Messages.{is_head, Message}
 use Rattle.mf_wire_requests.specs.declared.routes.Endpoint.{Endpoint}
 use Rattle.mf_wire_requests.specs.declared.routes.Methods.{Methods}
 use Rattle.mf_wire_requests.specs.declared.routes.Methods.TheVariants.{Get, Post, GetAndPost, GetAndPut}

@@ -38,12 +38,6 @@ told-map f meant (l ∷ ls) (r ∷ rs) =
       | false ↦ told-map f meant ls rs
     ]
 
--- runs that tell the same replies tell the same texts
-pub same_texts : (meant : Call → Bool) (ls ks : List Line) (i j : Institution) → replies_to meant ls (answers ls i)
-    ≡ replies_to meant ks (answers ks j) → replies_to meant ls (texts_of ls i) ≡ replies_to meant ks (texts_of ks j)
-same_texts meant ls ks i j e = told-map shown_line meant ls (answers ls i) ∙ ap (map shown_line) e
-    ∙ sym (told-map shown_line meant ks (answers ks j))
-
 -- the texts for the lines that pass are what is told of the calls that are meant
 module _ (i : Institution) (run : List Line) (lines texts : List (List ℕ)) (calls : map (λ l. l.call) run
     ≡ map call_of lines) (replied : texts ≡ texts_of run i) where

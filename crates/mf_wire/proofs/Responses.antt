@@ -7,8 +7,8 @@ use Rattle.mf_model.specs.declared.store.InstitutionStore.{Ghosts}
 use Rattle.mf_model.specs.Sound.{IsInRange}
 use Rattle.mf_wire_requests.proofs.InRange.{parts_in_range}
 use Rattle.mf_wire_messages.specs.declared.reading.Arrival.TheVariants as arrival
-use Rattle.mf_wire_messages.specs.Arrivals.{bytes_left, Tells}
-use Rattle.mf_wire_messages.specs.Messages.{is_head, request_of, IsMessage, Request as Message}
+use Rattle.mf_wire_messages.specs.Arrivals.{bytes_left, TellsArrival}
+use Rattle.mf_wire_messages.specs.Messages.{is_head, request_of, IsMessage, Message}
 use Rattle.mf_wire_messages.specs.Responses.{refusal}
 use Rattle.mf_wire_messages.proofs.MessageLemmas.{received}
 use Rattle.mf_wire.specs.Runs.{Calls}
@@ -25,7 +25,7 @@ module _ {S : Type 0} (store : Ghosts S) where
   pub answered_request : (bytes : List ℕ) (message : Message) (to_head : Bool) (text : List ℕ) (old new : S)
       → to_head ≡ is_head message.method
       → Calls store (λ r. text ≡ shown_response to_head r) (call_of_message (Some message)) old new
-      → Tells bytes (arrival.Received message) → AnswersMessage store bytes old text new
+      → TellsArrival bytes (arrival.Received message) → AnswersMessage store bytes old text new
   answered_request bytes message to_head text old new e calls t = record {
     message = Some message;
     to_head = to_head;
@@ -36,7 +36,7 @@ module _ {S : Type 0} (store : Ghosts S) where
 
   -- what had no room is given up
   pub answered_without_room : (bytes : List ℕ) (to_head : Bool) (s : S) → ((i : Institution) (is : List Institution)
-      → store.leaves s is → store.leaves s (i ∷ is)) → Tells bytes (arrival.NoRoom to_head)
+      → store.leaves s is → store.leaves s (i ∷ is)) → TellsArrival bytes (arrival.NoRoom to_head)
       → AnswersMessage store bytes s (refusal F20 to_head) s
   answered_without_room bytes to_head s more t = record {
     message = request_of t.0 t.1;

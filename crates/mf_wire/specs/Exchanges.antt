@@ -7,7 +7,7 @@ use Rattle.mf_model.specs.Run.{Line, answers, last, ViewIsPlay, RepliesArePlay, 
 use Rattle.mf_model.specs.Sound.{AreInRange}
 use Rattle.mf_model.specs.Store.{left_after}
 use Rattle.mf_model.specs.declared.store.InstitutionStore.{Ghosts}
-use Rattle.mf_wire_messages.specs.Messages.{IsMessage, Request as Message}
+use Rattle.mf_wire_messages.specs.Messages.{IsMessage, Message}
 use Rattle.mf_wire.specs.Serving.{AnswersMessage, call_of_message, shown_response}
 
 -- the bytes of a stream, and the response to the message that they are

@@ -14,7 +14,7 @@ use Rattle.mf_model.specs.Sound.{IsInRange}
 use Rattle.mf_model.specs.declared.store.InstitutionStore.{Ghosts}
 use Rattle.mf_wire_lines.specs.Replies.{fault_status, fault_body}
 use Rattle.mf_wire_messages.specs.Arrivals.{bytes_left}
-use Rattle.mf_wire_messages.specs.Messages.{IsMessage, Request as Message}
+use Rattle.mf_wire_messages.specs.Messages.{IsMessage, Message}
 use Rattle.mf_wire_messages.specs.Responses.{response, refusal, IsCut}
 use Rattle.mf_wire_replies.specs.Shown.{reply_status, reply_body}
 use Rattle.mf_wire_requests.specs.RequestLine.{Parts}

@@ -13,7 +13,7 @@ ghost use Rattle.mf_model.specs.Desk.{reply};
 ghost use Rattle.mf_model.specs.Tree.{view};
 ghost use Rattle.mf_model.specs.Run.{Line, Alike};
 ghost use Rattle.mf_model.specs.Unseen.{Asked, IsUnseen, asked_of, call_from};
-ghost use Rattle.mf_wire_messages.specs.Messages.{is_head, Request as Message};
+ghost use Rattle.mf_wire_messages.specs.Messages.{is_head, Message};
 ghost use Rattle.mf_wire_messages.specs.Responses.{refusal};
 ghost use Rattle.mf_wire_replies.specs.Shown.{shown_line, IsReplyText};
 ghost use Rattle.mf_wire_requests.specs.Requests.{call_of};

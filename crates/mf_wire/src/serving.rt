@@ -3,7 +3,7 @@
 ghost use Rattle.std.specs.Prelude.{◌≡◌, ◌≢◌, List, ℕ, [], false, None, Some, IfOk, IfErr, IfSome, OnOk, OnErr};
 ghost use Rattle.std.specs.Io.KnownBytes.{Appends};
 ghost use Rattle.mf_base.specs.declared.fault.Cause.TheVariants as cause;
-ghost use Rattle.mf_wire_messages.specs.Arrivals.{Tells};
+ghost use Rattle.mf_wire_messages.specs.Arrivals.{TellsArrival};
 ghost use Rattle.mf_wire_messages.specs.Messages.{is_head};
 ghost use Rattle.mf_wire_messages.specs.Responses.{IsCut};
 ghost use Rattle.mf_wire.specs.Runs.{Calls};
@@ -57,8 +57,9 @@ fn answer_arrival<S: InstitutionStore>(
     store: &mut S,
     arrival: Arrival,
 ) -> Option<Response>
-    ensures silent { result ≡ None → (store.new ≡ store.old) × ((bytes : List ℕ) → Tells bytes arrival → bytes ≡ []) }
-    ensures answered { IfSome result (λ response. (bytes : List ℕ) → Tells bytes arrival →
+    ensures silent { result ≡ None → (store.new ≡ store.old)
+        × ((bytes : List ℕ) → TellsArrival bytes arrival → bytes ≡ []) }
+    ensures answered { IfSome result (λ response. (bytes : List ℕ) → TellsArrival bytes arrival →
         AnswersMessage S.InstitutionStore bytes store.old (text_response response.to_head response.text) store.new) }
     ensures refusal { IfSome result (λ response. IfErr response.text (λ f. f ≢ Fault.F19)) }
 {

@@ -107,7 +107,8 @@ long_without_return : (line : List ℕ) → 65538 ≤ length line → 65536 < le
 long_without_return line h =
     let less : length line - 1 ≤ length line = omega arith in
     let one : length (take (length line - 1) line) ≡ length line - 1 = length-take-le (length line - 1) line less in
-    elim (slice_index line (length line - 1) == 13) as (λ t. 65536 < length (cond t (take (length line - 1) line) line)) [
+    let last_is_return = slice_index line (length line - 1) == 13 in
+    elim last_is_return as (λ t. 65536 < length (cond t (take (length line - 1) line) line)) [
       | true ↦ omega (arith, one)
       | false ↦ omega arith
     ]

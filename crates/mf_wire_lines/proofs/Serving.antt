@@ -1,13 +1,13 @@
 -- A stream, piece by piece.
-use Rattle.std.proofs.Common.{◌≡◌, ◌≢◌, ℕ, ◌+◌, ◌^◌, ◌≤◌, inl, inr, List, [], ◌++◌, length, length-append, take, sym}
+use Rattle.std.proofs.Common.{◌≡◌, ◌≢◌, ℕ, ◌+◌, ◌≤◌, inl, inr, List, [], ◌++◌, length, length-append, take, sym}
 use Rattle.std.proofs.Common.{ap, ◌∙◌, subst, arith, append-nil, refl, Option}
-use Rattle.std.specs.Io.KnownBytes.{Consumes, IsAtEnd, Keeps}
-use Rattle.std.proofs.KnownBytes.{Consumes-nil, Consumes-trans, Consumes-kept}
+use Rattle.std.specs.Io.KnownBytes.{Consumes, IsAtEnd}
+use Rattle.std.proofs.KnownBytes.{Consumes-nil, Consumes-trans}
 use Rattle.mf_wire_lines.specs.Cut.{request, ended_lines, begun_line, request_lines}
 use Rattle.mf_wire_lines.specs.Reading.{ended_from, begun_from}
 use Rattle.mf_wire_lines.specs.Run.{Run, Answered, Half, Broken}
 use Rattle.mf_wire_lines.specs.Streams.{Streams}
-use Rattle.mf_wire_lines.specs.Ends.{EndsWhole, EndsReading, EndsWriting}
+use Rattle.mf_wire_lines.specs.Ends.{EndsWhole, EndsWriting}
 use Rattle.mf_wire_lines.proofs.Pieces.{held_alike, ended_lines-append, begun_line-append}
 use Rattle.mf_wire_lines.proofs.RunLemmas.{Answered-nil, Answered-append, Answered-alike, Half-alike, Broken-append}
 use Rattle.mf_wire_lines.proofs.RunLemmas.{Broken-half}
@@ -48,31 +48,6 @@ Going-more step old now new unread mid left held held' piece before between afte
 
 -- How a run ends, from where it stood: the streams' faults aside, what was read and answered.
 module _ {S : Type 0} (step : S → List ℕ → List ℕ → S → Type 0) (old now : S) (streams : Streams) where
-  pub ends_reading : (mid : Option (List ℕ)) (held : List ℕ) (n size : ℕ)
-      → Keeps mid streams.source.after → streams.source.faults_after ≢ streams.source.faults_before
-      → streams.sink.faults_after ≡ streams.sink.faults_before
-      → Going step old now streams.source.before mid held streams.sink.before streams.sink.after n size
-      → EndsReading (Run step) old now streams n
-  ends_reading mid held n size kept failed sink t = record {
-    bytes = t.bytes;
-    consumed = Consumes-kept streams.source.before mid streams.source.after t.bytes t.read kept;
-    answered = t.answered;
-    failed = inl failed;
-    sink = sink;
-  }
-
-  pub ends_endless : (held : List ℕ) (n size : ℕ) → 2 ^ 60 ≤ size → streams.sink.faults_after
-      ≡ streams.sink.faults_before
-      → Going step old now streams.source.before streams.source.after held streams.sink.before streams.sink.after n size
-      → EndsReading (Run step) old now streams n
-  ends_endless held n size many sink t = record {
-    bytes = t.bytes;
-    consumed = t.read;
-    answered = t.answered;
-    failed = inr (omega (arith, t.sized));
-    sink = sink;
-  }
-
   to_the_end : (bytes : List ℕ) (mid : Option (List ℕ)) → Consumes streams.source.before mid bytes
       → Consumes mid streams.source.after [] → Consumes streams.source.before streams.source.after bytes
   to_the_end bytes mid read none = subst (Consumes streams.source.before streams.source.after) (append-nil bytes)

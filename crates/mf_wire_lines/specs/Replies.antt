@@ -54,9 +54,3 @@ fault_line fault = reply_line (fault_status fault) (fault_body fault)
 abbrev pub reply_line_of : {Z : Type 0} → Result (String Z) Fault → List ℕ
 reply_line_of (Ok text) = string_bytes text
 reply_line_of (Err fault) = fault_line fault
-
--- a refusal that has a reply: none is refused with what is told of a file that is opened
-abbrev pub replyable : {T : Type 0} → Result T Fault → Result T Fault
-replyable (Ok t) = Ok t
-replyable (Err F19) = Err F20
-replyable (Err fault) = Err fault

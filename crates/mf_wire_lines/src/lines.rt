@@ -2,7 +2,7 @@
 
 ghost use Rattle.std.specs.Prelude.{◌≡◌, ◌≢◌, ℕ, ◌+◌, ◌-◌, ◌<◌, ◌≤◌, ◌^◌, List, [], length, take, IfOk, IfErr, OnOk};
 ghost use Rattle.mf_base.specs.declared.fault.Cause.TheVariants as cause;
-ghost use Rattle.mf_wire_lines.specs.Cut.{without_return as line_without_return, request};
+ghost use Rattle.mf_wire_lines.specs.Cut.{without_return, request};
 ghost use Rattle.mf_wire_lines.specs.Reading.{ended_from, begun_from};
 ghost use Rattle.mf_wire_lines.specs.Replies.{reply_line_of};
 ghost use Rattle.mf_wire_lines.specs.Run.{LineStep, Run, Answered, Half, Broken};
@@ -78,7 +78,7 @@ fn answer_line<S, D: LineDesk<S>, W: Sink>(
 
 /// The line without a carriage return at its end.
 fn without_return(line: &[u8]) -> &[u8]
-    ensures { result.now ≡ line_without_return line.now }
+    ensures { result.now ≡ without_return line.now }
 {
     match line {
         [front @ .., b'\r'] => front,

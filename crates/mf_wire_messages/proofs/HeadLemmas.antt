@@ -99,10 +99,3 @@ ended_either false a b c size n room piece after fields h within e lt p q end no
   not_empty (take size room) (omega (arith, length-take-le size room within, above size h)),
   ended (take size room) c (end e lt) (none (above size h)),
 )
-
-pub ended_reading : (a b c : Option (List ℕ)) (size n : ℕ) (room piece after : List ℕ) (fields : List HeaderSpan)
-    → size ≤ length room → n ≡ 0 → 0 < length piece
-    → Consumes a b (take size room) → Consumes b c (take n piece) → (n ≡ 0 → 0 < length piece → IsAtEnd c)
-    → (0 < size → HasNoRequest (take size room))
-    → TellsHead a c after fields (if size == 0 then Nothing else Refused)
-ended_reading a b c size n room piece after fields = ended_either (size == 0) a b c size n room piece after fields refl

@@ -11,8 +11,8 @@ use Rattle.httparse.specs.declared.spans.HeaderSpan.{HeaderSpan}
 use Rattle.httparse.specs.declared.spans.RequestSpans.{RequestSpans}
 use Rattle.httparse.proofs.GrammarLemmas.{ReadsRequest-append, request_unique}
 use Rattle.mf_wire_messages.specs.Heads.{ReadsHead}
-use Rattle.mf_wire_messages.specs.Messages.{Request, frame_of, request_within, request_of, is_head, IsMessage}
-use Rattle.mf_wire_messages.specs.Arrivals.{bytes_left, Tells, Arrives}
+use Rattle.mf_wire_messages.specs.Messages.{Message, frame_of, request_within, request_of, is_head, IsMessage}
+use Rattle.mf_wire_messages.specs.Arrivals.{bytes_left, TellsArrival, Arrives}
 use Rattle.mf_wire_messages.specs.declared.reading.Arrival.{Arrival}
 use Rattle.std.proofs.KnownBytes.{Consumes-trans}
 use Rattle.std.proofs.Math.Seq.{take-append_seam}
@@ -91,15 +91,16 @@ whole_request head begun more body left frame e same fits content =
 
 -- the head and its message are read one after the other
 pub together : (a b d : Option (List ℕ)) (bytes : List ℕ) (arrival : Arrival) → Consumes a b bytes
-    → ((more : List ℕ) × Consumes b d more × Tells (bytes ++ (more ++ bytes_left d)) arrival) → Arrives a d arrival
+    → ((more : List ℕ) × Consumes b d more × TellsArrival (bytes ++ (more ++ bytes_left d)) arrival)
+    → Arrives a d arrival
 together a b d bytes arrival p t = (
   bytes ++ t.0,
   Consumes-trans a b d bytes t.0 p t.1,
-  subst (λ l. Tells l arrival)
+  subst (λ l. TellsArrival l arrival)
       (sym (append_assoc bytes t.0 (bytes_left d))) t.2,
 )
 
-abbrev pub made : List ℕ → List ℕ → List ℕ → List ℕ → Request
+abbrev pub made : List ℕ → List ℕ → List ℕ → List ℕ → Message
 made staff method target body = record { staff = staff; method = method; target = target; body = body }
 
 pub same_request : (staff method target body verb path content : List ℕ) → method ≡ verb → target ≡ path
@@ -112,7 +113,7 @@ written size new old e = ap (λ n. take n (new ++ drop (length new) old)) (sym e
     ∙ take-append_seam new (drop (length new) old)
 
 -- the method of a request is that of its head
-method_is : (head : RequestHead) (rest : List ℕ) (request : Request) → request_of head rest ≡ Some request
+method_is : (head : RequestHead) (rest : List ℕ) (request : Message) → request_of head rest ≡ Some request
     → head.method ≡ request.method
 method_is head rest request e = framed (frame_of (map name_and_value head.fields)) e
   where
@@ -120,7 +121,7 @@ method_is head rest request e = framed (frame_of (map name_and_value head.fields
         → cond whole (Some (made frame.0 head.method head.target (take frame.1 rest))) None ≡ Some request
         → head.method ≡ request.method
     cut_or_whole frame true e = let same : made frame.0 head.method head.target (take frame.1 rest) ≡ request =
-        cc in ap (λ (r : Request). r.method) same
+        cc in ap (λ (r : Message). r.method) same
     cut_or_whole frame false e = absurd (cc)
 
     framed : (frame : Option (List ℕ × ℕ)) → option_and_then (request_within head rest) frame ≡ Some request
@@ -129,12 +130,12 @@ method_is head rest request e = framed (frame_of (map name_and_value head.fields
     framed (Some frame) e = cut_or_whole frame (nat_le frame.1 (length rest)) e
 
 -- a request that was received is the message of the stream
-pub received : (bytes : List ℕ) (request : Request) → (head : RequestHead) × (rest : List ℕ) × ReadsHead bytes head rest
+pub received : (bytes : List ℕ) (request : Message) → (head : RequestHead) × (rest : List ℕ) × ReadsHead bytes head rest
     × (request_of head rest ≡ Some request) → IsMessage bytes (Some request) (is_head request.method)
 received bytes request t = inr (t.0, t.1, t.2, sym t.3, sym (ap is_head (method_is t.0 t.1 request t.3)))
 
 -- the bytes of a stream are no two messages
-pub one_message : (bytes : List ℕ) (message other : Option Request) (to_head other_to_head : Bool)
+pub one_message : (bytes : List ℕ) (message other : Option Message) (to_head other_to_head : Bool)
     → IsMessage bytes message to_head → IsMessage bytes other other_to_head → (message ≡ other)
     × (to_head ≡ other_to_head)
 one_message bytes message other to_head other_to_head (inl a) (inl b) = (a.2 ∙ sym b.2, a.3 ∙ sym b.3)

@@ -35,18 +35,19 @@ TellsBody unread left begun body whole =
 
 -- What a stream of these bytes is told as: nothing, a request, or a refusal. Malformed is what begins no head, or a
 -- head whose fields are not in order or whose body is cut.
-abbrev pub Tells : List ℕ → Arrival → Type 0
-Tells bytes Silent = bytes ≡ []
-Tells bytes (Received request) = (head : RequestHead) × (rest : List ℕ) × ReadsHead bytes head rest
+abbrev pub TellsArrival : List ℕ → Arrival → Type 0
+TellsArrival bytes Silent = bytes ≡ []
+TellsArrival bytes (Received request) = (head : RequestHead) × (rest : List ℕ) × ReadsHead bytes head rest
     × (request_of head rest ≡ Some request)
-Tells bytes (Malformed to_head) =
+TellsArrival bytes (Malformed to_head) =
     ((bytes ≢ []) × HasNoHead bytes × (to_head ≡ false))
     ⊎ ((head : RequestHead) × (rest : List ℕ) × ReadsHead bytes head rest × (request_of head rest ≡ None)
     × (to_head ≡ is_head head.method))
-Tells bytes (NoRoom to_head) =
+TellsArrival bytes (NoRoom to_head) =
     (head : RequestHead) × (rest : List ℕ) × ReadsHead bytes head rest
     × IsSome (frame_of (map name_and_value head.fields)) × (to_head ≡ is_head head.method)
 
 -- some bytes were read, and with those that follow them the stream is told as that
 abbrev pub Arrives : Option (List ℕ) → Option (List ℕ) → Arrival → Type 0
-Arrives unread left arrival = (read : List ℕ) × Consumes unread left read × Tells (read ++ bytes_left left) arrival
+Arrives unread left arrival = (read : List ℕ) × Consumes unread left read
+    × TellsArrival (read ++ bytes_left left) arrival

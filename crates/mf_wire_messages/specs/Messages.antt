@@ -10,7 +10,7 @@ use Rattle.httparse.specs.Spans.{name_and_value}
 use Rattle.mf_wire_messages.specs.Heads.{ReadsHead, HasNoHead}
 
 -- who asks, by which method, at which target, and with what body
-pub record Request : Type 0 where
+pub record Message : Type 0 where
   pub staff : List ℕ
   pub method : List ℕ
   pub target : List ℕ
@@ -56,7 +56,7 @@ frame_of fields =
     (only_value (values_of (codes "x-staff") fields)))
 
 -- the request, where as many bytes follow as its body has; those past it are not looked at
-abbrev pub request_within : RequestHead → List ℕ → List ℕ × ℕ → Option Request
+abbrev pub request_within : RequestHead → List ℕ → List ℕ × ℕ → Option Message
 request_within head rest frame =
     cond (nat_le frame.1 (length rest)) (Some (record {
       staff = frame.0;
@@ -66,7 +66,7 @@ request_within head rest frame =
     })) None
 
 -- the request that a head and the bytes after it are, where its fields are in order and its body is whole
-abbrev pub request_of : RequestHead → List ℕ → Option Request
+abbrev pub request_of : RequestHead → List ℕ → Option Message
 request_of head rest = option_and_then (request_within head rest) (frame_of (map name_and_value head.fields))
 
 -- the method asks for a reply without its body
@@ -75,7 +75,7 @@ is_head method = bytes_eq method (codes "HEAD")
 
 -- Which message the bytes of a stream are, whatever follows it: a request, or none where it is malformed; and whether
 -- its reply is without its body. Bytes that begin no head are malformed, and are not to HEAD.
-abbrev pub IsMessage : List ℕ → Option Request → Bool → Type 0
+abbrev pub IsMessage : List ℕ → Option Message → Bool → Type 0
 IsMessage bytes message to_head =
     ((bytes ≢ []) × HasNoHead bytes × (message ≡ None) × (to_head ≡ false))
     ⊎ ((head : RequestHead) × (rest : List ℕ) × ReadsHead bytes head rest × (message ≡ request_of head rest)

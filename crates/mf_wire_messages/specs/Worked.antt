@@ -67,7 +67,8 @@ FieldsAreTaken =
 abbrev pub ResponsesAreWritten : Type 0
 ResponsesAreWritten =
     (response 201 (codes "{\"client\":\"0001-000001\"}") false
-    ≡ codes "HTTP/1.1 201 Created\r\nContent-Type: application/json\r\nContent-Length: 24\r\nConnection: close\r\n\r\n{\"client\":\"0001-000001\"}")
+    ≡ codes "HTTP/1.1 201 Created\r\nContent-Type: application/json\r\nContent-Length: 24\r\nConnection: close\r\n\r\n"
+    ++ codes "{\"client\":\"0001-000001\"}")
     × (refusal F1 true ≡ codes
     "HTTP/1.1 400 Bad Request\r\nContent-Type: application/json\r\nContent-Length: 14\r\nConnection: close\r\n\r\n")
 

@@ -1,7 +1,7 @@
 //! Laws of messages, and messages worked out by hand. The functions do nothing: their contracts are the laws.
 
 ghost use Rattle.std.specs.Prelude.{◌≡◌, ℕ, Bool, List, Option};
-ghost use Rattle.mf_wire_messages.specs.Messages.{Request, IsMessage};
+ghost use Rattle.mf_wire_messages.specs.Messages.{Message, IsMessage};
 ghost use Rattle.mf_wire_messages.specs.Worked.{HeadIsWritten, IsAskedByMessage, CutIsRefused, FieldsAreRefused};
 ghost use Rattle.mf_wire_messages.specs.Worked.{FieldsAreTaken};
 ghost use Rattle.mf_wire_messages.specs.Worked.{PhrasesAreWritten, ResponsesAreWritten};
@@ -19,7 +19,7 @@ pub fn worked_messages()
 
 /// The bytes of a stream are no two messages.
 pub fn one_message()
-    ensures { (bytes : List ℕ) (message other : Option Request) (to_head other_to_head : Bool) →
+    ensures { (bytes : List ℕ) (message other : Option Message) (to_head other_to_head : Bool) →
         IsMessage bytes message to_head → IsMessage bytes other other_to_head → (message ≡ other)
         × (to_head ≡ other_to_head) }
 {}

@@ -2,7 +2,7 @@
 
 ghost use Rattle.std.specs.Prelude.{◌≡◌, length};
 ghost use Rattle.httparse.specs.Spans.{span_bytes, IsWithin};
-ghost use Rattle.mf_wire_messages.specs.Messages.{Request, is_head as is_head_method};
+ghost use Rattle.mf_wire_messages.specs.Messages.{Message, is_head};
 
 use httparse::spans::Span;
 use std::marker::Model;
@@ -18,7 +18,7 @@ pub struct Message {
 }
 
 impl Model for Message {
-    ghost Value = { Request };
+    ghost Value = { Message };
 
     ghost view = { λ m. record {
       staff = span_bytes m.bytes.items m.staff;
@@ -33,7 +33,7 @@ impl Model for Message {
 
 /// Whether the method asks for a reply without its body.
 pub fn is_head(method: &[u8]) -> bool
-    ensures { result ≡ is_head_method method.now }
+    ensures { result ≡ is_head method.now }
 {
     method == b"HEAD".as_slice()
 }
@@ -90,7 +90,7 @@ impl Message {
 
     /// Whether its reply has no body.
     pub fn is_head(&self) -> bool
-        ensures { result ≡ is_head_method self.now.method }
+        ensures { result ≡ is_head self.now.method }
     {
         is_head(self.method())
     }

@@ -4,7 +4,7 @@ ghost use Rattle.std.specs.Prelude.{◌≡◌, ◌≢◌, ◌≤◌, ◌++◌, L
 ghost use Rattle.std.specs.Io.KnownBytes.{Consumes};
 ghost use Rattle.httparse.specs.Spans.{IsRequestWithin, IsRequestOf};
 ghost use Rattle.mf_base.specs.declared.fault.Cause.TheVariants as cause;
-ghost use Rattle.mf_wire_messages.specs.Arrivals.{Arrives, Tells, bytes_left};
+ghost use Rattle.mf_wire_messages.specs.Arrivals.{Arrives, TellsArrival, bytes_left};
 
 use crate::bodies::read_body;
 use crate::fields::find_frame;
@@ -47,7 +47,7 @@ fn read_request<R: Source>(
     requires within { IsRequestWithin head.items fields.now spans }
     requires complete { IsRequestOf head.items fields.now spans }
     ensures ok { IfOk result (λ arrival. (more : List ℕ) × Consumes (R.unread source.old) (R.unread source.new) more
-        × Tells (head.items ++ (more ++ bytes_left (R.unread source.new))) arrival) }
+        × TellsArrival (head.items ++ (more ++ bytes_left (R.unread source.new))) arrival) }
     ensures sound { OnOk result (R.faults source.new ≡ R.faults source.old) }
     ensures fault { OnErr result (R.faults source.new ≢ R.faults source.old) }
 {

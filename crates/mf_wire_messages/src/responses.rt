@@ -129,7 +129,7 @@ fn gather_status_line<W: Sink>(
     )
 }
 
-fn sent(body: &[u8], to_head: bool) -> &[u8]
+fn body_sent(body: &[u8], to_head: bool) -> &[u8]
     ensures { result.now ≡ sent_body to_head body.now }
 {
     if to_head { &[] } else { body }
@@ -159,7 +159,7 @@ fn gather_fields_and_body<W: Sink>(
         b"\r\nContent-Type: application/json\r\nContent-Length: ",
         digits.format(body.len()).as_bytes(),
         b"\r\nConnection: close\r\n\r\n",
-        sent(body, to_head),
+        body_sent(body, to_head),
     )
 }
 

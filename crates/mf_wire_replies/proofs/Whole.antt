@@ -5,7 +5,7 @@ use Rattle.serde_json.specs.Written.{has_float, items_have_float}
 use Rattle.mf_office.specs.declared.account.Account.{Account}
 use Rattle.mf_office.specs.declared.office.Office.{Office}
 use Rattle.mf_alloc.specs.declared.row.Share.{Share}
-use Rattle.mf_arrears.specs.Line.{Line}
+use Rattle.mf_arrears.specs.Line.{OfficeLine}
 use Rattle.mf_statement.specs.declared.lines.EntryLine.{EntryLine}
 use Rattle.mf_statement.specs.declared.lines.InstalmentLine.{InstalmentLine}
 use Rattle.mf_model.specs.declared.reply.Reply.{Reply}
@@ -85,7 +85,7 @@ whole_loans : (lines : List LoanLine) → items_have_float (items_of (map loan_l
 whole_loans [] = refl
 whole_loans (line ∷ lines) = whole_loans lines
 
-whole_arrears : (lines : List Line) → items_have_float (items_of (map arrears_line_data lines)) ≡ false
+whole_arrears : (lines : List OfficeLine) → items_have_float (items_of (map arrears_line_data lines)) ≡ false
 whole_arrears [] = refl
 whole_arrears (line ∷ lines) = whole_arrears lines
 

@@ -18,9 +18,9 @@ text_or_null None = null
 text_or_null (Some text) = string text
 
 -- the texts of values one after another, a comma before each but the first of a list
-abbrev pub joined : Bool → List Data → List ℕ
-joined later [] = []
-joined later (d ∷ ds) = comma_if later ++ (compact_text d ++ joined true ds)
+abbrev pub joined_values : Bool → List Data → List ℕ
+joined_values later [] = []
+joined_values later (d ∷ ds) = comma_if later ++ (compact_text d ++ joined_values true ds)
 
 -- a byte that stands in a text of JSON as it is: no quote, no backslash, and no control character
 abbrev pub is_plain_byte : ℕ → Bool

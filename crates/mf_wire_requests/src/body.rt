@@ -4,8 +4,8 @@ ghost use Rattle.std.specs.Prelude.{◌≡◌, ◌≤◌, Some, None, option_map
 ghost use Rattle.std.specs.Prelude.{◌⊎◌};
 ghost use Rattle.serde_json.specs.View.{view};
 ghost use Rattle.mf_wire_requests.specs.Bodies.{json_of, whole_at, text_at, name_at, office_number_at};
-ghost use Rattle.mf_wire_requests.specs.Bodies.{within as within_limits, number_at, present_at, optional_receipt_at};
-ghost use Rattle.mf_wire_requests.specs.Bodies.{optional_number_at, account_number_at, day_named as day_of, day_at};
+ghost use Rattle.mf_wire_requests.specs.Bodies.{within, number_at, present_at, optional_receipt_at};
+ghost use Rattle.mf_wire_requests.specs.Bodies.{optional_number_at, account_number_at, day_named, day_at};
 ghost use Rattle.mf_wire_requests.specs.Bodies.{Gives};
 ghost use Rattle.mf_wire_requests.specs.Named.{choice_at};
 ghost use Rattle.mf_model.specs.Sound.{IsName};
@@ -82,7 +82,7 @@ pub fn office(body: &Value, member: &str) -> Option<OfficeNo>
 
 /// The number, where it lies from the least to the greatest.
 fn within(number: u64, least: u64, greatest: u64) -> Option<u64>
-    ensures value { result ≡ within_limits least greatest number }
+    ensures value { result ≡ within least greatest number }
     ensures least { IfSome result (λ n. least ≤ n) }
     ensures greatest { IfSome result (λ n. n ≤ greatest) }
 {
@@ -155,7 +155,7 @@ pub fn account(body: &Value, member: &str) -> Option<Account>
 }
 
 fn day_of_text(text: &[u8]) -> Option<Day>
-    ensures value { result ≡ day_of text.now }
+    ensures value { result ≡ day_named text.now }
     ensures in_range { IfSome result (λ day. day ≤ last_entered_day) }
 {
     Day::parse(text)

@@ -2,7 +2,7 @@
 
 ghost use Rattle.std.specs.Prelude.{◌≡◌, option_map};
 ghost use Rattle.std.specs.List.{list_all};
-ghost use Rattle.mf_wire_requests.specs.RequestLine.{parts_now, parts_of_line, is_token as token_test, is_token_byte};
+ghost use Rattle.mf_wire_requests.specs.RequestLine.{parts_now, parts_of_line, is_token, is_token_byte};
 
 use mf_base::split_once;
 
@@ -51,7 +51,7 @@ fn are_token_characters(bytes: &[u8]) -> bool
 
 /// Whether a method is a token: some letters, digits and marks, and nothing else.
 pub fn is_token(method: &[u8]) -> bool
-    ensures { result ≡ token_test method.now }
+    ensures { result ≡ is_token method.now }
 {
     !method.is_empty() && are_token_characters(method)
 }

@@ -37,7 +37,7 @@ impl Times {
     }
 
     /// How long the next read or write may wait, where so much time has passed.
-    fn left(self, passed: Duration) -> Duration
+    fn time_left(self, passed: Duration) -> Duration
         ensures { as_nanos result ≡ min (as_nanos self.all - as_nanos passed) (as_nanos self.each) }
     {
         let left = self.all.saturating_sub(passed);
@@ -67,20 +67,20 @@ impl<'a, C: Clock> Timed<'a, C> {
     }
 
     /// How long the next read or write may wait: not at all once the time is up.
-    fn left(&mut self) -> io::Result<Duration> {
+    fn time_left(&mut self) -> io::Result<Duration> {
         let begun = match self.begun {
             Some(begun) => begun,
             None => Instant::now(self.clock)?,
         };
         self.begun = Some(begun);
-        Ok(self.times.left(begun.elapsed(self.clock)?))
+        Ok(self.times.time_left(begun.elapsed(self.clock)?))
     }
 }
 
 impl<C: Clock> Read for Timed<'_, C> {
     fn read(&mut self, buf: &mut [u8]) -> io::Result<usize> {
         for _ in 0..u64::MAX {
-            let left = self.left()?;
+            let left = self.time_left()?;
             self.stream.set_read_timeout(Some(left))?;
             let mut stream = self.stream;
             match stream.read(buf) {
@@ -95,7 +95,7 @@ impl<C: Clock> Read for Timed<'_, C> {
 impl<C: Clock> Write for Timed<'_, C> {
     fn write(&mut self, buf: &[u8]) -> io::Result<usize> {
         for _ in 0..u64::MAX {
-            let left = self.left()?;
+            let left = self.time_left()?;
             self.stream.set_write_timeout(Some(left))?;
             let mut stream = self.stream;
             match stream.write(buf) {

@@ -24,7 +24,7 @@ pub fn in_memory(alloc: Global, day: Day) -> Result<Store<PageStore>, Fault>
     let Ok(connection) = mf_store_sql::pages::open(alloc) else {
         return Err(Fault::F20);
     };
-    match Store::found(alloc, connection, day) {
+    match Store::create(alloc, connection, day) {
         Ok(store) => Ok(store),
         Err((fault, _)) => Err(fault),
     }

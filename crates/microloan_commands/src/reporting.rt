@@ -1,7 +1,7 @@
 //! The report of arrears that a member of staff is shown, as text.
 
 ghost use Rattle.std.specs.Prelude.{◌≤◌, ◌^◌, List, sum_by, IfOk, IfSome};
-ghost use Rattle.mf_arrears.specs.Line.{Line};
+ghost use Rattle.mf_arrears.specs.Line.{OfficeLine};
 ghost use Rattle.mf_desk.specs.Answers.{Asks};
 ghost use Rattle.microloan_commands.specs.Reported.{lines_told, report_told, bytes_of};
 
@@ -19,7 +19,8 @@ fn lines_to_sum<S: InstitutionStore>(
     caller: Caller,
 ) -> Result<Option<ArrearsList>, Fault>
     ensures lines { Asks S.InstitutionStore (lines_told caller) store.old store.new result }
-    ensures few { IfOk result (λ found. IfSome found (λ (lines : List Line). sum_by (λ (line : Line). line.loans) lines
+    ensures few { IfOk result
+        (λ found. IfSome found (λ (lines : List OfficeLine). sum_by (λ (line : OfficeLine). line.loans) lines
         ≤ 10 ^ 10)) }
 {
     let lines = arrears_lines(alloc, store, caller)?;

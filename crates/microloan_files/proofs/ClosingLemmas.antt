@@ -1,5 +1,5 @@
 -- What a stop leaves of a store that was closed after a run.
-use Rattle.std.proofs.Common.{◌≡◌, List, [], ◌∷◌, Result, Ok, Err, IfOk, IfErr}
+use Rattle.std.proofs.Common.{List, [], ◌∷◌, Result, Ok, Err, IfOk, IfErr}
 use Rattle.mf_base.specs.declared.fault.Fault.{Fault}
 use Rattle.mf_model.specs.Institution.{Institution}
 use Rattle.mf_model.specs.Run.{Line, last}

@@ -48,18 +48,23 @@ IsFirstWrong rows [] wrong = ⊥
 IsFirstWrong rows (option ∷ options) wrong =
     ((wrong ≡ option) × (¬ IsRight rows option)) ⊎ (IsRight rows option × IsFirstWrong rows options wrong)
 
+-- the options of `serve`, in the order in which a wrong one is told
 abbrev pub serve_options : List Wrong
 serve_options = File ∷ Port ∷ Count ∷ Patience ∷ Day ∷ Existing ∷ []
 
+-- of `collect` and `report`
 abbrev pub staff_options : List Wrong
 staff_options = File ∷ Staff ∷ Existing ∷ []
 
+-- of `why`
 abbrev pub file_options : List Wrong
 file_options = File ∷ []
 
+-- of `audit`
 abbrev pub audit_options : List Wrong
 audit_options = File ∷ All ∷ []
 
+-- of `schedule`
 abbrev pub schedule_options : List Wrong
 schedule_options = MethodOption ∷ Principal ∷ Rate ∷ Periods ∷ Day ∷ Frequency ∷ Every ∷ PrincipalGrace ∷ InterestGrace
     ∷ []
@@ -68,6 +73,7 @@ schedule_options = MethodOption ∷ Principal ∷ Rate ∷ Periods ∷ Day ∷ F
 abbrev pub batch_options : List Wrong
 batch_options = Day ∷ Existing ∷ []
 
+-- the flag that asks for an existing file stands there, and no file is named
 abbrev pub WantsFile : List Row → Type 0
 WantsFile rows = (first_of (codes "existing") rows ≡ Some (codes "true")) × (¬ IsRight rows File)
 

@@ -241,7 +241,12 @@ fn batch_command<'a>(alloc: Global) -> Result<Command<'a>, AllocError>
         alloc,
         "batch",
         "Answer request lines",
-        "Each line of standard input is `caller method path`, then a space and a JSON\nbody where the request has one. Each reply is a status, a space and a body.\ndocs/routes.md has every request with its members and replies.\n\nA file that is missing or empty gets a new institution. Days are 2000-01-01 to\n2099-12-31.\n\nExample:\n  echo '1/1 POST /clients {\"office\":1,\"name\":\"Amina\"}' | microloan batch",
+        "Each line of standard input is `caller method path`, then a space and a JSON\n\
+         body where the request has one. Each reply is a status, a space and a body.\n\
+         docs/routes.md has every request with its members and replies.\n\n\
+         A file that is missing or empty gets a new institution. Days are 2000-01-01 to\n\
+         2099-12-31.\n\n\
+         Example:\n  echo '1/1 POST /clients {\"office\":1,\"name\":\"Amina\"}' | microloan batch",
     );
     with_options(alloc, command, BATCH_OPTIONS.as_slice())
 }
@@ -255,7 +260,12 @@ fn serve_command<'a>(alloc: Global) -> Result<Command<'a>, AllocError>
         alloc,
         "serve",
         "Answer HTTP messages, one a connection",
-        "Each message names who asks in its field X-Staff, as 1/1. Connections are served\none after the other, so a slow client holds up the others.\n\nA file that is missing or empty gets a new institution. Days are 2000-01-01 to\n2099-12-31.\n\nExample:\n  microloan serve --file desk.db --port 8080\n  curl -H 'X-Staff: 1/1' http://127.0.0.1:8080/offices",
+        "Each message names who asks in its field X-Staff, as 1/1. Connections are served\n\
+         one after the other, so a slow client holds up the others.\n\n\
+         A file that is missing or empty gets a new institution. Days are 2000-01-01 to\n\
+         2099-12-31.\n\n\
+         Example:\n  microloan serve --file desk.db --port 8080\n  \
+         curl -H 'X-Staff: 1/1' http://127.0.0.1:8080/offices",
     );
     with_options(alloc, command, SERVE_OPTIONS.as_slice())
 }
@@ -269,7 +279,10 @@ fn collect_command<'a>(alloc: Global) -> Result<Command<'a>, AllocError>
         alloc,
         "collect",
         "Enter the repayments of a collection sheet",
-        "Standard input is the sheet, CSV with the columns receipt,loan,date,amount, at\nmost 1048576 bytes. Standard output is the sheet with a fifth column, result:\nentered, repeated or the number of a refusal. A sheet may be sent again.\n\nExample:\n  microloan collect --file desk.db --staff 1/1 < sheet.csv > results.csv",
+        "Standard input is the sheet, CSV with the columns receipt,loan,date,amount, at\n\
+         most 1048576 bytes. Standard output is the sheet with a fifth column, result:\n\
+         entered, repeated or the number of a refusal. A sheet may be sent again.\n\n\
+         Example:\n  microloan collect --file desk.db --staff 1/1 < sheet.csv > results.csv",
     );
     with_options(alloc, command, STAFF_OPTIONS.as_slice())
 }
@@ -300,10 +313,18 @@ fn schedule_named<'a>(alloc: Global) -> Command<'a>
         alloc,
         "schedule",
         "Print the schedule of a loan, without charges",
-        "Methods:\n  flat                         equal principal, interest on the whole principal\n  declining-equal-principal    equal principal, interest on what is left\n  declining-equal-instalments  equal instalments, interest on what is left\n\nEach grace is 0 to 359 first instalments, and less than their number.\n\nExample: 1000.00 at 12 percent a year over three months\n  microloan schedule --method declining-equal-principal \\\n    --principal 100000 --rate 1200 --periods 3 --day 2024-01-31",
+        "Methods:\n  \
+         flat                         equal principal, interest on the whole principal\n  \
+         declining-equal-principal    equal principal, interest on what is left\n  \
+         declining-equal-instalments  equal instalments, interest on what is left\n\n\
+         Each grace is 0 to 359 first instalments, and less than their number.\n\n\
+         Example: 1000.00 at 12 percent a year over three months\n  \
+         microloan schedule --method declining-equal-principal \\\n    \
+         --principal 100000 --rate 1200 --periods 3 --day 2024-01-31",
     );
     command.override_usage(
-        "microloan schedule --method <METHOD> --principal <CENTS> --rate <RATE>\n           --periods <COUNT> --day <DAY> [OPTIONS]",
+        "microloan schedule --method <METHOD> --principal <CENTS> --rate <RATE>\n           \
+         --periods <COUNT> --day <DAY> [OPTIONS]",
     )
 }
 
@@ -324,7 +345,10 @@ fn why_command<'a>(alloc: Global) -> Result<Command<'a>, AllocError>
         alloc,
         "why",
         "Say what stands in a file, and why it isn't opened",
-        "One line of standard output says what the other commands would find: an\ninstitution, or why there is none to open. Nothing is changed. The status is 0\nwhere the file would be opened as the institution that it holds, else 1.\n\nExample:\n  microloan why --file desk.db",
+        "One line of standard output says what the other commands would find: an\n\
+         institution, or why there is none to open. Nothing is changed. The status is 0\n\
+         where the file would be opened as the institution that it holds, else 1.\n\n\
+         Example:\n  microloan why --file desk.db",
     );
     with_options(alloc, command, FILE_OPTIONS.as_slice())
 }
@@ -338,7 +362,11 @@ fn audit_command<'a>(alloc: Global) -> Result<Command<'a>, AllocError>
         alloc,
         "audit",
         "Check a file, and add up what it holds",
-        "Where the file holds a sound institution, standard output has its clients,\nloans, entries and balances, by office and in all, and the word sound: the\nstatus is 0. Where it doesn't, a line says which row breaks which condition: the\nstatus is 1. Nothing is changed. Audit a copy: the file is held meanwhile.\n\nExample:\n  microloan audit --file copy.db",
+        "Where the file holds a sound institution, standard output has its clients,\n\
+         loans, entries and balances, by office and in all, and the word sound: the\n\
+         status is 0. Where it doesn't, a line says which row breaks which condition: the\n\
+         status is 1. Nothing is changed. Audit a copy: the file is held meanwhile.\n\n\
+         Example:\n  microloan audit --file copy.db",
     );
     with_options(alloc, command, AUDIT_OPTIONS.as_slice())
 }

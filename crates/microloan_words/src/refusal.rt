@@ -90,7 +90,7 @@ fn owed_for(error: &Error) -> Option<Owed>
 }
 
 /// A text as what is owed.
-fn told(owed: Owed, text: String) -> Words
+fn words_of(owed: Owed, text: String) -> Words
     ensures { IsToldAs owed result }
 {
     match owed {
@@ -131,7 +131,7 @@ pub(crate) fn refused_by_clap(alloc: Global, words: &[String], error: &Error) ->
         return Words::Memory;
     };
     match owed_text(alloc, words, error, owed) {
-        Ok(text) => told(owed, text),
+        Ok(text) => words_of(owed, text),
         Err(_) => Words::Memory,
     }
 }

@@ -2,16 +2,16 @@
 
 ghost use Rattle.std.specs.Prelude.{◌≡◌, ◌≢◌, ◌+◌, ◌≤◌, ◌∷◌, [], ◌++◌, IfOk, IfErr, IfSome, OnOk, OnErr, IsOkUnless};
 ghost use Rattle.std.specs.Prelude.{None, Some, false, length, take, insert};
-ghost use Rattle.mf_base.specs.declared.fault.Fault.{Fault as FaultNumber};
+ghost use Rattle.mf_base.specs.declared.fault.Fault.{Fault};
 ghost use Rattle.mf_catalog.specs.Limits.{IsChargeWithinLimits};
 ghost use Rattle.mf_account.specs.Standing.{standing_entries, order_with};
-ghost use Rattle.mf_account.specs.Charges.{fee_amount as fee_amount_of, fee_instalment as fee_instalment_of};
-ghost use Rattle.mf_account.specs.Charges.{fee_refused, penalty_amount as penalty_amount_of};
+ghost use Rattle.mf_account.specs.Charges.{fee_amount, fee_instalment};
+ghost use Rattle.mf_account.specs.Charges.{fee_refused, penalty_amount};
 ghost use Rattle.mf_account.specs.Change.{IsChange, IsReplayed};
-ghost use Rattle.mf_account.specs.Loan.{IsSound};
+ghost use Rattle.mf_account.specs.Loan.{IsSoundDisbursed};
 ghost use Rattle.mf_account.specs.Rewind.{IsRedone};
 ghost use Rattle.mf_account.specs.Safe.{IsSafe};
-ghost use Rattle.mf_account.specs.Refusals.{refusal_of, IsOffered, IsAdmitted, IsEntryFault};
+ghost use Rattle.mf_account.specs.Refusals.{refusal_of, IsOffered, IsEntryAdmitted, IsEntryFault};
 
 use super::LoanAccount;
 use crate::charges::{fee, instalment_due, penalty};
@@ -19,7 +19,7 @@ use crate::entry::{Entry, Kind};
 use crate::lawful::{MOST_ENTRIES, is_charge_within_limits};
 use crate::refusal::{admits, is_forbidden, is_out_of_limits, is_out_of_order};
 use crate::replay::{apply_with, position};
-use crate::settled::{Book, Settled, put_behind, put_in};
+use crate::settled::{Book, SettledPart, put_behind, put_in};
 use mf_base::{Day, Fault};
 use mf_catalog::ChargeDef;
 use std::alloc::Global;
@@ -39,7 +39,7 @@ impl LoanAccount {
               ∷ [];
         }) }
         ensures replayed { IsReplayed self.old → OnOk result (IsReplayed self.new) }
-        ensures refused { IsReplayed self.old → (fault : FaultNumber) → refusal_of self.old.loan entry business_day
+        ensures refused { IsReplayed self.old → (fault : Fault) → refusal_of self.old.loan entry business_day
             ≡ Some fault → result ≡ Err fault }
         ensures accepted { IsReplayed self.old → refusal_of self.old.loan entry business_day ≡ None
             → IsOkUnless result Fault.F20 }
@@ -56,9 +56,9 @@ impl LoanAccount {
     /// Why an entry is refused, if it is. It takes no memory.
     fn refusal(&self, entry: &Entry, business_day: Day) -> Option<Fault>
         ensures value { IsReplayed self.now → result ≡ refusal_of self.now.loan entry.now business_day }
-        ensures admitted { result ≡ None → IsAdmitted self.now.loan entry.now business_day }
+        ensures admitted { result ≡ None → IsEntryAdmitted self.now.loan entry.now business_day }
         ensures faults { IfSome result IsEntryFault }
-        ensures sound { IsSound self.now.loan }
+        ensures sound { IsSoundDisbursed self.now.loan }
     {
         let loan = &self.loan;
         let book = &self.book;
@@ -86,7 +86,7 @@ impl LoanAccount {
 
     /// Adds an entry with which the loan is sound.
     fn add(&mut self, alloc: Global, entry: Entry) -> Result<(), Fault>
-        requires sound { IsSound (record self.old.loan { entries = self.old.loan.entries ++ entry ∷ [] }) }
+        requires sound { IsSoundDisbursed (record self.old.loan { entries = self.old.loan.entries ++ entry ∷ [] }) }
         requires stands { entry.reversed ≡ false }
         ensures ok { OnOk result (self.new.loan ≡ record self.old.loan {
           entries = self.old.loan.entries ++ entry
@@ -127,8 +127,8 @@ impl LoanAccount {
         alloc: Global,
         entry: &Entry,
         place: usize,
-    ) -> Result<(Book, usize, Vec<Settled>), Fault>
-        requires sound { IsSound (record self.now.loan { entries = self.now.loan.entries ++ entry.now ∷ [] }) }
+    ) -> Result<(Book, usize, Vec<SettledPart>), Fault>
+        requires sound { IsSoundDisbursed (record self.now.loan { entries = self.now.loan.entries ++ entry.now ∷ [] }) }
         requires stands { entry.now.reversed ≡ false }
         requires within { place ≤ length (standing_entries self.now.loan.entries) }
         requires place { order_with entry.now (standing_entries self.now.loan.entries)
@@ -157,7 +157,7 @@ impl LoanAccount {
     /// The number of the entry that comes next.
     pub fn next_entry(&self) -> u32
         ensures number { result ≡ length self.now.loan.entries + 1 }
-        ensures sound { IsSound self.now.loan }
+        ensures sound { IsSoundDisbursed self.now.loan }
     {
         self.loan.entries().len() as u32 + 1
     }
@@ -182,7 +182,7 @@ impl LoanAccount {
     /// The number of the instalment that a fee due on a day is laid on: the first that is due then or later, else the
     /// last.
     pub fn fee_instalment(&self, due: Day) -> u32
-        ensures { result ≡ fee_instalment_of self.now.loan due }
+        ensures { result ≡ fee_instalment self.now.loan due }
     {
         instalment_due(&self.schedule, due)
     }
@@ -190,7 +190,7 @@ impl LoanAccount {
     /// What a charge comes to as a fee, in cents: on the principal and on the interest of the fresh schedule; 0 where
     /// it is no due-date charge. None where its value is outside the limits of charges, as none is that was entered.
     pub fn fee_amount(&self, charge: &ChargeDef) -> Option<u64>
-        ensures value { IfSome result (λ amount. amount ≡ fee_amount_of self.now.loan charge.now) }
+        ensures value { IfSome result (λ amount. amount ≡ fee_amount self.now.loan charge.now) }
         ensures some { IsChargeWithinLimits charge.now → result ≢ None }
     {
         if !is_charge_within_limits(charge) {
@@ -204,7 +204,7 @@ impl LoanAccount {
     /// such charge or no such instalment.
     pub fn penalty_amount(&self, instalment: u32) -> u64
         requires { 1 ≤ instalment }
-        ensures { result ≡ penalty_amount_of self.now.loan instalment }
+        ensures { result ≡ penalty_amount self.now.loan instalment }
     {
         let loan = &self.loan;
         penalty(&loan.terms.overdue, &self.schedule, instalment)

@@ -3,29 +3,29 @@
 ghost use Rattle.std.specs.Prelude.{◌≡◌, ◌≢◌, IfOk, IfSome, IsOkUnless, None, Some};
 ghost use Rattle.mf_alloc.specs.Sums.{AreWhole, AreWithin};
 ghost use Rattle.mf_account.specs.Change.{AreKeptOf, account_by_replay};
-ghost use Rattle.mf_account.specs.Loan.{IsSound};
+ghost use Rattle.mf_account.specs.Loan.{IsSoundDisbursed};
 
 use super::LoanAccount;
-use crate::change::unchanged;
-use crate::loan::Loan;
-use crate::replay::{in_order, replayed, standing_order};
+use crate::change::no_change;
+use crate::loan::DisbursedLoan;
+use crate::replay::{in_order, replay_entries, standing_order};
 use crate::resume::resumed_book;
-use crate::settled::Settled;
-use mf_alloc::Row;
+use crate::settled::SettledPart;
+use mf_alloc::Instalment;
 use mf_base::Fault;
 use std::alloc::Global;
 
 impl LoanAccount {
     /// The account of a loan. The only error is F20, out of memory.
-    pub fn replay(alloc: Global, loan: Loan) -> Result<LoanAccount, Fault>
-        requires { IsSound loan }
+    pub fn replay(alloc: Global, loan: DisbursedLoan) -> Result<LoanAccount, Fault>
+        requires { IsSoundDisbursed loan }
         ensures account { IfOk result (λ account. account ≡ account_by_replay loan) }
         ensures only { IsOkUnless result Fault.F20 }
     {
         let (schedule, fee) = loan.schedule_and_fee(alloc)?;
         let order = standing_order(alloc, loan.entries())?;
         let strategy = loan.strategy();
-        let (book, settled) = replayed(alloc, &strategy, &schedule, loan.entries(), &order)?;
+        let (book, settled) = replay_entries(alloc, &strategy, &schedule, loan.entries(), &order)?;
         Ok(LoanAccount {
             loan,
             order,
@@ -33,15 +33,15 @@ impl LoanAccount {
             disbursement_fee: fee,
             book,
             settled,
-            change: unchanged(alloc),
+            change: no_change(alloc),
         })
     }
 
     /// The account of what was read of a loan, or None where that can be no loan's: terms or sums outside the limits, a
     /// day that can't be entered, or entries that are not those of one loan. The only error is F20, out of memory.
-    pub fn of_entries(alloc: Global, loan: Loan) -> Result<Option<LoanAccount>, Fault>
+    pub fn of_entries(alloc: Global, loan: DisbursedLoan) -> Result<Option<LoanAccount>, Fault>
         ensures account { IfOk result (λ found. IfSome found (λ account. account ≡ account_by_replay loan)) }
-        ensures none { IfOk result (λ found. IsSound loan → found ≢ None) }
+        ensures none { IfOk result (λ found. IsSoundDisbursed loan → found ≢ None) }
         ensures only { IsOkUnless result Fault.F20 }
     {
         if loan.is_lawful() {
@@ -58,13 +58,13 @@ impl LoanAccount {
     /// without an instalment or an entry, or sums far above the limits of loans. The only error is F20, out of memory.
     pub fn resume(
         alloc: Global,
-        loan: Loan,
-        rows: Vec<Row>,
-        settled: Vec<Settled>,
+        loan: DisbursedLoan,
+        rows: Vec<Instalment>,
+        settled: Vec<SettledPart>,
     ) -> Result<Option<LoanAccount>, Fault>
         requires whole { AreWhole rows.items }
         requires apart { AreWithin rows.items }
-        ensures account { IsSound loan → AreKeptOf loan rows.items settled.items
+        ensures account { IsSoundDisbursed loan → AreKeptOf loan rows.items settled.items
             → IfOk result (λ found. found ≡ Some (account_by_replay loan)) }
         ensures only { IsOkUnless result Fault.F20 }
     {
@@ -78,11 +78,11 @@ impl LoanAccount {
     /// The same for a loan whose terms, day and entries are those of a loan.
     fn resume_sound(
         alloc: Global,
-        loan: Loan,
-        rows: Vec<Row>,
-        settled: Vec<Settled>,
+        loan: DisbursedLoan,
+        rows: Vec<Instalment>,
+        settled: Vec<SettledPart>,
     ) -> Result<Option<LoanAccount>, Fault>
-        requires sound { IsSound loan }
+        requires sound { IsSoundDisbursed loan }
         requires whole { AreWhole rows.items }
         requires apart { AreWithin rows.items }
         ensures account { AreKeptOf loan rows.items settled.items
@@ -109,7 +109,7 @@ impl LoanAccount {
             disbursement_fee: fee,
             book,
             settled,
-            change: unchanged(alloc),
+            change: no_change(alloc),
         }))
     }
 }

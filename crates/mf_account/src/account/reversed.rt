@@ -2,7 +2,7 @@
 
 ghost use Rattle.std.specs.Prelude.{◌≡◌, ℕ, ◌-◌, ◌<◌, ◌≤◌, ◌++◌, IfOk, OnOk, OnErr, IsOkUnless, None, Some, true};
 ghost use Rattle.std.specs.Prelude.{false, length, take};
-ghost use Rattle.mf_base.specs.declared.fault.Fault.{Fault as FaultNumber};
+ghost use Rattle.mf_base.specs.declared.fault.Fault.{Fault};
 ghost use Rattle.mf_account.specs.Standing.{entry_at, standing_entries, with_mark};
 ghost use Rattle.mf_account.specs.Change.{IsChange, IsReplayed};
 ghost use Rattle.mf_account.specs.Rewind.{IsRedone};
@@ -12,7 +12,7 @@ ghost use Rattle.mf_account.specs.Refusals.{reversal_refused};
 use super::LoanAccount;
 use crate::refusal::reversal;
 use crate::replay::{apply_all, place_in};
-use crate::settled::{Book, Settled, put_behind};
+use crate::settled::{Book, SettledPart, put_behind};
 use mf_base::Fault;
 use std::alloc::Global;
 
@@ -26,7 +26,7 @@ impl LoanAccount {
               (seq - 1) true;
         }) }
         ensures replayed { IsReplayed self.old → OnOk result (IsReplayed self.new) }
-        ensures refused { (fault : FaultNumber) → reversal_refused self.old.loan.entries seq ≡ Some fault
+        ensures refused { (fault : Fault) → reversal_refused self.old.loan.entries seq ≡ Some fault
             → result ≡ Err fault }
         ensures accepted { reversal_refused self.old.loan.entries seq ≡ None → IsOkUnless result Fault.F20 }
         ensures change { IsReplayed self.old → OnOk result (IsChange self.old.loan self.new.loan self.new.change) }
@@ -79,7 +79,7 @@ impl LoanAccount {
         &self,
         alloc: Global,
         place: usize,
-    ) -> Result<(Book, usize, Vec<Settled>), Fault>
+    ) -> Result<(Book, usize, Vec<SettledPart>), Fault>
         requires within { place < length (standing_entries self.now.loan.entries) }
         ensures redone { IsReplayed self.now → (at : ℕ) → at < length self.now.loan.entries
             → entry_at (standing_entries self.now.loan.entries) place ≡ entry_at self.now.loan.entries at

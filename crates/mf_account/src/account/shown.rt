@@ -5,18 +5,18 @@ ghost use Rattle.mf_account.specs.Standing.{entry_at};
 ghost use Rattle.mf_alloc.specs.Sums.{AreWithin};
 ghost use Rattle.mf_account.specs.Account.{shares_in, status_of};
 ghost use Rattle.mf_account.specs.Change.{IsReplayed, no_change, settled_in};
-ghost use Rattle.mf_account.specs.Loan.{IsSound, fee_of_loan};
+ghost use Rattle.mf_account.specs.Loan.{IsSoundDisbursed, fee_of_loan};
 ghost use Rattle.mf_account.specs.Balance.{balances_by, open_in, sum_repaid};
 ghost use Rattle.mf_account.specs.Told.{settled_amount, AreRowsSmall, AreNumbered, AreNumberedTo};
 
 use super::LoanAccount;
 use crate::balances::{Balances, book_sums};
-use crate::change::{Change, unchanged};
+use crate::change::{Change, no_change};
 use crate::entry::Entry;
 use crate::lawful::are_days_by;
 use crate::refusal::status;
-use crate::settled::Settled;
-use mf_alloc::{Portion, Row, Share};
+use crate::settled::SettledPart;
+use mf_alloc::{Instalment, Portion, Share};
 use mf_base::{Day, Fault};
 use std::alloc::Global;
 
@@ -71,7 +71,7 @@ impl LoanAccount {
     fn sums(&self) -> Balances
         ensures value { result ≡ balances_by (fee_of_loan self.now.loan) self.now.state }
         ensures apart { AreWithin self.now.state.rows }
-        ensures sound { IsSound self.now.loan }
+        ensures sound { IsSoundDisbursed self.now.loan }
     {
         let book = &self.book;
         book_sums(
@@ -83,7 +83,7 @@ impl LoanAccount {
     }
 
     /// The instalments as they stand, at most 360. What is outstanding in each is below 2^64 cents.
-    pub fn rows(&self) -> &[Row]
+    pub fn rows(&self) -> &[Instalment]
         ensures rows { result.now ≡ self.now.state.rows }
         ensures few { length result.now ≤ 360 }
         ensures small { AreRowsSmall result.now }
@@ -103,7 +103,7 @@ impl LoanAccount {
     pub fn forget_change(&mut self, alloc: Global)
         ensures { self.new ≡ record self.old { change = no_change } }
     {
-        self.change = unchanged(alloc);
+        self.change = no_change(alloc);
     }
 
     /// The entries, in the order of their numbers.
@@ -148,7 +148,7 @@ impl LoanAccount {
 
     /// What the standing entries settle, entry by entry in their order. In all it is below 2^64 cents, and each part
     /// has the number of one of the entries.
-    pub fn settled_parts(&self) -> &[Settled]
+    pub fn settled_parts(&self) -> &[SettledPart]
         ensures parts { result.now ≡ self.now.settled }
         ensures small { settled_amount result.now < 2 ^ 64 }
         ensures numbers { AreNumberedTo (length self.now.loan.entries) result.now }
@@ -157,7 +157,7 @@ impl LoanAccount {
     }
 
     /// What an entry settles, with places from 1 in the strategy's order of cells.
-    pub fn settled(&self, alloc: Global, seq: u32) -> Result<Vec<Settled>, Fault>
+    pub fn settled_in(&self, alloc: Global, seq: u32) -> Result<Vec<SettledPart>, Fault>
         ensures settled { IfOk result (λ settled. settled.items ≡ settled_in seq self.now.settled) }
         ensures only { IsOkUnless result Fault.F20 }
     {

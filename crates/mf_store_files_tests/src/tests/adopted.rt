@@ -19,9 +19,9 @@ const INSTITUTION: &str = "\
 1/1 POST /offices {\"number\":2,\"parent\":1,\"name\":\"North\"}\n\
 1/1 POST /staff {\"office\":2,\"name\":\"Ben\",\"role\":\"officer\"}\n\
 1/1 POST /charges {\"name\":\"Visit\",\"kind\":\"due-date\",\"calc\":\"flat\",\"value\":500}\n\
-1/1 POST /products {\"name\":\"P\",\"method\":\"declining-equal-principal\",\"rate\":1200,\"frequency\":\"months\",\"every\":1,\
-\"principal_grace\":0,\"interest_grace\":0,\"min_principal\":1,\"max_principal\":1000000,\"min_periods\":1,\"max_periods\":12,\
-\"strategy\":\"mifos-standard-strategy\"}\n\
+1/1 POST /products {\"name\":\"P\",\"method\":\"declining-equal-principal\",\"rate\":1200,\"frequency\":\"months\",\
+\"every\":1,\"principal_grace\":0,\"interest_grace\":0,\"min_principal\":1,\"max_principal\":1000000,\
+\"min_periods\":1,\"max_periods\":12,\"strategy\":\"mifos-standard-strategy\"}\n\
 1/1 PUT /business-day {\"day\":\"2024-02-01\"}\n\
 1/1 POST /clients {\"office\":1,\"name\":\"Amina\"}\n\
 1/1 POST /loans {\"client\":\"0001-000001\",\"product\":1,\"principal\":100000,\"periods\":3}\n\
@@ -421,7 +421,7 @@ fn the_rows_of_an_office(rt: HostRuntime) -> Result<(), Fail> {
 }
 
 /// All rows of the tables, as a text.
-fn shown<S: Alter>(alloc: Global, connection: &mut Connection<S>) -> Result<String, Error> {
+fn show<S: Alter>(alloc: Global, connection: &mut Connection<S>) -> Result<String, Error> {
     let mut text = String::new(alloc);
     for table in TABLES {
         let rows = connection.query_all(table, &[])?;
@@ -441,7 +441,7 @@ struct Refusal<'a> {
 }
 
 /// What an audit says of the tables of a connection, in its first line.
-fn audited<S: Alter>(alloc: Global, connection: &mut Connection<S>) -> Result<String, Fault>
+fn audit_text<S: Alter>(alloc: Global, connection: &mut Connection<S>) -> Result<String, Fault>
     requires alone { connection.old.in_transaction ≡ false }
     ensures mode { connection.new.in_transaction ≡ false }
 {
@@ -458,7 +458,7 @@ impl Trial for Refusal<'_> {
         let (replies, connection) = answered_over(alloc, connection, self.lines.as_bytes());
         let (refused, mut connection) = refused_over(alloc, connection);
         let changed = connection.execute(self.change, &[])?;
-        let before = shown(alloc, &mut connection)?;
+        let before = show(alloc, &mut connection)?;
         if replies.is_empty() || refused || changed != self.rows || !connection.is_autocommit() {
             return Ok(false);
         }
@@ -466,9 +466,9 @@ impl Trial for Refusal<'_> {
         if !connection.is_autocommit() {
             return Ok(false);
         }
-        let said = audited(alloc, &mut connection)?;
+        let said = audit_text(alloc, &mut connection)?;
         let wanted = format!(in alloc; "audit: {}\n", self.found)?;
-        let after = shown(alloc, &mut connection)?;
+        let after = show(alloc, &mut connection)?;
         Ok(refused && said.as_str() == wanted.as_str() && before.as_str() == after.as_str())
     }
 }

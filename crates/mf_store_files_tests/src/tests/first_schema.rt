@@ -2,7 +2,7 @@
 
 ghost use Rattle.std.specs.Prelude.{◌≡◌, false, IsTrue, IfOk};
 
-use super::stops::{MOST_CALLS, PAID, answered, failing_at, stopped};
+use super::stops::{MOST_CALLS, PAID, answer, failing_at, stop};
 use super::{Failing, Trial, answered_over, holds, refused_over};
 use sqlite::{Alter, Connection, Error, Files, Options};
 use sqlite_disk::{Fuse, Memory};
@@ -118,9 +118,10 @@ fn has_instalments<S: Alter>(connection: &mut Connection<S>) -> Result<bool, Err
     ensures { connection.old.in_transaction ≡ false → connection.new.in_transaction ≡ false }
 {
     let rows = connection.query_all(
-        "SELECT office, loan, number, owed_penalty, paid_penalty, waived_penalty, written_off_penalty, owed_fee, paid_fee, \
-waived_fee, written_off_fee, owed_interest, paid_interest, waived_interest, written_off_interest, owed_principal, \
-paid_principal, waived_principal, written_off_principal, due FROM instalments ORDER BY office, loan, number",
+        "SELECT office, loan, number, owed_penalty, paid_penalty, waived_penalty, written_off_penalty, owed_fee, \
+paid_fee, waived_fee, written_off_fee, owed_interest, paid_interest, waived_interest, written_off_interest, \
+owed_principal, paid_principal, waived_principal, written_off_principal, due \
+FROM instalments ORDER BY office, loan, number",
         &[],
     )?;
     for (row, wanted) in rows.iter().zip(INSTALMENTS.iter()) {
@@ -241,11 +242,11 @@ fn with_first<D: Failing>(alloc: Global, files: Files<D>) -> Result<(bool, Files
 fn holds_a_schema<D: Failing>(alloc: Global, files: Files<D>) -> Result<(bool, bool), Fail> {
     let (made, files) = with_first(alloc, files)?;
     if !made {
-        let (seen, _) = answered(alloc, stopped(files), LOAN)?;
+        let (seen, _) = answer(alloc, stop(files), LOAN)?;
         return Ok((!seen.is_empty(), false));
     }
-    let (told, files) = answered(alloc, files, LOAN)?;
-    let (seen, _) = answered(alloc, stopped(files), LOAN)?;
+    let (told, files) = answer(alloc, files, LOAN)?;
+    let (seen, _) = answer(alloc, stop(files), LOAN)?;
     Ok((seen.as_slice() == PAID.as_bytes(), !told.is_empty()))
 }
 

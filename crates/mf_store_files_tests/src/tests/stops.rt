@@ -1,6 +1,6 @@
 //! A stop at each call of each file, while an institution is made and its first requests are answered.
 
-use super::{Failing, answered_over, fused};
+use super::{Failing, answered_over, fuse};
 use sqlite::{Connection, Files, Options};
 use sqlite_disk::{Fuse, Memory};
 use std::alloc::Global;
@@ -9,9 +9,9 @@ use std::test::Fail;
 
 /// A loan is paid out, two repayments are entered, and the first is reversed.
 const LINES: [&str; 9] = [
-    "1/1 POST /products {\"name\":\"P\",\"method\":\"declining-equal-principal\",\"rate\":1200,\"frequency\":\"months\",\"every\":1,\
-\"principal_grace\":0,\"interest_grace\":0,\"min_principal\":1,\"max_principal\":1000000,\"min_periods\":1,\"max_periods\":12,\
-\"strategy\":\"mifos-standard-strategy\"}\n",
+    "1/1 POST /products {\"name\":\"P\",\"method\":\"declining-equal-principal\",\"rate\":1200,\
+\"frequency\":\"months\",\"every\":1,\"principal_grace\":0,\"interest_grace\":0,\"min_principal\":1,\
+\"max_principal\":1000000,\"min_periods\":1,\"max_periods\":12,\"strategy\":\"mifos-standard-strategy\"}\n",
     "1/1 POST /clients {\"office\":1,\"name\":\"Amina\"}\n",
     "1/1 POST /loans {\"client\":\"0001-000001\",\"product\":1,\"principal\":100000,\"periods\":3}\n",
     "1/1 POST /loans/0001-000001/approve\n",
@@ -35,15 +35,16 @@ const SEEN: &str = "1/1 GET /offices\n\
 pub(super) const PAID: &str =
     "200 {\"client\":\"0001-000001\",\"day\":\"2024-01-31\",\"disbursement_fee\":0,\"loan\":\"0001-000001\",\
 \"outstanding\":{\"fees\":0,\"interest\":0,\"penalties\":0,\"principal\":32000},\"overpaid\":0,\
-\"paid\":{\"fees\":0,\"interest\":2000,\"penalties\":0,\"principal\":68000},\"periods\":3,\"principal\":100000,\"product\":1,\
-\"refunded\":0,\"status\":300,\"waived\":{\"fees\":0,\"interest\":0,\"penalties\":0,\"principal\":0},\
+\"paid\":{\"fees\":0,\"interest\":2000,\"penalties\":0,\"principal\":68000},\"periods\":3,\
+\"principal\":100000,\"product\":1,\"refunded\":0,\"status\":300,\
+\"waived\":{\"fees\":0,\"interest\":0,\"penalties\":0,\"principal\":0},\
 \"written_off\":{\"fees\":0,\"interest\":0,\"penalties\":0,\"principal\":0}}\n";
 
 /// More calls of one file than these lines take.
 pub(super) const MOST_CALLS: u64 = 100_000;
 
 /// The replies to lines over what files hold, up to where they fail, and the files after.
-pub(super) fn answered<D: Failing>(
+pub(super) fn answer<D: Failing>(
     alloc: Global,
     mut files: Files<D>,
     lines: &[u8],
@@ -61,7 +62,7 @@ pub(super) fn answered<D: Failing>(
 }
 
 /// The files after a stop: what was not synced is lost, and they work again.
-pub(super) fn stopped<D: Failing>(mut files: Files<D>) -> Files<D> {
+pub(super) fn stop<D: Failing>(mut files: Files<D>) -> Files<D> {
     files.log.crash();
     files.db.crash();
     files
@@ -81,8 +82,8 @@ fn beginnings<D: Failing>(alloc: Global) -> Result<Vec<Vec<u8>>, Fail> {
     let mut told = Vec::new(alloc);
     for count in 0..=LINES.len() {
         let lines = first_lines(alloc, count)?;
-        let (_, files) = answered(alloc, fused::<D>(alloc, u64::MAX, u64::MAX), &lines)?;
-        let (seen, _) = answered(alloc, files, SEEN.as_bytes())?;
+        let (_, files) = answer(alloc, fuse::<D>(alloc, u64::MAX, u64::MAX), &lines)?;
+        let (seen, _) = answer(alloc, files, SEEN.as_bytes())?;
         told.push(seen)?;
     }
     Ok(told)
@@ -104,8 +105,8 @@ fn holds_a_beginning<D: Failing>(
     files: Files<D>,
 ) -> Result<(bool, usize), Fail> {
     let lines = first_lines(alloc, LINES.len())?;
-    let (replies, files) = answered(alloc, files, &lines)?;
-    let (seen, _) = answered(alloc, stopped(files), SEEN.as_bytes())?;
+    let (replies, files) = answer(alloc, files, &lines)?;
+    let (seen, _) = answer(alloc, stop(files), SEEN.as_bytes())?;
     let done = successes(&replies);
     let before = told.get(done).ok_or("as many beginnings")?;
     let is_next = match told.get(done + 1) {
@@ -118,8 +119,8 @@ fn holds_a_beginning<D: Failing>(
 /// What is told of the loan once the files were closed and opened again.
 fn told_again<D: Failing>(alloc: Global) -> Result<Vec<u8>, Fail> {
     let lines = first_lines(alloc, 8)?;
-    let (_, files) = answered(alloc, fused::<D>(alloc, u64::MAX, u64::MAX), &lines)?;
-    let (told, _) = answered(alloc, files, b"1/1 GET /loans/0001-000001\n")?;
+    let (_, files) = answer(alloc, fuse::<D>(alloc, u64::MAX, u64::MAX), &lines)?;
+    let (told, _) = answer(alloc, files, b"1/1 GET /loans/0001-000001\n")?;
     Ok(told)
 }
 
@@ -133,9 +134,9 @@ fn a_closed_institution_is_opened_again(rt: HostRuntime) -> Result<(), Fail> {
 /// Empty files of which the log, or the one with the tables, fails after so many calls.
 pub(super) fn failing_at<D: Failing>(alloc: Global, of_log: bool, calls: u64) -> Files<D> {
     if of_log {
-        fused(alloc, calls, u64::MAX)
+        fuse(alloc, calls, u64::MAX)
     } else {
-        fused(alloc, u64::MAX, calls)
+        fuse(alloc, u64::MAX, calls)
     }
 }
 

@@ -1,15 +1,17 @@
-use Rattle.std.proofs.Common.{◌≡◌, map, sym, subst, arith}
+use Rattle.std.proofs.Common.{map, sym, subst, arith}
 use Rattle.std.proofs.lemmas.Result.{on_ok_weaker}
+use Rattle.std.proofs.lemmas.List.{nil_from_length}
 use Rattle.sqlite.specs.Held.{state}
 use Rattle.sqlite.specs.State.{HasCleanDisk}
 use Rattle.mf_store_sql.specs.Making.{Makes}
-use Rattle.mf_store_sql.proofs.MakeLemmas.{none_there, first_and_others, makes_none, makes_more}
+use Rattle.mf_store_sql.proofs.MakeLemmas.{first_and_others, makes_none, makes_more}
 use Rattle.mf_store_sql.proofs.+make.Goals as goal
 
 pub returns-in-empty-clause-ok : goal.returns-in-empty-clause-ok
 returns-in-empty-clause-ok g t c clean inside =
     let s = state g.S.Store c.args.tx.now.conn.now in
-    subst (λ texts. Makes (map (λ text. text.now) texts) s s) (sym (none_there c.args.texts.now c.in-empty.len_below))
+    subst (λ texts. Makes (map (λ text. text.now) texts) s s) (sym (nil_from_length c.args.texts.now
+    (omega (arith, c.in-empty.len_below))))
     (makes_none s inside)
 
 pub returns-in_ok-run-in-len1-up-clause-ok : goal.returns-in_ok-run-in-len1-up-clause-ok

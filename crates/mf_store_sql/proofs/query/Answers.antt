@@ -4,8 +4,7 @@ use Rattle.sqlite.specs.Held.{state}
 use Rattle.sqlite.specs.Values.{bound}
 use Rattle.sqlite.specs.State.{HasCleanDisk, Shown}
 use Rattle.mf_store_sql.specs.Queries.{Answers}
-use Rattle.mf_store_sql.proofs.QueryLemmas.{not_run_same, answers_prepared, same_prepared, crash_prepared, on_ok_if}
-use Rattle.mf_store_sql.proofs.QueryLemmas.{shown_open}
+use Rattle.mf_store_sql.proofs.QueryLemmas.{not_run_same, answers_prepared, same_prepared, crash_prepared, shown_open}
 use Rattle.mf_store_sql.proofs.query.Goals as goal
 
 pub returns-in_err-prepare-clause-same : goal.returns-in_err-prepare-clause-same
@@ -36,7 +35,7 @@ returns-clause-rows g c clean =
 
 pub returns-clause-still_open : goal.returns-clause-still_open
 returns-clause-still_open g c clean =
-    on_ok_if c.query_all.result _ (IsTrue (state g.S.Store c.query_all.new.self).is_open)
+    IfOk-weaker c.query_all.result _ (λ _. IsTrue (state g.S.Store c.query_all.new.self).is_open)
     (λ rows h. shown_open c.args.sql.now (bound c.args.params.now) (state g.S.Store c.prepare.new.self)
     (state g.S.Store c.query_all.new.self) rows.items h) (c.query_all.ensures.ok clean)
 

@@ -48,7 +48,8 @@ outstanding [0, 0, 0, 32000] overpaid 0 refunded 0;\
             Shares(2),
         ],
         "F13;F12;fee 0 owed [0, 0, 2000, 100000] paid [0, 0, 1667, 48333] waived [0, 0, 0, 0] written off [0, 0, 0, 0] \
-outstanding [0, 0, 333, 51667] overpaid 0 refunded 0;;1 Interest 1000,1 Principal 33333,2 Interest 667,2 Principal 15000,;",
+outstanding [0, 0, 333, 51667] overpaid 0 refunded 0;;1 Interest 1000,1 Principal 33333,\
+2 Interest 667,2 Principal 15000,;",
     ),
     (
         &[
@@ -70,7 +71,7 @@ outstanding [0, 0, 333, 51667] overpaid 0 refunded 0;;1 Interest 1000,1 Principa
 fn repayments_and_reversals(rt: HostRuntime) -> Result<(), Fail> {
     for (steps, expected) in CASES {
         let mut loan = OpenLoan::new(rt.alloc())?;
-        let told = loan.told(rt.alloc(), *steps)?;
+        let told = loan.tell(rt.alloc(), *steps)?;
         assert!(rt; told.as_str() == *expected, "{expected}");
     }
     Ok(())

@@ -1,6 +1,6 @@
 //! Worked values of calls that no request line shows apart.
 
-use mf_alloc::Row;
+use mf_alloc::Instalment;
 use mf_arrears::{Class, OfficeLine, arrears, class, report_text};
 use mf_base::{Day, half_even, split};
 use mf_office::{Key, OfficeNo, in_range};
@@ -28,7 +28,7 @@ fn child(alloc: Global, above: &Key, number: u32) -> Result<Key, Fail> {
 }
 
 /// The key, its range's ends, and whether the range has other keys.
-fn told(alloc: Global, key: &Key, others: &[&Key]) -> Result<String, Fail> {
+fn tell(alloc: Global, key: &Key, others: &[&Key]) -> Result<String, Fail> {
     let (low, high) = key.range(alloc)?;
     let (low, high) = (low.as_str(), high.as_str());
     let mut text = format!(in alloc; "{low} to {high}")?;
@@ -46,7 +46,7 @@ fn ranges_of_keys(rt: HostRuntime) -> Result<(), Fail> {
     let two = child(rt.alloc(), &head, 2)?;
     let twenty = child(rt.alloc(), &head, 20)?;
     let five = child(rt.alloc(), &two, 5)?;
-    let of_two = told(rt.alloc(), &two, &[&two, &five, &twenty, &head])?;
+    let of_two = tell(rt.alloc(), &two, &[&two, &five, &twenty, &head])?;
     assert_eq!(rt;
         of_two.as_str(),
         ".2. to .2/;.2. true;.2.5. true;.20. false;. false"
@@ -58,7 +58,7 @@ fn ranges_of_keys(rt: HostRuntime) -> Result<(), Fail> {
 #[test]
 fn counts_the_days(rt: HostRuntime) -> Result<(), Fail> {
     let due = Day::parse(b"2024-03-31").ok_or("a day")?;
-    let rows = [Row::fresh(due, [0, 0, 0, 100])];
+    let rows = [Instalment::fresh(due, [0, 0, 0, 100])];
     for (text, days, wanted) in [
         ("2024-03-30", 0, Class::C0),
         ("2024-04-30", 30, Class::C1To30),

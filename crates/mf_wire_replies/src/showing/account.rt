@@ -3,7 +3,7 @@
 ghost use Rattle.std.specs.Prelude.{◌≡◌, true, IfOk, IfErr, string_bytes};
 ghost use Rattle.serde_json.specs.Written.{compact_text, members_text};
 ghost use Rattle.mf_wire_replies.specs.AccountTexts.{instalment_data, instalments_data};
-ghost use Rattle.mf_wire_replies.specs.AccountTexts.{instalment_rest as instalment_rest_of};
+ghost use Rattle.mf_wire_replies.specs.AccountTexts.{instalment_rest};
 
 use super::lists::{Written, list_text};
 use super::texts::{quoted_text, text_in};
@@ -14,7 +14,7 @@ use std::alloc::{AllocError, Global};
 
 /// An instalment's members from `outstanding` on, and the closing bracket.
 fn instalment_rest(alloc: Global, line: &InstalmentLine) -> Result<String, AllocError>
-    ensures { IfOk result (λ s. string_bytes s ≡ members_text true (instalment_rest_of line.now)) }
+    ensures { IfOk result (λ s. string_bytes s ≡ members_text true (instalment_rest line.now)) }
 {
     let outstanding = line.outstanding;
     let penalties = line.owed[Portion::Penalty.index()];

@@ -1,11 +1,11 @@
 //! The report of arrears as JSON.
 
 ghost use Rattle.std.specs.Prelude.{◌≡◌, IfOk, IfErr, OnOk};
-ghost use Rattle.serde_json.specs.Data.{put as with_member};
+ghost use Rattle.serde_json.specs.Data.{put};
 ghost use Rattle.serde_json.specs.View.{view, members_view};
 ghost use Rattle.mf_model.specs.declared.reply.Reply.TheVariants.{ArrearsShown};
 ghost use Rattle.mf_wire_replies.specs.Shown.{IsBodyOf};
-ghost use Rattle.mf_wire_replies.specs.ArrearsTexts.{money, line_end as line_end_of, all_data, arrears_line_data};
+ghost use Rattle.mf_wire_replies.specs.ArrearsTexts.{money, line_end, all_data, arrears_line_data};
 
 use super::Body;
 use super::lists::{Shown, array_of};
@@ -17,7 +17,7 @@ use std::alloc::Global;
 
 /// Puts an amount, as its money text.
 fn put_money(alloc: Global, members: &mut Members, name: &str, cents: u128) -> Result<(), Fault>
-    ensures ok { OnOk result (members_view members.new.map.entries ≡ with_member name.now (money cents)
+    ensures ok { OnOk result (members_view members.new.map.entries ≡ put name.now (money cents)
         (members_view members.old.map.entries)) }
     ensures err { IfErr result (λ f. f ≡ Fault.F20) }
 {
@@ -28,7 +28,7 @@ fn put_money(alloc: Global, members: &mut Members, name: &str, cents: u128) -> R
 
 /// A line's members from `outstanding` on.
 fn line_end(alloc: Global, outstanding: u128, over_90: u128, par30: u128) -> Result<Members, Fault>
-    ensures ok { IfOk result (λ members. members_view members.map.entries ≡ line_end_of outstanding over_90 par30) }
+    ensures ok { IfOk result (λ members. members_view members.map.entries ≡ line_end outstanding over_90 par30) }
     ensures err { IfErr result (λ f. f ≡ Fault.F20) }
 {
     let mut members = Members::new(alloc);

@@ -4,7 +4,7 @@ ghost use Rattle.std.specs.Prelude.{◌≡◌, IfOk, IfErr};
 ghost use Rattle.serde_json.specs.View.{members_view};
 ghost use Rattle.mf_model.specs.declared.reply.Reply.TheVariants.{ChargeShown, ProductShown};
 ghost use Rattle.mf_wire_replies.specs.Shown.{IsBodyOf};
-ghost use Rattle.mf_wire_replies.specs.Catalogue.{product_end as product_end_of, product_rest as product_rest_of};
+ghost use Rattle.mf_wire_replies.specs.Catalogue.{product_end, product_rest};
 
 use super::Body;
 use super::members::{Members, whole_or_null};
@@ -31,7 +31,7 @@ pub fn charge_shown(alloc: Global, charge: &ChargeDef) -> Result<Body, Fault>
 
 /// A product's members from `overdue_charge` on.
 fn product_end(alloc: Global, product: &Product) -> Result<Members, AllocError>
-    ensures { IfOk result (λ members. members_view members.map.entries ≡ product_end_of product.now) }
+    ensures { IfOk result (λ members. members_view members.map.entries ≡ product_end product.now) }
 {
     let lent_by = &product.members;
     let mut members = Members::new(alloc);
@@ -47,7 +47,7 @@ fn product_end(alloc: Global, product: &Product) -> Result<Members, AllocError>
 
 /// A product's members from `max_periods` on.
 fn product_rest(alloc: Global, product: &Product) -> Result<Members, AllocError>
-    ensures { IfOk result (λ members. members_view members.map.entries ≡ product_rest_of product.now) }
+    ensures { IfOk result (λ members. members_view members.map.entries ≡ product_rest product.now) }
 {
     let lent_by = &product.members;
     let mut members = product_end(alloc, product)?;

@@ -4,11 +4,11 @@ ghost use Rattle.std.specs.Prelude.{◌≡◌, true, IfOk, IfErr, string_bytes};
 ghost use Rattle.json.specs.Print.{quoted};
 ghost use Rattle.serde_json.specs.Data.{boolean};
 ghost use Rattle.serde_json.specs.Written.{compact_text, members_text};
-ghost use Rattle.mf_wire_replies.specs.Json.{text_or_null as text_or_null_of, whole_or_null as whole_or_null_of};
+ghost use Rattle.mf_wire_replies.specs.Json.{text_or_null, whole_or_null};
 ghost use Rattle.mf_account.specs.Names.{entry_kind_name};
 ghost use Rattle.mf_alloc.specs.Portions.{portion_name};
 ghost use Rattle.mf_wire_replies.specs.AccountTexts.{instalment_for, portion_waived};
-ghost use Rattle.mf_wire_replies.specs.AccountTexts.{share_data, entry_rest as entry_rest_of, entry_data, entries_data};
+ghost use Rattle.mf_wire_replies.specs.AccountTexts.{share_data, entry_rest, entry_data, entries_data};
 
 use super::lists::{Written, array_text, list_text};
 use super::texts::{quoted_text, text_in};
@@ -46,7 +46,7 @@ fn quoted_portion(portion: Portion) -> &'static str
 
 /// The portion that a waiver waives, or null.
 fn waived_portion(entry: &Entry) -> &'static str
-    ensures { result.now ≡ compact_text (text_or_null_of (portion_waived entry.now.kind entry.now.portion)) }
+    ensures { result.now ≡ compact_text (text_or_null (portion_waived entry.now.kind entry.now.portion)) }
 {
     match entry.kind {
         Kind::Waive => quoted_portion(entry.portion),
@@ -63,7 +63,7 @@ fn truth(holds: bool) -> &'static str
 
 /// A number, or null where there is none.
 fn whole_or_null(alloc: Global, number: Option<u32>) -> Result<String, AllocError>
-    ensures { IfOk result (λ s. string_bytes s ≡ compact_text (whole_or_null_of number)) }
+    ensures { IfOk result (λ s. string_bytes s ≡ compact_text (whole_or_null number)) }
 {
     match number {
         Some(number) => format!(in alloc; "{number}"),
@@ -74,7 +74,7 @@ fn whole_or_null(alloc: Global, number: Option<u32>) -> Result<String, AllocErro
 /// The instalment that a fee, a penalty or a waiver is for, or null.
 fn instalment_of(alloc: Global, entry: &Entry) -> Result<String, AllocError>
     ensures { IfOk result (λ s. string_bytes s
-        ≡ compact_text (whole_or_null_of (instalment_for entry.now.kind entry.now.instalment))) }
+        ≡ compact_text (whole_or_null (instalment_for entry.now.kind entry.now.instalment))) }
 {
     let instalment = match entry.kind {
         Kind::Fee | Kind::Penalty | Kind::Waive => Some(entry.instalment),
@@ -85,7 +85,7 @@ fn instalment_of(alloc: Global, entry: &Entry) -> Result<String, AllocError>
 
 /// The receipt of a repayment, or null.
 fn receipt_of(alloc: Global, entry: &Entry) -> Result<String, AllocError>
-    ensures { IfOk result (λ s. string_bytes s ≡ compact_text (text_or_null_of entry.now.receipt)) }
+    ensures { IfOk result (λ s. string_bytes s ≡ compact_text (text_or_null entry.now.receipt)) }
 {
     match &entry.receipt {
         Some(receipt) => quoted_text(alloc, receipt.as_str()),
@@ -109,7 +109,7 @@ impl Written for Share {
 
 /// An entry's members from `portion` on, and the closing bracket.
 fn entry_rest(alloc: Global, entry: &Entry, shares: &[Share]) -> Result<String, Fault>
-    ensures ok { IfOk result (λ s. string_bytes s ≡ members_text true (entry_rest_of entry.now shares.now)) }
+    ensures ok { IfOk result (λ s. string_bytes s ≡ members_text true (entry_rest entry.now shares.now)) }
     ensures err { IfErr result (λ f. f ≡ Fault.F20) }
 {
     let portion = waived_portion(entry);

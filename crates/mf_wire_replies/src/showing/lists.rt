@@ -5,7 +5,7 @@ ghost use Rattle.json.specs.Print.{quoted};
 ghost use Rattle.serde_json.specs.Data.{Data, array, object, member, no_members};
 ghost use Rattle.serde_json.specs.View.{view, items_of};
 ghost use Rattle.serde_json.specs.Written.{compact_text, comma_if};
-ghost use Rattle.mf_wire_replies.specs.Json.{joined};
+ghost use Rattle.mf_wire_replies.specs.Json.{joined_values};
 
 use super::texts::text_in;
 use mf_base::Fault;
@@ -70,7 +70,8 @@ fn put_line<T: Written>(
 
 /// Puts the texts that show the lines behind a text, in their order, with commas between them.
 fn put_lines<T: Written>(alloc: Global, text: &mut String, lines: &[T]) -> Result<(), Fault>
-    ensures ok { OnOk result (string_bytes text.new ≡ string_bytes text.old ++ joined false (map T.json lines.now)) }
+    ensures ok { OnOk result (string_bytes text.new ≡ string_bytes text.old
+        ++ joined_values false (map T.json lines.now)) }
     ensures err { IfErr result (λ f. f ≡ Fault.F20) }
 {
     let mut later = false;

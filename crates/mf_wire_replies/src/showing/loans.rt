@@ -4,9 +4,9 @@ ghost use Rattle.std.specs.Prelude.{◌≡◌, ℕ, List, true, IfOk, IfErr, str
 ghost use Rattle.json.specs.Print.{quoted};
 ghost use Rattle.serde_json.specs.View.{view};
 ghost use Rattle.serde_json.specs.Written.{compact_text, members_text};
-ghost use Rattle.mf_model.specs.declared.reply.Reply.TheVariants.{Loan as LoanTold};
+ghost use Rattle.mf_model.specs.declared.reply.Reply.TheVariants.{Loan};
 ghost use Rattle.mf_wire_replies.specs.Shown.{IsBodyOf};
-ghost use Rattle.mf_wire_replies.specs.LoanTexts.{loan_end as loan_end_of, loan_rest as loan_rest_of, loan_by_texts};
+ghost use Rattle.mf_wire_replies.specs.LoanTexts.{loan_end, loan_rest, loan_by_texts};
 ghost use Rattle.mf_wire_replies.specs.LoanTexts.{loan_data, sums_data, day_or_null, told_status, loan_line_data};
 ghost use Rattle.mf_wire_replies.specs.LoanTexts.{lines_data};
 
@@ -66,7 +66,7 @@ fn sums_text(alloc: Global, sums: &[u64; 4]) -> Result<String, AllocError>
 
 /// A loan's members from `product` on, and the closing bracket.
 fn loan_end(alloc: Global, loan: &Statement) -> Result<String, AllocError>
-    ensures { IfOk result (λ s. string_bytes s ≡ members_text true (loan_end_of loan.now)) }
+    ensures { IfOk result (λ s. string_bytes s ≡ members_text true (loan_end loan.now)) }
 {
     let product = loan.product;
     let status = loan.status;
@@ -74,14 +74,15 @@ fn loan_end(alloc: Global, loan: &Statement) -> Result<String, AllocError>
     let waived = sums_text(alloc, &loan.balances.waived)?;
     let written_off = sums_text(alloc, &loan.balances.written_off)?;
     let shown = format_args!(
-        r#","product":{product},"refunded":{refunded},"status":{status},"waived":{waived},"written_off":{written_off}}}"#
+        ",\"product\":{product},\"refunded\":{refunded},\"status\":{status},\"waived\":{waived},\
+         \"written_off\":{written_off}}}"
     );
     text_in(alloc, 320, shown)
 }
 
 /// A loan's members from `outstanding` on, and the closing bracket, by the text of the last of them.
 fn loan_rest(alloc: Global, loan: &Statement) -> Result<String, AllocError>
-    ensures { IfOk result (λ s. string_bytes s ≡ members_text true (loan_rest_of loan.now)) }
+    ensures { IfOk result (λ s. string_bytes s ≡ members_text true (loan_rest loan.now)) }
 {
     let principal = loan.principal;
     let periods = loan.periods;
@@ -90,7 +91,8 @@ fn loan_rest(alloc: Global, loan: &Statement) -> Result<String, AllocError>
     let paid = sums_text(alloc, &loan.balances.paid)?;
     let end = loan_end(alloc, loan)?;
     let shown = format_args!(
-        r#","outstanding":{outstanding},"overpaid":{overpaid},"paid":{paid},"periods":{periods},"principal":{principal}{end}"#
+        ",\"outstanding\":{outstanding},\"overpaid\":{overpaid},\"paid\":{paid},\"periods\":{periods},\
+         \"principal\":{principal}{end}"
     );
     text_in(alloc, 640, shown)
 }
@@ -142,7 +144,7 @@ fn shown_text(alloc: Global, account: Account, loan: &Statement) -> Result<Strin
 
 /// What is replied of a loan.
 pub fn loan_told(alloc: Global, loan: Account, told: &LoanReply) -> Result<Body, Fault>
-    ensures ok { IfOk result (IsBodyOf (LoanTold loan told.now)) }
+    ensures ok { IfOk result (IsBodyOf (Loan loan told.now)) }
     ensures err { IfErr result (λ f. f ≡ Fault.F20) }
 {
     match told {

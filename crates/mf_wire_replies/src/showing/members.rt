@@ -1,16 +1,16 @@
 //! Numbers that may be null, and the members of an object.
 
 ghost use Rattle.std.specs.Prelude.{◌≡◌, OnOk};
-ghost use Rattle.serde_json.specs.Data.{string, object, no_members, put as with_member};
+ghost use Rattle.serde_json.specs.Data.{string, object, no_members, put};
 ghost use Rattle.serde_json.specs.View.{view, members_view};
-ghost use Rattle.mf_wire_replies.specs.Json.{whole, whole_or_null as whole_or_null_of};
+ghost use Rattle.mf_wire_replies.specs.Json.{whole, whole_or_null};
 
 use serde_json::{Map, Value};
 use std::alloc::{AllocError, Global};
 
 /// A number, or null where there is none.
 pub fn whole_or_null(number: Option<u32>) -> Value
-    ensures { view result ≡ whole_or_null_of number }
+    ensures { view result ≡ whole_or_null number }
 {
     match number {
         Some(number) => Value::from(number),
@@ -43,7 +43,7 @@ impl Members {
 
     /// Puts a value.
     pub fn put(&mut self, alloc: Global, name: &str, value: Value) -> Result<(), AllocError>
-        ensures { OnOk result (members_view self.new.map.entries ≡ with_member name.now (view value)
+        ensures { OnOk result (members_view self.new.map.entries ≡ put name.now (view value)
             (members_view self.old.map.entries)) }
     {
         serde_json::put(&mut self.map, alloc, name, value)
@@ -51,7 +51,7 @@ impl Members {
 
     /// Puts a number.
     pub fn put_whole(&mut self, alloc: Global, name: &str, number: u64) -> Result<(), AllocError>
-        ensures { OnOk result (members_view self.new.map.entries ≡ with_member name.now (whole number)
+        ensures { OnOk result (members_view self.new.map.entries ≡ put name.now (whole number)
             (members_view self.old.map.entries)) }
     {
         self.put(alloc, name, Value::from(number))
@@ -59,7 +59,7 @@ impl Members {
 
     /// Puts a copy of a text.
     pub fn put_text(&mut self, alloc: Global, name: &str, text: &str) -> Result<(), AllocError>
-        ensures { OnOk result (members_view self.new.map.entries ≡ with_member name.now (string text.now)
+        ensures { OnOk result (members_view self.new.map.entries ≡ put name.now (string text.now)
             (members_view self.old.map.entries)) }
     {
         let text = String::from_str(alloc, text)?;

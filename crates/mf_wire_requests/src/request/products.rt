@@ -6,7 +6,7 @@ ghost use Rattle.mf_model.specs.Sound.{IsInRange, IsName, AreMembers};
 ghost use Rattle.mf_wire_requests.specs.Bodies.{json_of, Gives};
 ghost use Rattle.mf_wire_requests.specs.ProductRequests.{step_at, planning_at, bounds_at, optional_charge_at};
 ghost use Rattle.mf_wire_requests.specs.ProductRequests.{charged_at};
-ghost use Rattle.mf_wire_requests.specs.ProductRequests.{members_of as members_by, new_product_request};
+ghost use Rattle.mf_wire_requests.specs.ProductRequests.{members_of, new_product_request};
 ghost use Rattle.mf_wire_requests.specs.ProductRequests.{IsDueStepInRange, IsPlanningInRange, AreBoundsInRange};
 
 use crate::body::{GREATEST_NUMBER, choice, json, long_number, name, number, optional_number};
@@ -124,7 +124,7 @@ fn members_of(name: Name, planning: Planning, bounds: Bounds, charged: Charged) 
     requires name { IsName name }
     requires planning { IsPlanningInRange planning }
     requires bounds { AreBoundsInRange bounds }
-    ensures value { result ≡ members_by name planning bounds charged }
+    ensures value { result ≡ members_of name planning bounds charged }
     ensures in_range { AreMembers result }
 {
     ProductMembers {

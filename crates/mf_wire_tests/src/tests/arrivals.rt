@@ -31,7 +31,7 @@ impl Read for Drops<'_> {
 }
 
 /// What has arrived, as a text.
-fn shown(alloc: Global, arrival: &Arrival) -> Result<Vec<u8>, Fail> {
+fn show(alloc: Global, arrival: &Arrival) -> Result<Vec<u8>, Fail> {
     let mut text = Vec::new(alloc);
     match arrival {
         Arrival::Silent => text.extend_from_slice(b"nothing")?,
@@ -53,10 +53,10 @@ fn shown(alloc: Global, arrival: &Arrival) -> Result<Vec<u8>, Fail> {
 fn assert_told(rt: &impl Abort, alloc: Global, stream: &[u8], expected: &str) -> Result<(), Fail> {
     let mut whole = WatchedReader::new(stream);
     let arrival = read_message(alloc, &mut whole)?;
-    assert_eq!(rt; shown(alloc, &arrival)?.as_slice(), expected.as_bytes());
+    assert_eq!(rt; show(alloc, &arrival)?.as_slice(), expected.as_bytes());
     let mut drops = WatchedReader::new(Drops { bytes: stream });
     let arrival = read_message(alloc, &mut drops)?;
-    assert_eq!(rt; shown(alloc, &arrival)?.as_slice(), expected.as_bytes());
+    assert_eq!(rt; show(alloc, &arrival)?.as_slice(), expected.as_bytes());
     Ok(())
 }
 
@@ -142,7 +142,7 @@ fn the_longest_head(rt: HostRuntime) -> Result<(), Fail> {
         assert_eq!(rt; head.len(), length);
         let mut source = WatchedReader::new(head.as_slice());
         let arrival = read_message(alloc, &mut source)?;
-        assert_eq!(rt; shown(alloc, &arrival)?.as_slice(), expected.as_bytes());
+        assert_eq!(rt; show(alloc, &arrival)?.as_slice(), expected.as_bytes());
     }
     Ok(())
 }

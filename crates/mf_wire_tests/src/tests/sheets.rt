@@ -45,7 +45,7 @@ fn results_after(lines: usize) -> &'static str {
 }
 
 /// The replies to lines, where each was answered.
-fn told(alloc: Global, books: &mut Books, lines: &str) -> Option<Vec<u8>> {
+fn tell(alloc: Global, books: &mut Books, lines: &str) -> Option<Vec<u8>> {
     let mut source = WatchedReader::new(lines.as_bytes());
     let mut sink = WatchedWriter::new(Vec::new(alloc));
     match run(alloc, books, &mut source, &mut sink) {
@@ -55,7 +55,7 @@ fn told(alloc: Global, books: &mut Books, lines: &str) -> Option<Vec<u8>> {
 }
 
 fn replies(alloc: Global, books: &mut Books, lines: &str) -> Result<Vec<u8>, Fail> {
-    Ok(told(alloc, books, lines).ok_or("every line answered")?)
+    Ok(tell(alloc, books, lines).ok_or("every line answered")?)
 }
 
 /// The institution gives these replies to lines.
@@ -72,10 +72,10 @@ fn assert_replies(
 }
 
 /// The institution with that loan, where it could be made.
-fn made(alloc: Global) -> Option<Books> {
+fn make_books(alloc: Global) -> Option<Books> {
     let day = Day::parse(b"2024-01-31")?;
     let mut books = Books::new(alloc, day).ok()?;
-    let written = told(alloc, &mut books, LENT)?;
+    let written = tell(alloc, &mut books, LENT)?;
     if written.as_slice() == LENT_REPLIES.as_bytes() {
         Some(books)
     } else {
@@ -84,11 +84,11 @@ fn made(alloc: Global) -> Option<Books> {
 }
 
 fn lent(alloc: Global) -> Result<Books, Fail> {
-    Ok(made(alloc).ok_or("a loan that was paid out")?)
+    Ok(make_books(alloc).ok_or("a loan that was paid out")?)
 }
 
 /// The results of a sheet, where it was collected to its end.
-fn collected(alloc: Global, books: &mut Books, staff: &str, sheet: &[u8]) -> Option<Vec<u8>> {
+fn collect_sheet(alloc: Global, books: &mut Books, staff: &str, sheet: &[u8]) -> Option<Vec<u8>> {
     let caller = Caller::parse(staff.as_bytes())?;
     if sheet.len() > LONGEST {
         return None;
@@ -101,7 +101,7 @@ fn collected(alloc: Global, books: &mut Books, staff: &str, sheet: &[u8]) -> Opt
 }
 
 fn results(alloc: Global, books: &mut Books, staff: &str, sheet: &[u8]) -> Result<Vec<u8>, Fail> {
-    Ok(collected(alloc, books, staff, sheet).ok_or("a sheet that was collected")?)
+    Ok(collect_sheet(alloc, books, staff, sheet).ok_or("a sheet that was collected")?)
 }
 
 /// The sheet has these results where that member of staff sends it.

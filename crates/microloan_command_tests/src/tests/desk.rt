@@ -26,12 +26,16 @@ const AGED: &str =
 const NEXT_DAY: &str = "1/1 PUT /business-day {\"day\":\"2024-05-01\"}\n";
 
 const THIRTY_DAYS: &str =
-    "   1           1                  666.67                  666.67                    0.00                    0.00                    0.00    0.00
- all           1                  666.67                  666.67                    0.00                    0.00                    0.00    0.00\n";
+    "   1           1                  666.67                  666.67                    \
+0.00                    0.00                    0.00    0.00
+ all           1                  666.67                  666.67                    0.00                    \
+0.00                    0.00    0.00\n";
 
 const THIRTY_ONE_DAYS: &str =
-    "   1           1                  666.67                    0.00                  666.67                    0.00                    0.00  100.00
- all           1                  666.67                    0.00                  666.67                    0.00                    0.00  100.00\n";
+    "   1           1                  666.67                    0.00                  \
+666.67                    0.00                    0.00  100.00
+ all           1                  666.67                    0.00                  666.67                    \
+0.00                    0.00  100.00\n";
 
 /// How many seconds a silent client is waited for.
 const PATIENCE: u32 = 1;
@@ -86,7 +90,7 @@ fn the_report_has_fixed_columns(rt: HostRuntime) -> Result<(), Fail> {
 }
 
 /// How a sheet of these bytes ends where a member of staff sends it, and what is written.
-fn collected<R: Read + Drop>(
+fn collect_from<R: Read + Drop>(
     alloc: Global,
     books: &mut Books,
     staff: Caller,
@@ -102,10 +106,10 @@ fn collected<R: Read + Drop>(
 fn a_sheet_is_read_to_its_end(rt: HostRuntime) -> Result<(), Fail> {
     let alloc = rt.alloc();
     let mut books = books_after(alloc, LENT)?;
-    let (ended, written) = collected(alloc, &mut books, caller("1/1")?, SHEET.as_bytes());
+    let (ended, written) = collect_from(alloc, &mut books, caller("1/1")?, SHEET.as_bytes());
     assert!(rt; ended.is_ok());
     assert_eq!(rt; written.as_slice(), ENTERED.as_bytes());
-    let (ended, written) = collected(
+    let (ended, written) = collect_from(
         alloc,
         &mut books,
         caller("9/9")?,
@@ -125,14 +129,14 @@ fn the_longest_sheet(rt: HostRuntime) -> Result<(), Fail> {
     let alloc = rt.alloc();
     let mut books = books_after(alloc, LENT)?;
     let mut sheet = vec![in alloc; b'\n'; 1048576]?;
-    let (ended, written) = collected(alloc, &mut books, caller("1/1")?, sheet.as_slice());
+    let (ended, written) = collect_from(alloc, &mut books, caller("1/1")?, sheet.as_slice());
     assert!(rt; ended.is_ok());
     assert_eq!(rt;
         written.as_slice(),
         b"receipt,loan,date,amount,result\n".as_slice()
     );
     sheet.push(b'\n')?;
-    let (ended, written) = collected(alloc, &mut books, caller("1/1")?, sheet.as_slice());
+    let (ended, written) = collect_from(alloc, &mut books, caller("1/1")?, sheet.as_slice());
     assert_eq!(rt; ended.err(), Some(SheetFault::TooLong));
     assert!(rt; written.is_empty());
     Ok(())
@@ -146,21 +150,21 @@ fn a_sheet_that_is_torn(rt: HostRuntime) -> Result<(), Fail> {
     let torn = Torn {
         bytes: SHEET.as_bytes(),
     };
-    let (ended, written) = collected(alloc, &mut books, caller("1/1")?, torn);
+    let (ended, written) = collect_from(alloc, &mut books, caller("1/1")?, torn);
     let fault = StreamFault {
         answered: 0,
         cause: Cause::Read,
     };
     assert_eq!(rt; ended.err(), Some(SheetFault::Stream(fault)));
     assert!(rt; written.is_empty());
-    let (ended, written) = collected(alloc, &mut books, caller("1/1")?, SHEET.as_bytes());
+    let (ended, written) = collect_from(alloc, &mut books, caller("1/1")?, SHEET.as_bytes());
     assert!(rt; ended.is_ok());
     assert_eq!(rt; written.as_slice(), ENTERED.as_bytes());
     Ok(())
 }
 
 /// A client that sends these bytes, and no more.
-fn sent<R: Net<Stream = TcpStream>>(rt: &R, port: u16, bytes: &str) -> io::Result<TcpStream> {
+fn send<R: Net<Stream = TcpStream>>(rt: &R, port: u16, bytes: &str) -> io::Result<TcpStream> {
     let stream = TcpStream::connect(rt, (Ipv4Addr::LOCALHOST, port))?;
     (&stream).write_all(bytes.as_bytes())?;
     stream.shutdown(Shutdown::Write)?;
@@ -180,10 +184,10 @@ fn connections_are_served_in_turn(rt: HostRuntime) -> Result<(), Fail> {
     let mut books = books_after(alloc, "")?;
     let listener = TcpListener::bind(&rt, (Ipv4Addr::LOCALHOST, 0))?;
     let port = listener.local_addr()?.port();
-    let silent = sent(&rt, port, "")?;
-    let cut = sent(&rt, port, "POST /clients HTTP/1.1\r\nX-Sta")?;
-    let whole = sent(&rt, port, CLIENT)?;
-    let _late = sent(&rt, port, CLIENT)?;
+    let silent = send(&rt, port, "")?;
+    let cut = send(&rt, port, "POST /clients HTTP/1.1\r\nX-Sta")?;
+    let whole = send(&rt, port, CLIENT)?;
+    let _late = send(&rt, port, CLIENT)?;
     let served = serve_connections(alloc, &rt, &mut books, &listener, 3, PATIENCE)?;
     assert_eq!(rt; served, 2);
     assert_eq!(rt; answer(alloc, &silent)?.as_str(), "");
@@ -227,8 +231,8 @@ fn connections_that_fail_count(rt: HostRuntime) -> Result<(), Fail> {
     let port = listener.local_addr()?.port();
     let torn = TcpStream::connect(&rt, (Ipv4Addr::LOCALHOST, port))?;
     (&torn).write_all(b"POST /clients HTTP/1.1\r\nX-Sta")?;
-    let whole = sent(&rt, port, CLIENT)?;
-    let _late = sent(&rt, port, CLIENT)?;
+    let whole = send(&rt, port, CLIENT)?;
+    let _late = send(&rt, port, CLIENT)?;
     let calls = Cell::new(0);
     let unsteady = Unsteady {
         listener: &listener,
@@ -283,7 +287,7 @@ fn a_silent_client_is_left(rt: HostRuntime) -> Result<(), Fail> {
     let listener = TcpListener::bind(&rt, (Ipv4Addr::LOCALHOST, 0))?;
     let port = listener.local_addr()?.port();
     let silent = TcpStream::connect(&rt, (Ipv4Addr::LOCALHOST, port))?;
-    let whole = sent(&rt, port, CLIENT)?;
+    let whole = send(&rt, port, CLIENT)?;
     let served = serve_connections(alloc, &rt, &mut books, &listener, 2, PATIENCE)?;
     assert_eq!(rt; served, 1);
     assert_eq!(rt; answer(alloc, &silent)?.as_str(), "");
@@ -330,7 +334,7 @@ fn a_client_that_takes_too_long_is_left(rt: HostRuntime) -> Result<(), Fail> {
             seconds: seconds.as_slice(),
             read: &read,
         };
-        let client = sent(&rt, port, CLIENT)?;
+        let client = send(&rt, port, CLIENT)?;
         let served = serve_connections(alloc, &clock, &mut books, &listener, 1, PATIENCE)?;
         assert_eq!(rt; served, answered);
         let came = answer(alloc, &client).unwrap_or(String::new(alloc));

@@ -51,7 +51,7 @@ sum                      1000.00             20.07           1020.07
 ];
 
 /// What the words print; nothing where the schedule is refused.
-fn printed(alloc: Global, line: &str) -> Result<String, Fail> {
+fn print_schedule(alloc: Global, line: &str) -> Result<String, Fail> {
     let mut words = Vec::new(alloc);
     for word in line.split_whitespace() {
         words.push(String::from_str(alloc, word)?)?;
@@ -69,7 +69,7 @@ fn printed(alloc: Global, line: &str) -> Result<String, Fail> {
 #[test]
 fn prints_each_example(rt: HostRuntime) -> Result<(), Fail> {
     for (line, text) in EXAMPLES {
-        assert_eq!(rt; printed(rt.alloc(), line)?.as_str(), text);
+        assert_eq!(rt; print_schedule(rt.alloc(), line)?.as_str(), text);
     }
     Ok(())
 }

@@ -3,10 +3,10 @@ use Rattle.mf_alloc.specs.declared.row.Cell.{Cell}
 use Rattle.mf_alloc.specs.declared.row.Share.{Share}
 use Rattle.mf_alloc.specs.Order.{dues_of, due_by, order_at}
 use Rattle.mf_account.specs.Account.{parts_numbered}
-use Rattle.mf_alloc.specs.Sums.{Sums, AreWhole}
+use Rattle.mf_alloc.specs.Sums.{Instalment, AreWhole}
 use Rattle.mf_alloc.specs.Payment.{shares_of, rest_of}
 use Rattle.mf_alloc.proofs.LeftOpen.{IsLine}
-use Rattle.mf_account.specs.Effect.{State, after, parts_of, with_charge, parts_cleared}
+use Rattle.mf_account.specs.Effect.{State, after_entry, parts_of, with_charge, parts_cleared}
 use Rattle.mf_account.specs.AtOnce.{money_to_pay, paid_part, after_at_once}
 use Rattle.mf_account.proofs.DueLemmas.{order-same, due_by-le, dues-with_settled, dues-with_charge}
 use Rattle.mf_account.proofs.EffectLemmas.{state-applied, parts-applied}
@@ -29,8 +29,8 @@ returns-clause-state g c =
       refunded = before.refunded
           + c.money_out-given.result;
     } in
-    let cleared : List Sums = c.charge_and_clear_in.new.rows.items in
-    let charged : List Sums = with_charge entry.kind entry before.rows in
+    let cleared : List Instalment = c.charge_and_clear_in.new.rows.items in
+    let charged : List Instalment = with_charge entry.kind entry before.rows in
     let same = order-same cells cleared before.rows entry.day
     (ap dues_of c.in_ok-parts.ensures.rows ∙ dues-with_settled charged (parts_cleared (order_at cells before.rows
     entry.day) entry charged) ∙ dues-with_charge entry.kind entry before.rows) in
@@ -55,7 +55,7 @@ returns-clause-state g c =
     (c.in_ok-shares.ensures.shares ∙ ap (λ (o : ℕ → Cell). shares_of o cleared money) same)
     (c.in_ok-shares.ensures.rest ∙ ap (λ (o : ℕ → Cell). rest_of o cleared money) same)
     c.in_ok-shares.ensures.rows in
-    subst (λ (s : State). now ≡ after (order_at cells s.rows entry.day) entry s) is
+    subst (λ (s : State). now ≡ after_entry (order_at cells s.rows entry.day) entry s) is
     (once ∙ sym (after-once n (order_at cells before.rows entry.day) place entry before line))
 
 pub returns-clause-parts : goal.returns-clause-parts
@@ -68,8 +68,8 @@ returns-clause-parts g c =
       refunded = c.book.inside.refunded;
     } in
     let is : before ≡ c.args.book.now = c.book.view_is in
-    let cleared : List Sums = c.charge_and_clear_in.new.rows.items in
-    let charged : List Sums = with_charge entry.kind entry before.rows in
+    let cleared : List Instalment = c.charge_and_clear_in.new.rows.items in
+    let charged : List Instalment = with_charge entry.kind entry before.rows in
     let same = order-same cells cleared before.rows entry.day
     (ap dues_of c.in_ok-parts.ensures.rows ∙ dues-with_settled charged (parts_cleared (order_at cells before.rows
     entry.day) entry charged) ∙ dues-with_charge entry.kind entry before.rows) in

@@ -1,5 +1,5 @@
 use Rattle.std.proofs.Common.{ℕ, ◌<◌, ◌^◌, List, arith}
-use Rattle.mf_alloc.specs.Sums.{Sums}
+use Rattle.mf_alloc.specs.Sums.{Instalment}
 use Rattle.mf_account.specs.declared.balances.Column.{Column}
 use Rattle.mf_account.specs.declared.balances.Column.TheVariants.{Owed, Paid, Waived, WrittenOff}
 use Rattle.mf_account.specs.Account.{sum_at}
@@ -7,7 +7,7 @@ use Rattle.mf_account.specs.Balance.{column_of, HasRoomAt}
 use Rattle.mf_account.proofs.balances.sum_by_portion.Goals as goal
 
 -- there is room for each column
-room : (column : Column) (p : ℕ) (rows : List Sums) → HasRoomAt p rows → sum_at (column_of column) p rows < 2 ^ 64
+room : (column : Column) (p : ℕ) (rows : List Instalment) → HasRoomAt p rows → sum_at (column_of column) p rows < 2 ^ 64
 room Owed p rows fits = fits.owed
 room Paid p rows fits = fits.paid
 room Waived p rows fits = fits.waived

@@ -2,7 +2,7 @@ use Rattle.std.proofs.Common.{ℕ, ◌+◌, ◌∙◌, ap, List, drop, ◌++◌,
 use Rattle.std.proofs.lemmas.List.{get_or_default}
 use Rattle.mf_alloc.specs.declared.row.Cell.{Cell}
 use Rattle.mf_account.specs.declared.entry.Entry.{Entry}
-use Rattle.mf_account.specs.Effect.{State, after, parts_of}
+use Rattle.mf_account.specs.Effect.{State, after_entry, parts_of}
 use Rattle.mf_account.specs.Account.{Orders, orders_by, parts_numbered}
 use Rattle.mf_account.specs.Standing.{entries_at}
 use Rattle.mf_account.proofs.ReplayLemmas.{rest-cons}
@@ -34,6 +34,6 @@ loop-k-preserved g c =
     (rest-cons entries order c.loop-k.k (get_or order c.loop-k.k 0) entry c.loop-k-test.true
     (get_or_default order c.loop-k.k 0 (get_or order c.loop-k.k 0) c.loop-k-test.true)
     (c.requires.within c.loop-k.k 0 c.loop-k-test.true) c.index-entries-order.is)
-    (c.in_ok-parts.ensures.state ∙ ap (λ (o : ℕ → Cell). after o entry before) same)
+    (c.in_ok-parts.ensures.state ∙ ap (λ (o : ℕ → Cell). after_entry o entry before) same)
     (c.in_ok-parts.ensures.parts ∙ ap (λ (o : ℕ → Cell). parts_numbered entry.seq 1 (parts_of o entry before)) same)
     (c.in_ok-extend_from_slice.ensures.items ∙ ap (λ x. c.loop-k.settled.items ++ x) c.deref.ensures.value)

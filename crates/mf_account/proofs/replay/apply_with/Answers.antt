@@ -1,8 +1,8 @@
 use Rattle.std.proofs.Common.{◌≡◌, ◌++◌, List, length, arith, ◌∙◌, ap, sym, subst}
 use Rattle.mf_account.specs.declared.entry.Entry.{Entry}
-use Rattle.mf_account.specs.declared.settled.Settled.{Settled}
+use Rattle.mf_account.specs.declared.settled.SettledPart.{SettledPart}
 use Rattle.mf_account.specs.Effect.{State, parts_of}
-use Rattle.mf_account.specs.Account.{Orders, orders_by, after_all, settled_by, parts_numbered}
+use Rattle.mf_account.specs.Account.{Orders, orders_by, after_entries, settled_by, parts_numbered}
 use Rattle.mf_account.specs.Standing.{entries_at}
 use Rattle.mf_account.specs.Applicable.{AreApplicable}
 use Rattle.mf_account.proofs.ReplayLemmas.{length-after}
@@ -31,20 +31,20 @@ returns-clause-state g c =
     let later : List Entry = entries_at c.args.entries.now c.args.later.now in
     let same = orders-after cells c.args.entry.now c.args.book.now c.apply_entry.new.book c.in_ok-parts.ensures.state in
     c.in_ok-rest.ensures.state
-    ∙ ap (λ (o : Orders). after_all o later c.apply_entry.new.book) same
-    ∙ ap (λ (s : State). after_all (orders_by cells c.args.book.now.rows) later s) c.in_ok-parts.ensures.state
+    ∙ ap (λ (o : Orders). after_entries o later c.apply_entry.new.book) same
+    ∙ ap (λ (s : State). after_entries (orders_by cells c.args.book.now.rows) later s) c.in_ok-parts.ensures.state
 
 pub returns-clause-parts : goal.returns-clause-parts
 returns-clause-parts g c =
     let cells = g.T.Strategy.cell_at c.args.strategy.now in
     let orders : Orders = orders_by cells c.args.book.now.rows in
     let later : List Entry = entries_at c.args.entries.now c.args.later.now in
-    let own : List Settled =
+    let own : List SettledPart =
     parts_numbered c.args.entry.now.seq 1 (parts_of (orders c.args.entry.now) c.args.entry.now c.args.book.now) in
     let same = orders-after cells c.args.entry.now c.args.book.now c.apply_entry.new.book c.in_ok-parts.ensures.state in
     c.in_ok-extend_from_slice.ensures.items
-    ∙ ap (λ (x : List Settled). x ++ c.deref.result.now) c.in_ok-parts.ensures.parts
-    ∙ ap (λ (x : List Settled). own ++ x)
+    ∙ ap (λ (x : List SettledPart). x ++ c.deref.result.now) c.in_ok-parts.ensures.parts
+    ∙ ap (λ (x : List SettledPart). own ++ x)
     (c.deref.ensures.value
     ∙ c.in_ok-rest.ensures.parts
     ∙ ap (λ (o : Orders). settled_by o later c.apply_entry.new.book) same

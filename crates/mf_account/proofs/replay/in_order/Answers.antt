@@ -1,5 +1,5 @@
 use Rattle.std.proofs.Common.{◌≡◌, ℕ, sym, subst, ◌∙◌, true≢false, List}
-use Rattle.mf_account.specs.declared.settled.Settled.{Settled}
+use Rattle.mf_account.specs.declared.settled.SettledPart.{SettledPart}
 use Rattle.mf_account.specs.Loan.{settled_of_loan}
 use Rattle.mf_account.specs.Safe.{ArePlaced}
 use Rattle.mf_account.specs.Told.{AreNumberedTo}
@@ -19,5 +19,6 @@ returns-then-not-are_placed-clause-some c loan sound count periods is parts none
     let placed : ArePlaced c.args.instalments c.args.entries (settled_of_loan loan) =
     subst (λ (n : ℕ). ArePlaced n c.args.entries (settled_of_loan loan)) periods
     (subst (λ (n : ℕ). ArePlaced loan.periods n (settled_of_loan loan)) count (safe-sound loan sound).placed) in
-    true≢false (sym (c.are_placed.ensures.1 (subst (λ (l : List Settled). ArePlaced c.args.instalments c.args.entries l)
+    true≢false (sym (c.are_placed.ensures.1
+    (subst (λ (l : List SettledPart). ArePlaced c.args.instalments c.args.entries l)
     (sym same) placed)) ∙ c.if-not-are_placed.true)

@@ -1,9 +1,9 @@
 use Rattle.std.proofs.Common.{◌≡◌, ◌+◌, ◌≤◌, ◌∙◌, ap, sym, subst, arith, ℕ, List, length, true≢false, refl}
-use Rattle.mf_alloc.specs.Sums.{Sums}
+use Rattle.mf_alloc.specs.Sums.{Instalment}
 use Rattle.mf_account.specs.Effect.{State}
 use Rattle.mf_account.specs.Balance.{HasRoom}
 use Rattle.mf_account.specs.Standing.{standing_entries, entries_at}
-use Rattle.mf_account.specs.Loan.{Loan, state_of_loan}
+use Rattle.mf_account.specs.Loan.{DisbursedLoan, state_of_loan}
 use Rattle.mf_account.specs.Safe.{most_kept, IsBounded}
 use Rattle.mf_account.proofs.ConserveLemmas.{brought, room-bounded, paid-bounded}
 use Rattle.mf_account.proofs.ResumeLemmas.{brought-room, brought-kept, paid_in_all, ends-in, resumed-refund}
@@ -14,26 +14,26 @@ use Rattle.mf_account.proofs.resume.resumed_book.Goals.{then-ends_in_refund, els
 
 pub money_brought-brought-requires-clause-room : goal.money_brought-brought-requires-clause-room
 money_brought-brought-requires-clause-room c =
-    let loan : Loan = c.requires.sound.0 in
+    let loan : DisbursedLoan = c.requires.sound.0 in
     let room = brought-room loan c.requires.sound.1 in
     let all : brought (entries_at c.args.entries.now c.args.order.now) ≡ brought (standing_entries loan.entries) =
     ap brought (c.requires.order ∙ ap standing_entries c.requires.sound.2) in
     omega (arith, room, all)
 
 -- the rows with nothing overpaid or refunded
-abbrev plain : List Sums → State
+abbrev plain : List Instalment → State
 plain rows = record { rows = rows; overpaid = 0; refunded = 0 }
 
 pub money_paid-requires-clause-each : goal.money_paid-requires-clause-each
 money_paid-requires-clause-each c =
-    let rows : List Sums = c.args.rows.items in
+    let rows : List Instalment = c.args.rows.items in
     let is : IsBounded (length rows) most_kept (plain rows) = c.is_bounded.ensures.bounded (length rows)
     (record { size = refl; whole = c.requires.whole; within = c.requires.apart }) c.if-not-is_bounded.false in
     subst HasRoom (sym c.deref.ensures.value) (room-bounded (length rows) (plain rows) is)
 
 pub money_paid-requires-clause-room : goal.money_paid-requires-clause-room
 money_paid-requires-clause-room c =
-    let rows : List Sums = c.args.rows.items in
+    let rows : List Instalment = c.args.rows.items in
     let is : IsBounded (length rows) most_kept (plain rows) = c.is_bounded.ensures.bounded (length rows)
     (record { size = refl; whole = c.requires.whole; within = c.requires.apart }) c.if-not-is_bounded.false in
     let most = paid-bounded (length rows) (plain rows) is in
@@ -42,9 +42,10 @@ money_paid-requires-clause-room c =
 
 pub returns-then-not-is_bounded-clause-some : goal.returns-then-not-is_bounded-clause-some
 returns-then-not-is_bounded-clause-some c loan sound same none =
-    let rows : List Sums = c.args.rows.items in
+    let rows : List Instalment = c.args.rows.items in
     let good : IsBounded loan.periods most_kept (state_of_loan loan) = (safe-sound loan sound).bounded in
-    let is : IsBounded loan.periods most_kept (plain rows) = subst (λ (r : List Sums). IsBounded loan.periods most_kept
+    let is : IsBounded loan.periods most_kept (plain rows) = subst
+    (λ (r : List Instalment). IsBounded loan.periods most_kept
     (plain r)) (sym same) (record {
       size = good.size;
       whole = good.whole;
@@ -56,8 +57,8 @@ returns-then-not-is_bounded-clause-some c loan sound same none =
 
 pub returns-clause-bounded : goal.returns-clause-bounded
 returns-clause-bounded c =
-    let rows : List Sums = c.args.rows.items in
-    let loan : Loan = c.requires.sound.0 in
+    let rows : List Instalment = c.args.rows.items in
+    let loan : DisbursedLoan = c.requires.sound.0 in
     let is : IsBounded (length rows) most_kept (plain rows) = c.is_bounded.ensures.bounded (length rows)
     (record { size = refl; whole = c.requires.whole; within = c.requires.apart }) c.if-not-is_bounded.false in
     let all : brought (entries_at c.args.entries.now c.args.order.now) ≡ brought (standing_entries loan.entries) =

@@ -1,5 +1,5 @@
 use Rattle.std.proofs.Common.{◌≡◌, ◌-◌, ◌∙◌, arith, length, take, drop, map, ap}
-use Rattle.mf_account.specs.Account.{part_of, after_all}
+use Rattle.mf_account.specs.Account.{part_of, after_entries}
 use Rattle.mf_account.specs.Standing.{entry_at}
 use Rattle.mf_account.proofs.RewindLemmas.{rewindable-cells, has_charge, back_step, read_entry, cells-part, charge-at}
 use Rattle.mf_account.proofs.RewindLemmas.{within-at, back-after}
@@ -73,5 +73,5 @@ loop-i-preserved c = record {
 pub returns : goal.returns
 returns c = λ orders places from is.
     let none : c.loop-i.i ≡ 0 = omega (arith, c.loop-i-test.false) in
-    (c.loop-i.invariant.back orders places from is).state ∙ ap (λ n. after_all orders (take n c.args.tail.now) from)
+    (c.loop-i.invariant.back orders places from is).state ∙ ap (λ n. after_entries orders (take n c.args.tail.now) from)
     none

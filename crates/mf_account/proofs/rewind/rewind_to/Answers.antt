@@ -2,7 +2,7 @@ use Rattle.std.proofs.Common.{◌≡◌, ◌+◌, ◌-◌, ◌<◌, ℕ, List, a
 use Rattle.std.proofs.Common.{true≢false, ◌∙◌}
 use Rattle.std.proofs.lemmas.List.{length-map}
 use Rattle.mf_account.specs.declared.entry.Entry.{Entry}
-use Rattle.mf_account.specs.declared.settled.Settled.{Settled}
+use Rattle.mf_account.specs.declared.settled.SettledPart.{SettledPart}
 use Rattle.mf_account.specs.Account.{part_of}
 use Rattle.mf_account.specs.Effect.{State}
 use Rattle.mf_account.specs.Rewind.{IsBack}
@@ -43,7 +43,7 @@ loop-i-preserved c =
     length-map c.args.order.now (λ i. get_or c.args.entries.now i no_entry) in
     let some : 0 < c.loop-i.i = omega (arith, c.loop-i-test.true) in
     let start : ℕ = c.own_start-start.result in
-    let own : List Settled = take (c.loop-i.k - start) (drop start c.args.settled.now) in
+    let own : List SettledPart = take (c.loop-i.k - start) (drop start c.args.settled.now) in
     let back = c.take_back.ensures.back c.if-not-take_back.false in
     let apart = c.take_back.ensures.apart c.if-not-take_back.false in
     record {

@@ -1,7 +1,7 @@
 use Rattle.std.proofs.Common.{◌≡◌, ◌≤◌, arith, ap, sym, subst, List, ◌∙◌}
 use Rattle.std.specs.Prelude.{IsTrue}
 use Rattle.std.proofs.lemmas.Bool.{leb-true, le-leb}
-use Rattle.mf_alloc.specs.Sums.{Sums}
+use Rattle.mf_alloc.specs.Sums.{Instalment}
 use Rattle.mf_account.specs.Account.{sum_at}
 use Rattle.mf_account.specs.Effect.{State}
 use Rattle.mf_account.specs.Safe.{most_kept}
@@ -13,7 +13,8 @@ returns-then-not-are_owed_within-clause-exact c n is =
     let rows : c.deref.result.now ≡ c.args.book.now.rows =
     c.deref.ensures.value ∙ ap (λ (s : State). s.rows) c.book.view_is in
     subst IsTrue c.if-not-are_owed_within.true
-    (c.are_owed_within.ensures.exact (λ p small. subst (λ (r : List Sums). sum_at (λ (row : Sums). row.owed) p r
+    (c.are_owed_within.ensures.exact
+    (λ p small. subst (λ (r : List Instalment). sum_at (λ (row : Instalment). row.owed) p r
     ≤ most_kept) (sym rows) (is.owed p)))
 
 pub returns-clause-bounded : goal.returns-clause-bounded
@@ -21,7 +22,7 @@ returns-clause-bounded c n is within =
     let rows : c.deref.result.now ≡ c.args.book.now.rows =
     c.deref.ensures.value ∙ ap (λ (s : State). s.rows) c.book.view_is in
     bounded-from n most_kept c.args.book.now is
-    (λ p small. subst (λ (r : List Sums). sum_at (λ (row : Sums). row.owed) p r ≤ most_kept) rows
+    (λ p small. subst (λ (r : List Instalment). sum_at (λ (row : Instalment). row.owed) p r ≤ most_kept) rows
     (c.are_owed_within.ensures.within c.if-not-are_owed_within.false p small))
     (let overpaid = ap (λ (s : State). s.overpaid) c.book.view_is in
     let refunded = ap (λ (s : State). s.refunded) c.book.view_is in

@@ -1,5 +1,5 @@
 use Rattle.std.proofs.Common.{◌<◌, ◌^◌, ◌∙◌, List, ap, subst, sym}
-use Rattle.mf_alloc.specs.Sums.{Sums}
+use Rattle.mf_alloc.specs.Sums.{Instalment}
 use Rattle.mf_account.specs.declared.entry.Entry.{Entry}
 use Rattle.mf_account.specs.Balance.{sum_repaid}
 use Rattle.mf_account.proofs.StatusLemmas.{is_refunded, paid_of, overpaid-refunded, overpaid-kept, repaid-room}
@@ -17,7 +17,7 @@ returns-in_err-brought-clause-some c loan sound entries rows none =
 
 pub returns-in_err-used-clause-some : goal.returns-in_err-used-clause-some
 returns-in_err-used-clause-some c loan sound entries rows none =
-    c.paid.ensures.some (subst (λ (x : List Sums). paid_of x < 2 ^ 64) (sym rows) (paid-room loan sound))
+    c.paid.ensures.some (subst (λ (x : List Instalment). paid_of x < 2 ^ 64) (sym rows) (paid-room loan sound))
     c.in_err-used.was
 
 pub returns-clause-value : goal.returns-clause-value

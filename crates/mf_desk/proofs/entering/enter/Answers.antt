@@ -3,7 +3,7 @@ use Rattle.std.proofs.Common.{rules}
 use Rattle.mf_base.specs.declared.fault.Fault.{Fault}
 use Rattle.mf_office.specs.declared.caller.Caller.{Caller}
 use Rattle.mf_account.specs.declared.entry.Entry.{Entry}
-use Rattle.mf_account.specs.Loan.{Loan as Running}
+use Rattle.mf_account.specs.Loan.{DisbursedLoan}
 use Rattle.mf_account.specs.Refusals.{refusal_of, HasForm}
 use Rattle.mf_model.specs.Loans.{fault_or}
 use Rattle.mf_model.specs.declared.commit.Commit.TheVariants.{AddEntry}
@@ -16,7 +16,7 @@ use Rattle.mf_desk.specs.Entries.{IsAskedInRange, first_of, entry_of}
 use Rattle.mf_desk.proofs.LoanLemmas.{then_entered, then_refused}
 use Rattle.mf_desk.proofs.entering.enter.Goals as goal
 
-is_next : (asked : Asked) (staff : Caller) (today : ℕ) (a : Running) → IsAskedInRange asked
+is_next : (asked : Asked) (staff : Caller) (today : ℕ) (a : DisbursedLoan) → IsAskedInRange asked
     → IsNext a today (entry_of asked staff today a)
 is_next (Repayment asked) staff today a h = record { next = refl; stands = refl; form = (h.0.0, h.0.1, refl, refl) }
 is_next (Posting asked) staff today a h = posting_is_next asked staff today a

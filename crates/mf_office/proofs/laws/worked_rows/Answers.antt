@@ -2,15 +2,15 @@ use Rattle.std.proofs.Common.{◌≡◌, ℕ, true, Some, ◌⊎◌, inl, inr, r
 use Rattle.std.proofs.lemmas.Bool.Decides.{nat_tests}
 use Rattle.mf_office.specs.Numbers.{IsNumberUpTo}
 use Rattle.std.specs.Fmt.{digits}
-use Rattle.mf_office.specs.Tree.{is_within, is_at_or_below, is_there, parent_of, small_tree}
+use Rattle.mf_office.specs.Tree.{is_within, is_at_or_below, is_among, parent_among, small_tree}
 use Rattle.mf_office.specs.Keys.{key_within, key_of}
 use Rattle.mf_office.specs.Texts.{caller_of, account_of}
 use Rattle.mf_office.proofs.laws.worked_rows.Goals as goal
 
-one_of_four : (x : ℕ) → is_there small_tree x ≡ true → (x ≡ 1) ⊎ ((x ≡ 2) ⊎ ((x ≡ 20) ⊎ (x ≡ 5)))
+one_of_four : (x : ℕ) → is_among small_tree x ≡ true → (x ≡ 1) ⊎ ((x ≡ 2) ⊎ ((x ≡ 20) ⊎ (x ≡ 5)))
 one_of_four x h = grind (arith, nat_tests)
 
-by_each : (P : ℕ → Type 0) → P 1 → P 2 → P 20 → P 5 → (x : ℕ) → is_there small_tree x ≡ true → P x
+by_each : (P : ℕ → Type 0) → P 1 → P 2 → P 20 → P 5 → (x : ℕ) → is_among small_tree x ≡ true → P x
 by_each P one two twenty five x h =
     elim (one_of_four x h) [
       | inl e ↦ subst P (sym e) one
@@ -20,8 +20,8 @@ by_each P one two twenty five x h =
       ]
     ]
 
-same_parent : (p q : ℕ) → Some p ≡ Some q → is_there small_tree p ≡ true → is_there small_tree q ≡ true
-same_parent p q e h = let same : p ≡ q = cc in subst (λ (z : ℕ). is_there small_tree z ≡ true) same h
+same_parent : (p q : ℕ) → Some p ≡ Some q → is_among small_tree p ≡ true → is_among small_tree q ≡ true
+same_parent p q e h = let same : p ≡ q = cc in subst (λ (z : ℕ). is_among small_tree z ≡ true) same h
 
 pub returns-clause-tree : goal.returns-clause-tree
 unfolding is_at_or_below is_within
@@ -32,10 +32,10 @@ returns-clause-tree c = record {
         (omega arith, omega arith) (omega arith, omega arith);
     head_there = refl;
     head = refl;
-    parents_there = λ x p here. by_each (λ (z : ℕ). parent_of small_tree z ≡ Some p → is_there small_tree p ≡ true)
+    parents_there = λ x p here. by_each (λ (z : ℕ). parent_among small_tree z ≡ Some p → is_among small_tree p ≡ true)
         (λ e. absurd (cc)) (λ e. same_parent 1 p e refl) (λ e. same_parent 1 p e refl) (λ e. same_parent 2 p e refl) x
         here;
-    all_below = by_each (λ (z : ℕ). is_within 5 (parent_of small_tree) z 1 ≡ true) refl refl refl refl;
+    all_below = by_each (λ (z : ℕ). is_within 5 (parent_among small_tree) z 1 ≡ true) refl refl refl refl;
   };
 }
 

@@ -1,7 +1,7 @@
 use Rattle.std.proofs.Common.{◌≡◌, ℕ, ◌+◌, List, ◌++◌, codes, get_or, take, ap, sym, ◌∙◌, arith, append_assoc}
 use Rattle.std.proofs.lemmas.List.{take_all}
 use Rattle.std.proofs.lemmas.List.Sums.{sum_by_more}
-use Rattle.mf_schedule.specs.declared.instalment.Instalment.{Instalment}
+use Rattle.mf_schedule.specs.declared.instalment.FreshInstalment.{FreshInstalment}
 use Rattle.mf_schedule.specs.Fresh.{total_interest, total_principal}
 use Rattle.mf_schedule.specs.ScheduleText.{amounts_text, row_line, row_lines}
 use Rattle.mf_schedule.proofs.TextLemmas.{row_lines-more}
@@ -13,15 +13,20 @@ loop-place-preserved c =
     let place = c.loop-place.place in
     let row = c.index-rows-place.result in
     let here : row ≡ get_or rows place row = c.index-rows-place.is in
-    let principals = sum_by_more (λ (r : Instalment). r.principal) rows place row (omega arith) in
-    let interests = sum_by_more (λ (r : Instalment). r.interest) rows place row (omega arith) in
+    let principals = sum_by_more (λ (r : FreshInstalment). r.principal) rows place row (omega arith) in
+    let interests = sum_by_more (λ (r : FreshInstalment). r.interest) rows place row (omega arith) in
     record {
       written = c.in_ok-push_row.ensures.ok
           ∙ ap (λ (x : List ℕ). x ++ row_line (place + 1) row) c.loop-place.invariant.written
           ∙ sym (row_lines-more rows place row (omega arith) here);
       principals =
-          omega (arith, principals, ap (λ (r : Instalment). r.principal) here, c.loop-place.invariant.principals);
-      interests = omega (arith, interests, ap (λ (r : Instalment). r.interest) here, c.loop-place.invariant.interests);
+          omega (arith, principals, ap (λ (r : FreshInstalment). r.principal) here, c.loop-place.invariant.principals);
+      interests = omega (
+        arith,
+        interests,
+        ap (λ (r : FreshInstalment). r.interest) here,
+        c.loop-place.invariant.interests,
+      );
       little_principal = omega arith;
       little_interest = omega arith;
     }

@@ -1,7 +1,7 @@
 use Rattle.std.proofs.Common.{ap, is_some}
 use Rattle.std.specs.Prelude.{option_copied}
 use Rattle.mf_store_audit.specs.Offices.{BreaksOffice}
-use Rattle.mf_store_audit.proofs.NoneLemmas.{none_more, none_all}
+use Rattle.mf_store_audit.proofs.PlaceLemmas.{none_more, none_all}
 use Rattle.mf_store_audit.proofs.offices.next_office.Goals as goal
 
 pub loop-place-preserved : goal.loop-place-preserved

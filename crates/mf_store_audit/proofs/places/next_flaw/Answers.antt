@@ -1,7 +1,7 @@
 use Rattle.std.proofs.Common.{refl, subst}
 use Rattle.std.specs.Prelude.{option_copied}
 use Rattle.std.proofs.lemmas.Option.{slice_get_read}
-use Rattle.mf_store_audit.proofs.NoneLemmas.{none_more, none_all}
+use Rattle.mf_store_audit.proofs.PlaceLemmas.{none_more, none_all}
 use Rattle.mf_store_audit.proofs.places.next_flaw.Goals as goal
 
 pub returns-in-Some-clause-at : goal.returns-in-Some-clause-at

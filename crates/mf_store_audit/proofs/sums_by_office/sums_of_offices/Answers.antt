@@ -3,18 +3,18 @@ use Rattle.std.proofs.lemmas.List.{drop_all}
 use Rattle.mf_store_schema.specs.declared.offices.OfficeRow.{OfficeRow}
 use Rattle.mf_store_values.proofs.MadeLemmas.{at_row}
 use Rattle.mf_store_sound.proofs.OfficePartLemmas.{of_client, of_loan, of_entry}
-use Rattle.mf_store_audit.specs.Sums.{sums_of}
+use Rattle.mf_store_audit.specs.Sums.{sums_of_office}
 use Rattle.mf_store_audit.proofs.WalkLemmas.{AreLeft, office_more, no_office_left}
 use Rattle.mf_store_audit.proofs.sums_by_office.sums_of_offices.Goals as goal
 
 pub loop-office-init : goal.loop-office-init
 loop-office-init c k sound e f fs rows =
-    record { fs = fs; rows = rows; whole_is = sym (λ t. c.new-found.ensures.items t ++ map (sums_of k) fs) }
+    record { fs = fs; rows = rows; whole_is = sym (λ t. c.new-found.ensures.items t ++ map (sums_of_office k) fs) }
 
 pub loop-office-preserved : goal.loop-office-preserved
 loop-office-preserved c k sound e f fs rows =
     let l = c.loop-office in
-    let whole = map (sums_of k) fs in
+    let whole = map (sums_of_office k) fs in
     let so_far = subst (λ (os : List OfficeRow). AreLeft k whole os l.clients_left.now l.loans_left.now
     l.entries_left.now l.found.items) (at_row c.args.offices.now l.office-index c.office-item.result
     c.loop-office-test.true c.office-item.is) (l.invariant k sound e f fs rows) in
@@ -31,7 +31,7 @@ loop-office-preserved c k sound e f fs rows =
 pub returns-clause-sums : goal.returns-clause-sums
 returns-clause-sums c k sound e f fs rows =
     let l = c.loop-office in
-    let whole = map (sums_of k) fs in
+    let whole = map (sums_of_office k) fs in
     no_office_left k whole l.clients_left.now l.loans_left.now l.entries_left.now l.found.items
     (subst (λ (os : List OfficeRow). AreLeft k whole os l.clients_left.now l.loans_left.now l.entries_left.now
     l.found.items) (drop_all l.office-index c.args.offices.now c.loop-office-test.false)

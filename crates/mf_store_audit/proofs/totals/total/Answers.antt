@@ -1,6 +1,6 @@
 use Rattle.std.proofs.Common.{◌∙◌, ap, subst, sym}
 use Rattle.std.proofs.lemmas.List.{take_all}
-use Rattle.mf_store_audit.specs.Sums.{Fit, total_of, IsBalanced}
+use Rattle.mf_store_audit.specs.Sums.{Fit, sums_of_all, IsBalanced}
 use Rattle.mf_store_audit.proofs.BalancedLemmas.{total_balanced}
 use Rattle.mf_store_audit.proofs.FitLemmas.{total_more, no_room}
 use Rattle.mf_store_audit.proofs.totals.total.Goals as goal
@@ -23,11 +23,11 @@ returns-in_err-all-clause-value c =
 
 pub returns-clause-value : goal.returns-clause-value
 returns-clause-value c =
-    let is = c.loop-office.invariant.all ∙ ap total_of (take_all c.loop-office.office-index c.args.offices.now
+    let is = c.loop-office.invariant.all ∙ ap sums_of_all (take_all c.loop-office.office-index c.args.offices.now
     c.loop-office-test.false) in
     (subst Fit is c.loop-office.invariant.room, is)
 
 pub returns-clause-balanced : goal.returns-clause-balanced
 returns-clause-balanced c each =
-    subst IsBalanced (sym (c.loop-office.invariant.all ∙ ap total_of (take_all c.loop-office.office-index
+    subst IsBalanced (sym (c.loop-office.invariant.all ∙ ap sums_of_all (take_all c.loop-office.office-index
     c.args.offices.now c.loop-office-test.false))) (total_balanced c.args.offices.now each)

@@ -1,6 +1,6 @@
 use Rattle.std.proofs.Common.{◌+◌, ℕ, ap, ◌∙◌, ◌++◌, ◌∷◌, [], get_or}
 use Rattle.std.proofs.lemmas.List.{get_or_default}
-use Rattle.mf_account.specs.declared.settled.Settled.{Settled}
+use Rattle.mf_account.specs.declared.settled.SettledPart.{SettledPart}
 use Rattle.mf_account.specs.Applicable.{no_settled}
 use Rattle.mf_store_schema.specs.declared.shares.ShareRow.{ShareRow}
 use Rattle.mf_store_schema.specs.declared.writes.StoreWrite.TheVariants.{PutShare}
@@ -18,7 +18,8 @@ loop-part-preserved c =
     before.place in
     record {
       place = ap (λ n. n + 1) before.place;
-      writes = numbered_pushed (λ (placed : ℕ × (ℕ × Settled)). PutShare (share_in c.args.office c.args.loan placed))
+      writes = numbered_pushed (λ (placed : ℕ × (ℕ × SettledPart)). PutShare
+          (share_in c.args.office c.args.loan placed))
           (λ place s. (c.args.seq, (place, s))) parts at part c.args.writes.now.items c.loop-part.writes.items _
           c.loop-part-test.true
           (get_or_default parts at no_settled part c.loop-part-test.true) (c.in_ok-push.ensures.items

@@ -1,5 +1,5 @@
 use Rattle.std.proofs.Common.{◌+◌, ℕ, ap, ◌∙◌, ◌++◌, ◌∷◌, []}
-use Rattle.mf_alloc.specs.Sums.{Sums}
+use Rattle.mf_alloc.specs.Sums.{Instalment}
 use Rattle.mf_store_schema.specs.declared.instalments.InstalmentRow.{InstalmentRow}
 use Rattle.mf_store_schema.specs.declared.writes.StoreWrite.TheVariants.{PutInstalment}
 use Rattle.mf_store_values.specs.Flat.{instalment_in}
@@ -15,7 +15,7 @@ loop-row-preserved c =
     let put = c.in_ok-put.ensures.row ∙ ap (λ n. instalment_in office loan (n + 1, row)) before.number in
     record {
       number = ap (λ n. n + 1) before.number;
-      writes = numbered_pushed (λ (item : ℕ × Sums). PutInstalment (instalment_in office loan item))
+      writes = numbered_pushed (λ (item : ℕ × Instalment). PutInstalment (instalment_in office loan item))
           (λ n r. (n, r)) c.args.rows.now c.loop-row.row-index row c.args.writes.now.items c.loop-row.writes.items _
           c.loop-row-test.true c.row-item.is
           (c.in_ok-push.ensures.items ∙ ap (λ (r : InstalmentRow). c.loop-row.writes.items ++ PutInstalment r ∷ []) put)

@@ -27,7 +27,7 @@ returns-clause-carries c i sound admitted =
     let entry = handed.entries.0 in
     let one_more : entries ≡ of.ledger.entries ++ entry ∷ [] =
     handed.entries.1 ∙ ap (λ (es : List Entry). es ++ entry ∷ []) of.entries in
-    let last = entry_last loan account entry of.ledger i admitted.sound of.there one_more in
+    let last = entry_last loan account of.ledger i admitted.sound of.there entry one_more in
     let apart = entry_apart loan account of.ledger i admitted.sound of.there in
     let changed = handed_changed loan account handed.before i sound admitted.sound of handed.others
     (longer handed.before.entries entries entry handed.entries.1) handed.kept handed.change in

@@ -8,7 +8,7 @@ use Rattle.mf_store_sql.specs.Columns.{Number, Text as OfText}
 use Rattle.mf_store_sql.specs.Queries.{Answers}
 use Rattle.mf_store_schema.specs.Keys.{number_and_text}
 use Rattle.mf_store_schema.specs.ReceiptsTexts.{kept, fits, ordered}
-use Rattle.mf_store_schema.specs.Rows.{receipt_row, by_receipt, is_receipt, put_receipt}
+use Rattle.mf_store_schema.specs.Rows.{receipt_row, by_receipt, is_row_of_receipt, put_receipt}
 use Rattle.mf_store_schema.specs.Tables.{schema, receipts}
 use Rattle.mf_store_schema.proofs.CallLemmas.{first_is}
 use Rattle.mf_store_schema.proofs.PutLemmas.{showing}
@@ -27,9 +27,9 @@ returns-clause-row g c clean lists keeping =
     let shows = rw (c.params-to_sql.ensures, c.params-to_sql-2.ensures) at (c.in_ok-rows.ensures.shows clean) in
     let are = showing receipts 8 17 receipt_row by_receipt (λ l. l.receipts) put_receipt ordered fits kept
     (λ trees l holds. holds.all.1.1.1.1.1.1.1.1.0) (λ x l trees all. all) 2 kept.finds kept.always given
-    ((Number, refl, (office, refl)), ((OfText, refl, (receipt, refl)), tt)) (is_receipt office receipt)
+    ((Number, refl, (office, refl)), ((OfText, refl, (receipt, refl)), tt)) (is_row_of_receipt office receipt)
     (λ x. ap is_eq (number_and_text office receipt x.office x.receipt)) lists s.now c.in_ok-rows.rows.items
     (keeping shows.is_open)
     (subst (λ sql. Answers sql given s.now c.in_ok-rows.rows.items) c.find_text.ensures shows.answers) in
-    IfOk-weaker c.first.result _ _ (λ x reads. first_is receipt_row (is_receipt office receipt) lists.receipts
+    IfOk-weaker c.first.result _ _ (λ x reads. first_is receipt_row (is_row_of_receipt office receipt) lists.receipts
     c.in_ok-rows.rows.items x are (λ rs e. reads rs (c.deref.ensures.value ∙ e))) c.first.ensures.row

@@ -6,12 +6,12 @@ use Rattle.mf_store_sound.proofs.callers.is_there.Goals as goal
 
 pub returns-in-Ok : goal.returns-in-Ok
 returns-in-Ok c fs up are =
-    let by_key = c.in-Ok.ensures.position (λ (r : StaffRow). (r.office, r.number))
-    (answers_always _ _ _ (λ f a r g called. search rules)) in
-    found_staff c.args.office c.args.number fs up c.args.staff.now are c.in-Ok.field-0 c.in-Ok.ensures.bound by_key
+    found_staff c.args.office c.args.number fs up c.args.staff.now are _ c.in-Ok.ensures.bound
+    (c.in-Ok.ensures.position (λ (r : StaffRow). (r.office, r.number)) (answers_always _ _ _ (λ f a r g called.
+    search rules)))
 
 pub returns-in-Err : goal.returns-in-Err
 returns-in-Err c fs up are =
-    let by_key = c.in-Err.ensures.position (λ (r : StaffRow). (r.office, r.number))
-    (answers_always _ _ _ (λ f a r g called. search rules)) in
-    absent_staff c.args.office c.args.number fs up c.args.staff.now are c.in-Err.field-0 c.in-Err.ensures.bound by_key
+    absent_staff c.args.office c.args.number fs up c.args.staff.now are _ c.in-Err.ensures.bound
+    (c.in-Err.ensures.position (λ (r : StaffRow). (r.office, r.number)) (answers_always _ _ _ (λ f a r g called.
+    search rules)))

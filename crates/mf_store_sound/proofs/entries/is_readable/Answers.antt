@@ -1,4 +1,4 @@
-use Rattle.std.proofs.Common.{◌≡◌, ◌∙◌, Option, Some, None, IsTrue, sym, ap, true≢false}
+use Rattle.std.proofs.Common.{◌∙◌, Option, Some, None, IsTrue, sym, ap, true≢false}
 use Rattle.std.specs.Option.{IfSome, is_some}
 use Rattle.mf_store_values.specs.Decoded.{entry_of_columns}
 use Rattle.mf_store_sound.proofs.entries.is_readable.Goals as goal

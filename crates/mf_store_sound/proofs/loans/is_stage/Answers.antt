@@ -4,13 +4,9 @@ use Rattle.mf_store_sound.proofs.loans.is_stage.Goals as goal
 pub returns-in-200-Some-None : goal.returns-in-200-Some-None
 returns-in-200-Some-None c =
     let a = c.in-200-Some-None in
-    let row = c.args.row.now in
-    approved_is c.args.today row.stage row.approved row.disbursed _ c.is_approval.result a.is-0 a.is-1 a.is-2
-    c.is_approval.ensures
+    rw (a.is-0, a.is-1, a.is-2) (approved_is c.args.today _ _ c.is_approval.ensures)
 
 pub returns-in-300-Some-Some : goal.returns-in-300-Some-Some
 returns-in-300-Some-Some c =
     let a = c.in-300-Some-Some in
-    let row = c.args.row.now in
-    disbursed_is c.args.today row.stage row.approved row.disbursed _ _ c.is_disbursal.result a.is-0 a.is-1 a.is-2
-    c.is_disbursal.ensures
+    rw (a.is-0, a.is-1, a.is-2) (disbursed_is c.args.today _ _ _ c.is_disbursal.ensures)

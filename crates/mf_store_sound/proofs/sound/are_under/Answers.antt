@@ -1,5 +1,6 @@
-use Rattle.std.proofs.Common.{◌↔◌, ◌∙◌, IsTrue, false, refl, sym, true≢false}
+use Rattle.std.proofs.Common.{◌↔◌, ◌∙◌, IsTrue, false, refl, sym, ap, true≢false}
 use Rattle.std.proofs.lemmas.Result.{IfOk-weaker}
+use Rattle.mf_store_schema.specs.Rows.{Lists}
 use Rattle.mf_store_sound.specs.Sound.{AreUnder}
 use Rattle.mf_store_sound.proofs.SoundLemmas.{day_of, charges_part, charges_are, products_part, products_are}
 use Rattle.mf_store_sound.proofs.SoundLemmas.{offices_part, offices_parts, staff_are, callers_part, under_is}
@@ -9,46 +10,26 @@ use Rattle.mf_store_sound.proofs.sound.are_under.Goals as goal
 
 pub returns-then-not-are_numbered-clause-exact : goal.returns-then-not-are_numbered-clause-exact
 returns-then-not-are_numbered-clause-exact c =
-    of_parts (λ t. IsTrue false ↔ AreUnder c.args.schema t) c.args.tables.now _ c.tables.view_is
-    c.as_slice-meta.result.now c.as_slice-offices.result.now c.as_slice-staff.result.now c.as_slice-clients.result.now
-    c.as_slice-charges.result.now c.as_slice-products.result.now c.as_slice-loans.result.now
-    c.as_slice-entries.result.now c.as_slice-receipts.result.now _ _
-    c.as_slice-meta.ensures.value c.as_slice-offices.ensures.value c.as_slice-staff.ensures.value
-    c.as_slice-clients.ensures.value c.as_slice-charges.ensures.value c.as_slice-products.ensures.value
-    c.as_slice-loans.ensures.value c.as_slice-entries.ensures.value c.as_slice-receipts.ensures.value refl refl
-    (no_answer (λ h. refuses c.are_numbered.result c.if-not-are_numbered.true (c.are_numbered.ensures tt)
-    (charges_part _ _ h)))
+    let charges = c.as_slice-charges.ensures.value ∙ ap (λ (l : Lists). l.charges) c.tables.view_is in
+    no_answer (λ h. refuses c.are_numbered.result c.if-not-are_numbered.true (c.are_numbered.ensures tt)
+    (rw charges (charges_part _ _ h)))
 
 pub returns-then-not-are_numbered-2-clause-exact : goal.returns-then-not-are_numbered-2-clause-exact
 returns-then-not-are_numbered-2-clause-exact c =
-    of_parts (λ t. IsTrue false ↔ AreUnder c.args.schema t) c.args.tables.now _ c.tables.view_is
-    c.as_slice-meta.result.now c.as_slice-offices.result.now c.as_slice-staff.result.now c.as_slice-clients.result.now
-    c.as_slice-charges.result.now c.as_slice-products.result.now c.as_slice-loans.result.now
-    c.as_slice-entries.result.now c.as_slice-receipts.result.now _ _
-    c.as_slice-meta.ensures.value c.as_slice-offices.ensures.value c.as_slice-staff.ensures.value
-    c.as_slice-clients.ensures.value c.as_slice-charges.ensures.value c.as_slice-products.ensures.value
-    c.as_slice-loans.ensures.value c.as_slice-entries.ensures.value c.as_slice-receipts.ensures.value refl refl
-    (no_answer (λ h. refuses c.are_numbered-2.result c.if-not-are_numbered-2.true
-    (c.are_numbered-2.ensures (h.institution.catalogue, charges_are _ _ h)) (products_part _ _ h)))
+    let charges = c.as_slice-charges.ensures.value ∙ ap (λ (l : Lists). l.charges) c.tables.view_is in
+    let products = c.as_slice-products.ensures.value ∙ ap (λ (l : Lists). l.products) c.tables.view_is in
+    no_answer (λ h. refuses c.are_numbered-2.result c.if-not-are_numbered-2.true (c.are_numbered-2.ensures
+    (h.institution.catalogue, charges_are _ _ h ∙ sym charges)) (rw products (products_part _ _ h)))
 
 pub returns-then-not-branch-clause-exact : goal.returns-then-not-branch-clause-exact
 returns-then-not-branch-clause-exact c =
-    of_parts (λ t. IsTrue false ↔ AreUnder c.args.schema t) c.args.tables.now _ c.tables.view_is
-    c.as_slice-meta.result.now c.as_slice-offices.result.now c.as_slice-staff.result.now c.as_slice-clients.result.now
-    c.as_slice-charges.result.now c.as_slice-products.result.now c.as_slice-loans.result.now
-    c.as_slice-entries.result.now c.as_slice-receipts.result.now _ _
-    c.as_slice-meta.ensures.value c.as_slice-offices.ensures.value c.as_slice-staff.ensures.value
-    c.as_slice-clients.ensures.value c.as_slice-charges.ensures.value c.as_slice-products.ensures.value
-    c.as_slice-loans.ensures.value c.as_slice-entries.ensures.value c.as_slice-receipts.ensures.value refl refl
-    (no_answer (λ h. refuses c.in_ok-are_offices.field-0 c.if-not-branch.true (c.in_ok-are_offices.ensures
-    {u = tt}).offices (offices_part _ _ h)))
+    let offices = c.as_slice-offices.ensures.value ∙ ap (λ (l : Lists). l.offices) c.tables.view_is in
+    no_answer (λ h. refuses c.in_ok-are_offices.field-0 c.if-not-branch.true (c.in_ok-are_offices.ensures
+    {u = tt}).offices (rw offices (offices_part _ _ h)))
 
 pub returns-then-not-are_office_parts-clause-exact : goal.returns-then-not-are_office_parts-clause-exact
 returns-then-not-are_office_parts-clause-exact c =
-    of_parts (λ t. IsTrue false ↔ AreUnder c.args.schema t) c.args.tables.now _ c.tables.view_is
-    c.as_slice-meta.result.now c.as_slice-offices.result.now c.as_slice-staff.result.now c.as_slice-clients.result.now
-    c.as_slice-charges.result.now c.as_slice-products.result.now c.as_slice-loans.result.now
-    c.as_slice-entries.result.now c.as_slice-receipts.result.now _ _
+    of_parts (λ t. IsTrue false ↔ AreUnder c.args.schema t) c.args.tables.now _ c.tables.view_is _ _ _ _ _ _ _ _ _ _ _
     c.as_slice-meta.ensures.value c.as_slice-offices.ensures.value c.as_slice-staff.ensures.value
     c.as_slice-clients.ensures.value c.as_slice-charges.ensures.value c.as_slice-products.ensures.value
     c.as_slice-loans.ensures.value c.as_slice-entries.ensures.value c.as_slice-receipts.ensures.value refl refl
@@ -59,24 +40,15 @@ returns-then-not-are_office_parts-clause-exact c =
 
 pub returns-then-not-are_by_staff-clause-exact : goal.returns-then-not-are_by_staff-clause-exact
 returns-then-not-are_by_staff-clause-exact c =
-    of_parts (λ t. IsTrue false ↔ AreUnder c.args.schema t) c.args.tables.now _ c.tables.view_is
-    c.as_slice-meta.result.now c.as_slice-offices.result.now c.as_slice-staff.result.now c.as_slice-clients.result.now
-    c.as_slice-charges.result.now c.as_slice-products.result.now c.as_slice-loans.result.now
-    c.as_slice-entries.result.now c.as_slice-receipts.result.now _ _
-    c.as_slice-meta.ensures.value c.as_slice-offices.ensures.value c.as_slice-staff.ensures.value
-    c.as_slice-clients.ensures.value c.as_slice-charges.ensures.value c.as_slice-products.ensures.value
-    c.as_slice-loans.ensures.value c.as_slice-entries.ensures.value c.as_slice-receipts.ensures.value refl refl
-    (no_answer (λ h. absurd (true≢false (sym (callers_part _ _ h) ∙ sym (c.are_by_staff.ensures h.institution.offices
-    h.sound.tree.ascending (staff_are _ _ h)) ∙ c.if-not-are_by_staff.true))))
+    let staff = c.as_slice-staff.ensures.value ∙ ap (λ (l : Lists). l.staff) c.tables.view_is in
+    let entries = c.as_slice-entries.ensures.value ∙ ap (λ (l : Lists). l.entries) c.tables.view_is in
+    no_answer (λ h. absurd (true≢false (sym (rw entries (callers_part _ _ h)) ∙ sym (c.are_by_staff.ensures
+    h.institution.offices h.sound.tree.ascending (staff_are _ _ h ∙ sym staff)) ∙ c.if-not-are_by_staff.true)))
 
 pub returns-clause-exact : goal.returns-clause-exact
 returns-clause-exact c =
-    IfOk-weaker c.are_receipts.result _ (λ answer. IsTrue answer ↔ AreUnder c.args.schema c.args.tables.now)
-    (λ answer told.
-    of_parts (λ t. IsTrue answer ↔ AreUnder c.args.schema t) c.args.tables.now _ c.tables.view_is
-    c.as_slice-meta.result.now c.as_slice-offices.result.now c.as_slice-staff.result.now c.as_slice-clients.result.now
-    c.as_slice-charges.result.now c.as_slice-products.result.now c.as_slice-loans.result.now
-    c.as_slice-entries.result.now c.as_slice-receipts.result.now _ _
+    IfOk-weaker c.are_receipts.result _ _ (λ answer told.
+    of_parts (λ t. IsTrue answer ↔ AreUnder c.args.schema t) c.args.tables.now _ c.tables.view_is _ _ _ _ _ _ _ _ _ _ _
     c.as_slice-meta.ensures.value c.as_slice-offices.ensures.value c.as_slice-staff.ensures.value
     c.as_slice-clients.ensures.value c.as_slice-charges.ensures.value c.as_slice-products.ensures.value
     c.as_slice-loans.ensures.value c.as_slice-entries.ensures.value c.as_slice-receipts.ensures.value refl refl

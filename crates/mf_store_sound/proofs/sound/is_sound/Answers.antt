@@ -1,24 +1,17 @@
 use Rattle.std.proofs.Common.{◌↔◌, IsTrue, refl}
 use Rattle.std.proofs.lemmas.Result.{IfOk-weaker}
 use Rattle.mf_store_values.specs.Accounts.{AreAccounts}
-use Rattle.mf_store_values.proofs.AnswerLemmas.{refuses, no_answer}
-use Rattle.mf_store_sound.specs.Sound.{AreOfSound}
 use Rattle.mf_store_sound.proofs.TableLemmas.{of_parts}
-use Rattle.mf_store_sound.proofs.WholeLemmas.{Told, under_of_whole, whole_is}
+use Rattle.mf_store_sound.proofs.WholeLemmas.{Told, whole_is}
 use Rattle.mf_store_sound.proofs.sound.is_sound.Goals as goal
-
-pub returns-then-not-branch-clause-exact : goal.returns-then-not-branch-clause-exact
-returns-then-not-branch-clause-exact c = no_answer (λ h. refuses c.in_ok-are_under.field-0 c.if-not-branch.true
-    (c.in_ok-are_under.ensures {u = tt}).exact (under_of_whole c.args.tables.now h))
 
 pub returns-clause-exact : goal.returns-clause-exact
 returns-clause-exact c =
-    IfOk-weaker c.are_accounts.result _ (λ answer. IsTrue answer ↔ AreOfSound c.args.tables.now) (λ answer told.
+    IfOk-weaker c.are_accounts.result _ _ (λ answer told.
     whole_is c.args.tables.now (IsTrue answer) ((c.in_ok-are_under.ensures {u = tt}).exact.0 c.if-not-branch.false)
     (
     of_parts (Told (λ instalments shares k ps. IsTrue answer ↔ AreAccounts k ps instalments shares)) c.args.tables.now
-    _ c.tables.view_is _ _ _ _ c.deref.result.now c.deref-2.result.now c.deref-3.result.now c.deref-4.result.now _
-    c.deref-5.result.now c.deref-6.result.now
+    _ c.tables.view_is _ _ _ _ _ _ _ _ _ _ _
     refl refl refl refl c.deref.ensures.value c.deref-2.ensures.value c.deref-3.ensures.value c.deref-4.ensures.value
     refl c.deref-5.ensures.value c.deref-6.ensures.value told
     )) c.are_accounts.ensures.accounts

@@ -1,10 +1,10 @@
-use Rattle.std.proofs.Common.{◌≡◌, false, ℕ, List, []}
+use Rattle.std.proofs.Common.{◌≡◌, false, List}
 use Rattle.sqlite.specs.Order.{Row}
-use Rattle.sqlite.specs.Given.{HasGiven}
-use Rattle.sqlite.specs.State.{HasCleanDisk, IsUnchanged, Survives}
+use Rattle.sqlite.specs.State.{HasCleanDisk, Survives}
 use Rattle.sqlite.specs.Held.{state}
 use Rattle.mf_store_values.specs.Folding.{IsKept}
 use Rattle.mf_store_values.proofs.FoldLemmas.{Tells}
+use Rattle.mf_store_values.proofs.RowsLemmas.{SoFar}
 use Rattle.mf_store_values.proofs.fold.fold_instalments.Given as goal
 
 abbrev pub invariant-rows : goal.invariant-rows
@@ -13,9 +13,7 @@ invariant-rows g l = record {
   survives : Survives (state g.S.Store l.initial.rows.conn.now) (state g.S.Store l.rows.conn.now) (λ _. ⊥);
   kept : HasCleanDisk (state g.S.Store l.rows.conn.now) → IsKept g.S.Store l.initial.rows.conn.now l.rows.conn.now;
   mode : l.initial.rows.conn.now.in_transaction ≡ false → l.rows.conn.now.in_transaction ≡ false;
-  given : (taken : List Row)
-      × (HasCleanDisk (state g.S.Store l.rows.conn.now) → (sql : List ℕ) (params : Row)
-      → HasGiven g.S.Store sql params l.initial.rows.conn.now [] → HasGiven g.S.Store sql params l.rows.conn.now
-      taken × IsUnchanged (state g.S.Store l.initial.rows.conn.now) (state g.S.Store l.rows.conn.now))
-      × Tells l.day taken l.initial.line l.read l.line;
+  taken : List Row;
+  given : SoFar g.S.Store l.initial.rows.conn.now l.rows.conn.now taken;
+  tells : Tells l.day taken l.initial.line l.read l.line;
 }

@@ -1,13 +1,20 @@
-use Rattle.std.proofs.Common.{◌∙◌, rules}
+use Rattle.std.proofs.Common.{sym, ◌∙◌, rules}
 use Rattle.std.proofs.lemmas.Int.{to_z-of_z}
 use mir.Syntax.{w64}
-use mir.Val.{SFits}
-use Rattle.mf_store_values.proofs.LoanLemmas.{loan_is}
+use Rattle.mf_store_values.proofs.CatalogueLemmas.{amount_is}
 use Rattle.mf_store_values.proofs.loans.loan_from.Goals as goal
 
 pub returns-clause-loan : goal.returns-clause-loan
 returns-clause-loan c office number l are =
-    let fits : SFits w64 c.args.row.principal = search rules in
-    loan_is c.args.row c.in_ok-client.client c.in_ok-principal.principal c.in_ok-stage.stage office number l are
-    c.in_ok-client.ensures.number (c.in_ok-principal.ensures.amount ∙ to_z-of_z w64 c.args.row.principal fits)
-    c.in_ok-stage.ensures.stage
+    let client = c.in_ok-client.ensures.number ∙ (λ t. (are t).client) in
+    let principal = amount_is c.in_ok-principal.principal l.principal (c.in_ok-principal.ensures.amount
+    ∙ to_z-of_z w64 c.args.row.principal (search rules) ∙ (λ t. (are t).principal)) in
+    let stage = c.in_ok-stage.ensures.stage l.stage (λ t. (sym are t).stage)
+    (λ t. (sym are t).approved) (λ t. (sym are t).disbursed) in
+    λ t. record {
+      client = client t;
+      product = (are t).product;
+      principal = principal t;
+      periods = (are t).periods;
+      stage = stage t;
+    }

@@ -1,9 +1,7 @@
-use Rattle.std.proofs.Common.{◌≡◌, rules, List, OnOk}
-use Rattle.sqlite.specs.Order.{Row}
+use Rattle.std.proofs.Common.{◌≡◌, rules}
 use Rattle.sqlite.specs.Held.{state}
-use Rattle.sqlite.specs.State.{HasCleanDisk, Shown}
+use Rattle.sqlite.specs.State.{HasCleanDisk}
 use Rattle.sqlite.specs.Values.{bound}
-use Rattle.mf_store_values.specs.Arrears.{IsLineOf}
 use Rattle.mf_store_sql.proofs.QueryLemmas.{refused_same}
 use Rattle.mf_store_values.proofs.RowsLemmas.{folded_line, folded_sums}
 use Rattle.mf_store_values.specs.declared.fold.NoLine.TheVariants.{Unread, TooGreat}
@@ -13,12 +11,10 @@ pub returns-in-Ok-clause-line : goal.returns-in-Ok-clause-line
 returns-in-Ok-clause-line g c clean plain =
     let new = c.fold_instalments.new.rows.conn.now in
     let late : HasCleanDisk (state g.S.Store new) = search rules in
-    let told : OnOk c.fold_instalments.result ((taken : List Row) × Shown c.args.sql.now (bound c.args.params.now)
-    (state g.S.Store c.args.connection.now) (state g.S.Store new) taken
-    × IsLineOf c.args.today taken c.args.line.now c.fold_instalments.new.line) =
-    folded_line g.S.Store c.args.today c.args.sql.now (bound c.args.params.now) c.args.connection.now
-    c.in-Ok.rows.conn.now new c.args.line.now c.fold_instalments.new.line c.fold_instalments.result plain
-    c.in-Ok.ensures.begun c.fold_instalments.ensures.survives c.fold_instalments.ensures.folds late in
+    let told =
+    folded_line g.S.Store c.args.sql.now (bound c.args.params.now) c.args.connection.now c.in-Ok.rows.conn.now new plain
+    c.in-Ok.ensures.begun c.fold_instalments.ensures.survives late c.args.today c.args.line.now
+    c.fold_instalments.new.line c.fold_instalments.result c.fold_instalments.ensures.folds in
     search rules
 
 pub returns-in-Err-clause-same : goal.returns-in-Err-clause-same
@@ -31,9 +27,9 @@ pub returns-in-Ok-clause-sums : goal.returns-in-Ok-clause-sums
 returns-in-Ok-clause-sums g c clean plain =
     let new = c.fold_instalments.new.rows.conn.now in
     let late : HasCleanDisk (state g.S.Store new) = search rules in
-    folded_sums g.S.Store c.args.sql.now (bound c.args.params.now) c.args.connection.now c.in-Ok.rows.conn.now new
-    c.args.line.now c.fold_instalments.result plain c.in-Ok.ensures.begun c.fold_instalments.ensures.survives
-    c.fold_instalments.ensures.sums late
+    folded_sums g.S.Store c.args.sql.now (bound c.args.params.now) c.args.connection.now c.in-Ok.rows.conn.now new plain
+    c.in-Ok.ensures.begun c.fold_instalments.ensures.survives late c.args.line.now c.fold_instalments.result
+    c.fold_instalments.ensures.sums
 
 pub returns-in-Err-clause-sums : goal.returns-in-Err-clause-sums
 returns-in-Err-clause-sums g c clean plain great = absurd (let never : Unread ≡ TooGreat = great in cc)

@@ -1,4 +1,4 @@
-use Rattle.std.proofs.Common.{◌≡◌, ◌++◌, ◌∙◌, map, length}
+use Rattle.std.proofs.Common.{◌++◌, ◌∙◌, map, length}
 use Rattle.std.proofs.lemmas.Result.{on_ok_weaker}
 use Rattle.mf_account.specs.Change.{settled_in}
 use Rattle.mf_store_values.specs.Flat.{share_in, parts_from}
@@ -9,8 +9,7 @@ use Rattle.mf_store_values.proofs.shares.add_shares.Goals as goal
 pub returns-clause-added : goal.returns-clause-added
 returns-clause-added c =
     let by = c.in_ok-parts.ensures {u = tt} in
-    let is : placed_from 0 0 c.deref.result.now ≡ parts_from (λ seq. settled_in seq c.args.account.now.settled) 1
-    (length c.args.account.now.loan.entries) =
+    let is =
     (λ t. placed_from 0 0 (c.deref.ensures.value t)) ∙ placed_is (length c.args.account.now.loan.entries)
     c.settled_parts.result.now c.in_ok-parts.parts.items c.settled_parts.ensures.numbers by.permutation by.sorted
     by.same

@@ -5,7 +5,7 @@ ghost use Rattle.mf_base.specs.DayText.{last_entered_day};
 ghost use Rattle.mf_schedule.specs.Fresh.{IsLoanWithinLimits};
 ghost use Rattle.mf_account.specs.Standing.{entry_at};
 
-use mf_account::{Entry, Kind, Loan, LoanAccount};
+use mf_account::{DisbursedLoan, Entry, Kind, LoanAccount};
 use mf_alloc::Portion;
 use mf_base::{Day, Fault, Freq};
 use mf_catalog::{Method, StrategyName, Terms};
@@ -85,7 +85,7 @@ impl OpenLoan {
         if business_day < first {
             return Err(Fault::F17);
         }
-        let loan = Loan {
+        let loan = DisbursedLoan {
             terms: terms(),
             principal: 100000,
             periods: 3,
@@ -101,7 +101,7 @@ impl OpenLoan {
 
     /// Takes steps, and gives what is told: by a refused one the number of its refusal, by one that reads what it
     /// reads.
-    pub fn told(&mut self, alloc: Global, steps: &[Step]) -> Result<String, Fault> {
+    pub fn tell(&mut self, alloc: Global, steps: &[Step]) -> Result<String, Fault> {
         let mut text = String::new(alloc);
         for step in steps {
             match self.tell(alloc, *step, &mut text) {

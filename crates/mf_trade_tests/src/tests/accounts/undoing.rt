@@ -19,9 +19,9 @@ fn assert_told_after(
 ) -> Result<(), Fail> {
     let mut loan = OpenLoan::new(alloc)?;
     for _ in 0..cents {
-        loan.told(alloc, &[CENT])?;
+        loan.tell(alloc, &[CENT])?;
     }
-    let told = loan.told(alloc, steps)?;
+    let told = loan.tell(alloc, steps)?;
     assert_eq!(rt; told.as_str(), expected);
     Ok(())
 }

@@ -11,7 +11,7 @@ use std::process::Abort;
 use std::test::Fail;
 
 /// Whether the stream was answered, and what was written.
-fn served(
+fn serve(
     alloc: Global,
     desk: &Desk,
     books: &mut Books,
@@ -37,7 +37,7 @@ fn gives_up_before_reading(rt: HostRuntime) -> Result<(), Fail> {
     let alloc = rt.alloc();
     let desk = Desk::new(alloc)?;
     let mut books = new_books(alloc)?;
-    let (answered, written) = served(alloc, &desk, &mut books, CLIENT.as_bytes())?;
+    let (answered, written) = serve(alloc, &desk, &mut books, CLIENT.as_bytes())?;
     assert!(rt; answered);
     assert_eq!(rt; written.as_slice(), CREATED.as_bytes());
     let line = b"1/1 POST /clients {\"office\":1,\"name\":\"Amina\"}\n";
@@ -55,7 +55,7 @@ fn assert_response(
 ) -> Result<(), Fail> {
     let desk = Desk::new(alloc)?;
     let mut books = new_books(alloc)?;
-    let (answered, written) = served(alloc, &desk, &mut books, stream)?;
+    let (answered, written) = serve(alloc, &desk, &mut books, stream)?;
     assert!(rt; answered);
     let length = body.len();
     let sent = if is_sent { body } else { "" };
@@ -228,7 +228,7 @@ fn a_stream_without_a_byte(rt: HostRuntime) -> Result<(), Fail> {
     let alloc = rt.alloc();
     let desk = Desk::new(alloc)?;
     let mut books = new_books(alloc)?;
-    let (answered, written) = served(alloc, &desk, &mut books, b"")?;
+    let (answered, written) = serve(alloc, &desk, &mut books, b"")?;
     assert!(rt; !answered);
     assert!(rt; written.is_empty());
     assert_no_client(&rt, alloc, &mut books);
@@ -242,7 +242,7 @@ fn one_message_a_connection(rt: HostRuntime) -> Result<(), Fail> {
     let desk = Desk::new(alloc)?;
     let mut books = new_books(alloc)?;
     let both = format!(in alloc; "{CLIENT}{CLIENT}")?;
-    let (answered, written) = served(alloc, &desk, &mut books, both.as_bytes())?;
+    let (answered, written) = serve(alloc, &desk, &mut books, both.as_bytes())?;
     assert!(rt; answered);
     assert_eq!(rt; written.as_slice(), CREATED.as_bytes());
     let second = answer_text(
@@ -332,14 +332,14 @@ fn is_given_up(rt: &impl Abort, alloc: Global, calls: u32) -> Result<bool, Fail>
     let desk = Desk::new(alloc)?;
     let mut books = new_books(alloc)?;
     books.refuse_after(calls);
-    let (answered, written) = served(alloc, &desk, &mut books, CLIENT.as_bytes())?;
+    let (answered, written) = serve(alloc, &desk, &mut books, CLIENT.as_bytes())?;
     assert!(rt; answered);
     if written.as_slice() == CREATED.as_bytes() {
         return Ok(false);
     }
     assert_eq!(rt; written.as_slice(), GIVEN_UP.as_bytes());
     assert_no_client(rt, alloc, &mut books);
-    let (_, written) = served(alloc, &desk, &mut books, CLIENT.as_bytes())?;
+    let (_, written) = serve(alloc, &desk, &mut books, CLIENT.as_bytes())?;
     assert_eq!(rt; written.as_slice(), CREATED.as_bytes());
     Ok(true)
 }

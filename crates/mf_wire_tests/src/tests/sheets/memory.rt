@@ -1,7 +1,7 @@
 //! A sheet of which a request for memory is refused: `rt try --test --fail-alloc 1..` refuses each in turn.
 
 use super::faults::{given_up_at, whole_records};
-use super::{collected, lent, made, results, results_after};
+use super::{collect_sheet, lent, make_books, results, results_after};
 use mf_base::{Cause, StreamFault};
 use mf_desk_books::Books;
 use mf_desk_books::streams::{ENTERED, SHEET};
@@ -93,13 +93,13 @@ fn lines_run(ended: &Ended) -> Option<usize> {
 fn one_request_for_memory_refused(rt: HostRuntime) -> Result<(), Fail> {
     let alloc = rt.alloc();
     let caller = Caller::parse(b"1/1").ok_or("a caller")?;
-    let mut books = match made(alloc) {
+    let mut books = match make_books(alloc) {
         Some(books) => books,
         None => lent(alloc)?,
     };
     let ended = collected_once(alloc, &mut books, caller);
     let run = lines_run(&ended).ok_or("results as they should be")?;
-    let again = match collected(alloc, &mut books, "1/1", SHEET.as_bytes()) {
+    let again = match collect_sheet(alloc, &mut books, "1/1", SHEET.as_bytes()) {
         Some(again) => again,
         None => results(alloc, &mut books, "1/1", SHEET.as_bytes())?,
     };

@@ -9,11 +9,19 @@ use std::test::Fail;
 
 /// What is replied of the loan after the sheet.
 const SHOWN: &str =
-    "200 {\"client\":\"0001-000001\",\"day\":\"2024-01-31\",\"disbursement_fee\":0,\"loan\":\"0001-000001\",\"outstanding\":{\"fees\":0,\"interest\":0,\"penalties\":0,\"principal\":32000},\"overpaid\":0,\"paid\":{\"fees\":0,\"interest\":2000,\"penalties\":0,\"principal\":68000},\"periods\":3,\"principal\":100000,\"product\":1,\"refunded\":0,\"status\":300,\"waived\":{\"fees\":0,\"interest\":0,\"penalties\":0,\"principal\":0},\"written_off\":{\"fees\":0,\"interest\":0,\"penalties\":0,\"principal\":0}}\n";
+    "200 {\"client\":\"0001-000001\",\"day\":\"2024-01-31\",\"disbursement_fee\":0,\"loan\":\"0001-000001\",\
+\"outstanding\":{\"fees\":0,\"interest\":0,\"penalties\":0,\"principal\":32000},\"overpaid\":0,\
+\"paid\":{\"fees\":0,\"interest\":2000,\"penalties\":0,\"principal\":68000},\"periods\":3,\"principal\":100000,\
+\"product\":1,\"refunded\":0,\"status\":300,\"waived\":{\"fees\":0,\"interest\":0,\"penalties\":0,\"principal\":0},\
+\"written_off\":{\"fees\":0,\"interest\":0,\"penalties\":0,\"principal\":0}}\n";
 
 /// What is replied of it once the first entry is reversed too.
 const SHOWN_REVERSED: &str =
-    "200 {\"client\":\"0001-000001\",\"day\":\"2024-01-31\",\"disbursement_fee\":0,\"loan\":\"0001-000001\",\"outstanding\":{\"fees\":0,\"interest\":333,\"penalties\":0,\"principal\":51667},\"overpaid\":0,\"paid\":{\"fees\":0,\"interest\":1667,\"penalties\":0,\"principal\":48333},\"periods\":3,\"principal\":100000,\"product\":1,\"refunded\":0,\"status\":300,\"waived\":{\"fees\":0,\"interest\":0,\"penalties\":0,\"principal\":0},\"written_off\":{\"fees\":0,\"interest\":0,\"penalties\":0,\"principal\":0}}\n";
+    "200 {\"client\":\"0001-000001\",\"day\":\"2024-01-31\",\"disbursement_fee\":0,\"loan\":\"0001-000001\",\
+\"outstanding\":{\"fees\":0,\"interest\":333,\"penalties\":0,\"principal\":51667},\"overpaid\":0,\
+\"paid\":{\"fees\":0,\"interest\":1667,\"penalties\":0,\"principal\":48333},\"periods\":3,\"principal\":100000,\
+\"product\":1,\"refunded\":0,\"status\":300,\"waived\":{\"fees\":0,\"interest\":0,\"penalties\":0,\"principal\":0},\
+\"written_off\":{\"fees\":0,\"interest\":0,\"penalties\":0,\"principal\":0}}\n";
 
 const SHOW: &str = "1/1 GET /loans/0001-000001\n";
 

@@ -3,7 +3,7 @@ use Rattle.clap.specs.Words.{Row, found_of, rows_of}
 use Rattle.mf_catalog.specs.Limits.{longest_step}
 use Rattle.microloan_words.specs.Asked.{IsNumberAt}
 use Rattle.microloan_words.specs.declared.reading.Wrong.TheVariants.{Day, Every, Frequency, InterestGrace}
-use Rattle.microloan_words.specs.declared.reading.Wrong.TheVariants.{Method as MethodOption, Periods, Principal}
+use Rattle.microloan_words.specs.declared.reading.Wrong.TheVariants.{Method, Periods, Principal}
 use Rattle.microloan_words.specs.declared.reading.Wrong.TheVariants.{PrincipalGrace, Rate}
 use Rattle.microloan_words.proofs.OptionLemmas.{read, right, right_every, unread, unread_every}
 use Rattle.microloan_words.proofs.reading.schedule_words.Goals as goal
@@ -43,7 +43,7 @@ returns-in_err-interest_grace-clause-every c asked h =
 
 pub returns-in_err-method-clause-wrong : goal.returns-in_err-method-clause-wrong
 returns-in_err-method-clause-wrong c =
-    let e : c.from_residual.result ≡ Err MethodOption = search rules in
+    let e : c.from_residual.result ≡ Err Method = search rules in
     rw e (inl (refl, unread _ c.method_at.result c.in_err-method.ensures.variant c.method_at.ensures.every))
 
 pub returns-in_err-principal-clause-wrong : goal.returns-in_err-principal-clause-wrong

@@ -1,7 +1,7 @@
 use Rattle.std.proofs.Common.{◌≡◌, ℕ, ◌<◌, List, length, ◌∙◌, ap, sym, subst}
 use Rattle.std.specs.Prelude.{All}
 use Rattle.mf_account.specs.declared.entry.Entry.{Entry}
-use Rattle.mf_account.specs.Change.{Account}
+use Rattle.mf_account.specs.Change.{KeptAccount}
 use Rattle.mf_account.specs.Standing.{standing_entries, entries_at}
 use Rattle.mf_account.specs.Loan.{AreEntries}
 use Rattle.mf_account.specs.Refusals.{is_sealed}
@@ -28,5 +28,5 @@ is_sealed-requires-clause-entries c = (
 )
 
 pub returns : goal.returns
-returns c = c.is_sealed.ensures ∙ ap is_sealed c.entries.ensures ∙ ap (λ (a : Account). is_sealed a.loan.entries)
+returns c = c.is_sealed.ensures ∙ ap is_sealed c.entries.ensures ∙ ap (λ (a : KeptAccount). is_sealed a.loan.entries)
     c.self.view_is

@@ -1,6 +1,6 @@
 use Rattle.std.proofs.Common.{◌≡◌, ◌≤◌, ◌∙◌, ◌++◌, List, take, ap, sym, subst}
-use Rattle.mf_account.specs.declared.settled.Settled.{Settled}
-use Rattle.mf_account.specs.Change.{Account}
+use Rattle.mf_account.specs.declared.settled.SettledPart.{SettledPart}
+use Rattle.mf_account.specs.Change.{KeptAccount}
 use Rattle.mf_account.specs.Safe.{most_kept}
 use Rattle.mf_account.specs.Told.{settled_amount}
 use Rattle.mf_account.proofs.WithinLemmas.{changes-within}
@@ -11,16 +11,16 @@ returns-then-is_bounded-clause-book c n is within = c.is_bounded.ensures.bounded
 
 pub returns-then-is_bounded-clause-replayed : goal.returns-then-is_bounded-clause-replayed
 returns-then-is_bounded-clause-replayed c replayed new sound redone =
-    let a : Account = c.args.self.now in
+    let a : KeptAccount = c.args.self.now in
     let within = changes-within a new c.args.book.now c.args.kept c.args.parts.now replayed sound redone in
     let own : c.deref.result.now ≡ a.settled =
-    c.deref.ensures.value ∙ ap (λ (x : Account). x.settled) c.self.view_is in
+    c.deref.ensures.value ∙ ap (λ (x : KeptAccount). x.settled) c.self.view_is in
     c.is_amount_within.ensures.1
-    (subst (λ (xs : List Settled). settled_amount (take c.args.kept xs ++ c.args.parts.now) ≤ most_kept) (sym own)
+    (subst (λ (xs : List SettledPart). settled_amount (take c.args.kept xs ++ c.args.parts.now) ≤ most_kept) (sym own)
     within.1)
 
 pub returns-else-is_bounded-clause-replayed : goal.returns-else-is_bounded-clause-replayed
 returns-else-is_bounded-clause-replayed c replayed new sound redone =
-    let a : Account = c.args.self.now in
+    let a : KeptAccount = c.args.self.now in
     let within = changes-within a new c.args.book.now c.args.kept c.args.parts.now replayed sound redone in
     c.is_bounded.ensures.exact new.periods within.0

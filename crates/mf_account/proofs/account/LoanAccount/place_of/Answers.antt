@@ -1,7 +1,7 @@
 use Rattle.std.proofs.Common.{◌≡◌, ℕ, ◌<◌, [], List, length, arith, ◌∙◌, ap, sym, subst}
 use Rattle.std.specs.Prelude.{All, insert}
 use Rattle.mf_account.specs.declared.entry.Entry.{Entry}
-use Rattle.mf_account.specs.Change.{Account}
+use Rattle.mf_account.specs.Change.{KeptAccount}
 use Rattle.mf_account.specs.Standing.{order_with, standing_entries, entries_at, IsInOrder}
 use Rattle.mf_account.proofs.InOrder.{in_order-fold}
 use Rattle.mf_account.proofs.OrderLemmas.{length-order}
@@ -26,7 +26,7 @@ returns-clause-within c =
     let same = ap length c.deref.ensures.value in
     let seen : length (standing_entries c.self.inside.loan.entries)
     ≡ length (standing_entries c.args.self.now.loan.entries) =
-    ap (λ (a : Account). length (standing_entries a.loan.entries)) c.self.view_is in
+    ap (λ (a : KeptAccount). length (standing_entries a.loan.entries)) c.self.view_is in
     omega (arith, c.position.ensures.within, size, same, seen)
 
 pub returns-clause-place : goal.returns-clause-place
@@ -34,6 +34,6 @@ returns-clause-place c =
     let all : entries_at c.entries.result.now c.deref.result.now ≡ standing_entries c.args.self.now.loan.entries =
     ap (λ e. entries_at e c.deref.result.now) c.entries.ensures ∙ ap (entries_at c.self.inside.loan.entries)
     c.deref.ensures.value ∙ c.self.invariant.order_is
-    ∙ ap (λ (a : Account). standing_entries a.loan.entries) c.self.view_is in
+    ∙ ap (λ (a : KeptAccount). standing_entries a.loan.entries) c.self.view_is in
     subst (λ (x : List Entry). order_with c.args.entry.now x ≡ insert x c.position.result c.args.entry.now) all
     c.position.ensures.place

@@ -1,7 +1,7 @@
 use Rattle.std.proofs.Common.{◌≡◌, ◌≤◌, ◌+◌, ◌^◌, ◌∙◌, arith, ap, sym, subst, get_or}
 use Rattle.mf_account.specs.declared.balances.Balances.{Balances}
 use Rattle.mf_account.specs.Balance.{balances_by, balances_of}
-use Rattle.mf_account.specs.Loan.{Loan, fee_of_loan}
+use Rattle.mf_account.specs.Loan.{DisbursedLoan, fee_of_loan}
 use Rattle.mf_account.proofs.ConserveLemmas.{balances-principal}
 use Rattle.mf_account.proofs.account.LoanAccount.principal_left.Goals as goal
 
@@ -11,7 +11,7 @@ returns-clause-value c =
 
 pub returns-clause-most : goal.returns-clause-most
 returns-clause-most c replayed =
-    let loan : Loan = c.args.self.now.loan in
+    let loan : DisbursedLoan = c.args.self.now.loan in
     let is : c.sums-sums.result ≡ balances_of loan =
     c.sums-sums.ensures.value ∙ ap (balances_by (fee_of_loan loan)) replayed.state in
     let whole : get_or (balances_of loan).paid 3 0 + get_or (balances_of loan).written_off 3 0 + get_or

@@ -3,16 +3,16 @@ use Rattle.std.specs.Prelude.{is_some}
 use Rattle.std.proofs.lemmas.Bool.{le-leb, lt-leb}
 use Rattle.mf_account.specs.declared.entry.Entry.{Entry}
 use Rattle.mf_account.specs.Account.{status_of}
-use Rattle.mf_account.specs.Change.{Account}
+use Rattle.mf_account.specs.Change.{KeptAccount}
 use Rattle.mf_account.specs.Effect.{State}
-use Rattle.mf_account.specs.Loan.{Loan, IsSound, state_of_loan, status_of_loan}
+use Rattle.mf_account.specs.Loan.{DisbursedLoan, IsSoundDisbursed, state_of_loan, status_of_loan}
 use Rattle.mf_account.specs.Refusals.{is_sealed, admits, is_out_of_order, is_forbidden}
 use Rattle.mf_account.proofs.SoundLemmas.{chosen-here, chosen-later}
 use Rattle.mf_account.proofs.account.LoanAccount.refusal.Goals as goal
 
 pub returns-then-is_forbidden-clause-value : goal.returns-then-is_forbidden-clause-value
 returns-then-is_forbidden-clause-value c replayed =
-    let loan : Loan = c.args.self.now.loan in
+    let loan : DisbursedLoan = c.args.self.now.loan in
     let e : Entry = c.args.entry.now in
     let day : ℕ = c.args.business_day in
     let sealed : is_sealed loan.entries ≡ false = sym c.if-is_sealed.ensures in
@@ -21,13 +21,14 @@ returns-then-is_forbidden-clause-value c replayed =
     ∙ ap (λ n. not (admits e.kind n)) (sym c.status.ensures) ∙ ap not (sym c.if-not-admits.ensures) in
     let ordered : is_out_of_order e.kind loan.day day e.day ≡ false = ap (λ d. is_out_of_order e.kind d day e.day)
     (sym c.day.ensures) ∙ sym c.if-is_out_of_order.ensures in
-    let sound : IsSound loan = subst (λ (a : Account). IsSound a.loan) c.self.view_is c.self.invariant.sound in
+    let sound : IsSoundDisbursed loan = subst (λ (a : KeptAccount). IsSoundDisbursed a.loan) c.self.view_is
+    c.self.invariant.sound in
     let rows : c.deref.result.now ≡ (state_of_loan loan).rows =
-    c.deref.ensures.value ∙ ap (λ (s : State). s.rows) c.book.view_is ∙ ap (λ (a : Account). a.state.rows)
+    c.deref.ensures.value ∙ ap (λ (s : State). s.rows) c.book.view_is ∙ ap (λ (a : KeptAccount). a.state.rows)
     c.self.view_is ∙ ap (λ (s : State). s.rows) replayed.state in
     let charged : c.is_some.result ≡ is_some loan.terms.overdue =
-    c.is_some.ensures ∙ ap (λ (l : Loan). is_some l.terms.overdue) c.loan.view_is
-    ∙ ap (λ (a : Account). is_some a.loan.terms.overdue) c.self.view_is in
+    c.is_some.ensures ∙ ap (λ (l : DisbursedLoan). is_some l.terms.overdue) c.loan.view_is
+    ∙ ap (λ (a : KeptAccount). is_some a.loan.terms.overdue) c.self.view_is in
     let allowed : is_forbidden e.kind (is_some loan.terms.overdue) (state_of_loan loan).rows loan.entries e day ≡ true =
     ap (λ b. is_forbidden e.kind b (state_of_loan loan).rows loan.entries e day) (sym charged)
     ∙ ap (λ r. is_forbidden e.kind c.is_some.result r loan.entries e day) (sym rows)
@@ -37,7 +38,7 @@ returns-then-is_forbidden-clause-value c replayed =
 
 pub returns-then-is_out_of_limits-clause-value : goal.returns-then-is_out_of_limits-clause-value
 returns-then-is_out_of_limits-clause-value c replayed =
-    let loan : Loan = c.args.self.now.loan in
+    let loan : DisbursedLoan = c.args.self.now.loan in
     let e : Entry = c.args.entry.now in
     let day : ℕ = c.args.business_day in
     let sealed : is_sealed loan.entries ≡ false = sym c.if-is_sealed.ensures in
@@ -46,13 +47,14 @@ returns-then-is_out_of_limits-clause-value c replayed =
     ∙ ap (λ n. not (admits e.kind n)) (sym c.status.ensures) ∙ ap not (sym c.if-not-admits.ensures) in
     let ordered : is_out_of_order e.kind loan.day day e.day ≡ false = ap (λ d. is_out_of_order e.kind d day e.day)
     (sym c.day.ensures) ∙ sym c.if-is_out_of_order.ensures in
-    let sound : IsSound loan = subst (λ (a : Account). IsSound a.loan) c.self.view_is c.self.invariant.sound in
+    let sound : IsSoundDisbursed loan = subst (λ (a : KeptAccount). IsSoundDisbursed a.loan) c.self.view_is
+    c.self.invariant.sound in
     let rows : c.deref.result.now ≡ (state_of_loan loan).rows =
-    c.deref.ensures.value ∙ ap (λ (s : State). s.rows) c.book.view_is ∙ ap (λ (a : Account). a.state.rows)
+    c.deref.ensures.value ∙ ap (λ (s : State). s.rows) c.book.view_is ∙ ap (λ (a : KeptAccount). a.state.rows)
     c.self.view_is ∙ ap (λ (s : State). s.rows) replayed.state in
     let charged : c.is_some.result ≡ is_some loan.terms.overdue =
-    c.is_some.ensures ∙ ap (λ (l : Loan). is_some l.terms.overdue) c.loan.view_is
-    ∙ ap (λ (a : Account). is_some a.loan.terms.overdue) c.self.view_is in
+    c.is_some.ensures ∙ ap (λ (l : DisbursedLoan). is_some l.terms.overdue) c.loan.view_is
+    ∙ ap (λ (a : KeptAccount). is_some a.loan.terms.overdue) c.self.view_is in
     let allowed : is_forbidden e.kind (is_some loan.terms.overdue) (state_of_loan loan).rows loan.entries e day
     ≡ false =
     ap (λ b. is_forbidden e.kind b (state_of_loan loan).rows loan.entries e day) (sym charged)
@@ -63,7 +65,7 @@ returns-then-is_out_of_limits-clause-value c replayed =
 
 pub returns-then-entries-ge-MOST_ENTRIES-clause-value : goal.returns-then-entries-ge-MOST_ENTRIES-clause-value
 returns-then-entries-ge-MOST_ENTRIES-clause-value c replayed =
-    let loan : Loan = c.args.self.now.loan in
+    let loan : DisbursedLoan = c.args.self.now.loan in
     let e : Entry = c.args.entry.now in
     let day : ℕ = c.args.business_day in
     let sealed : is_sealed loan.entries ≡ false = sym c.if-is_sealed.ensures in
@@ -72,13 +74,14 @@ returns-then-entries-ge-MOST_ENTRIES-clause-value c replayed =
     ∙ ap (λ n. not (admits e.kind n)) (sym c.status.ensures) ∙ ap not (sym c.if-not-admits.ensures) in
     let ordered : is_out_of_order e.kind loan.day day e.day ≡ false = ap (λ d. is_out_of_order e.kind d day e.day)
     (sym c.day.ensures) ∙ sym c.if-is_out_of_order.ensures in
-    let sound : IsSound loan = subst (λ (a : Account). IsSound a.loan) c.self.view_is c.self.invariant.sound in
+    let sound : IsSoundDisbursed loan = subst (λ (a : KeptAccount). IsSoundDisbursed a.loan) c.self.view_is
+    c.self.invariant.sound in
     let rows : c.deref.result.now ≡ (state_of_loan loan).rows =
-    c.deref.ensures.value ∙ ap (λ (s : State). s.rows) c.book.view_is ∙ ap (λ (a : Account). a.state.rows)
+    c.deref.ensures.value ∙ ap (λ (s : State). s.rows) c.book.view_is ∙ ap (λ (a : KeptAccount). a.state.rows)
     c.self.view_is ∙ ap (λ (s : State). s.rows) replayed.state in
     let charged : c.is_some.result ≡ is_some loan.terms.overdue =
-    c.is_some.ensures ∙ ap (λ (l : Loan). is_some l.terms.overdue) c.loan.view_is
-    ∙ ap (λ (a : Account). is_some a.loan.terms.overdue) c.self.view_is in
+    c.is_some.ensures ∙ ap (λ (l : DisbursedLoan). is_some l.terms.overdue) c.loan.view_is
+    ∙ ap (λ (a : KeptAccount). is_some a.loan.terms.overdue) c.self.view_is in
     let allowed : is_forbidden e.kind (is_some loan.terms.overdue) (state_of_loan loan).rows loan.entries e day
     ≡ false =
     ap (λ b. is_forbidden e.kind b (state_of_loan loan).rows loan.entries e day) (sym charged)
@@ -92,7 +95,7 @@ returns-then-entries-ge-MOST_ENTRIES-clause-value c replayed =
 
 pub returns-else-entries-ge-MOST_ENTRIES-clause-value : goal.returns-else-entries-ge-MOST_ENTRIES-clause-value
 returns-else-entries-ge-MOST_ENTRIES-clause-value c replayed =
-    let loan : Loan = c.args.self.now.loan in
+    let loan : DisbursedLoan = c.args.self.now.loan in
     let e : Entry = c.args.entry.now in
     let day : ℕ = c.args.business_day in
     let sealed : is_sealed loan.entries ≡ false = sym c.if-is_sealed.ensures in
@@ -101,13 +104,14 @@ returns-else-entries-ge-MOST_ENTRIES-clause-value c replayed =
     ∙ ap (λ n. not (admits e.kind n)) (sym c.status.ensures) ∙ ap not (sym c.if-not-admits.ensures) in
     let ordered : is_out_of_order e.kind loan.day day e.day ≡ false = ap (λ d. is_out_of_order e.kind d day e.day)
     (sym c.day.ensures) ∙ sym c.if-is_out_of_order.ensures in
-    let sound : IsSound loan = subst (λ (a : Account). IsSound a.loan) c.self.view_is c.self.invariant.sound in
+    let sound : IsSoundDisbursed loan = subst (λ (a : KeptAccount). IsSoundDisbursed a.loan) c.self.view_is
+    c.self.invariant.sound in
     let rows : c.deref.result.now ≡ (state_of_loan loan).rows =
-    c.deref.ensures.value ∙ ap (λ (s : State). s.rows) c.book.view_is ∙ ap (λ (a : Account). a.state.rows)
+    c.deref.ensures.value ∙ ap (λ (s : State). s.rows) c.book.view_is ∙ ap (λ (a : KeptAccount). a.state.rows)
     c.self.view_is ∙ ap (λ (s : State). s.rows) replayed.state in
     let charged : c.is_some.result ≡ is_some loan.terms.overdue =
-    c.is_some.ensures ∙ ap (λ (l : Loan). is_some l.terms.overdue) c.loan.view_is
-    ∙ ap (λ (a : Account). is_some a.loan.terms.overdue) c.self.view_is in
+    c.is_some.ensures ∙ ap (λ (l : DisbursedLoan). is_some l.terms.overdue) c.loan.view_is
+    ∙ ap (λ (a : KeptAccount). is_some a.loan.terms.overdue) c.self.view_is in
     let allowed : is_forbidden e.kind (is_some loan.terms.overdue) (state_of_loan loan).rows loan.entries e day
     ≡ false =
     ap (λ b. is_forbidden e.kind b (state_of_loan loan).rows loan.entries e day) (sym charged)

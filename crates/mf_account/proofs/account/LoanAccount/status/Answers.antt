@@ -1,8 +1,8 @@
 use Rattle.std.proofs.Common.{◌≡◌, ℕ, ◌<◌, List, length, ◌∙◌, ap, sym, subst}
 use Rattle.std.specs.Prelude.{All}
-use Rattle.mf_alloc.specs.Sums.{Sums}
+use Rattle.mf_alloc.specs.Sums.{Instalment}
 use Rattle.mf_account.specs.declared.entry.Entry.{Entry}
-use Rattle.mf_account.specs.Change.{Account}
+use Rattle.mf_account.specs.Change.{KeptAccount}
 use Rattle.mf_account.specs.Effect.{State}
 use Rattle.mf_account.specs.Account.{status_of}
 use Rattle.mf_account.specs.Standing.{standing_entries, entries_at}
@@ -31,11 +31,11 @@ status-requires-clause-entries c = (
 
 pub returns : goal.returns
 returns c =
-    let at : List Entry → List Sums → ℕ → ℕ =
+    let at : List Entry → List Instalment → ℕ → ℕ =
     λ entries rows overpaid. status_of entries (record { rows = rows; overpaid = overpaid; refunded = 0 }) in
     let overpaid : ℕ = c.book.inside.overpaid in
     c.status.ensures
     ∙ ap (λ entries. at entries c.deref-2.result.now overpaid) c.entries.ensures
     ∙ ap (λ rows. at c.self.inside.loan.entries rows overpaid) c.deref-2.ensures.value
     ∙ ap (λ (s : State). status_of c.self.inside.loan.entries s) c.book.view_is
-    ∙ ap (λ (a : Account). status_of a.loan.entries a.state) c.self.view_is
+    ∙ ap (λ (a : KeptAccount). status_of a.loan.entries a.state) c.self.view_is

@@ -1,6 +1,6 @@
 use Rattle.std.proofs.Common.{◌≡◌, ◌∙◌, ap, sym, subst, List, ℕ}
-use Rattle.mf_alloc.specs.Sums.{Sums, AreWithin}
-use Rattle.mf_account.specs.Change.{Account}
+use Rattle.mf_alloc.specs.Sums.{Instalment, AreWithin}
+use Rattle.mf_account.specs.Change.{KeptAccount}
 use Rattle.mf_account.specs.Effect.{State}
 use Rattle.mf_account.specs.Balance.{HasRoom, balances_by}
 use Rattle.mf_account.specs.Loan.{fee_of_loan}
@@ -15,15 +15,15 @@ book_sums-requires c =
 
 pub returns-clause-value : goal.returns-clause-value
 returns-clause-value c =
-    let at : List Sums → State =
+    let at : List Instalment → State =
     λ r. record { rows = r; overpaid = c.book.inside.overpaid; refunded = c.book.inside.refunded } in
     let fee : ℕ = c.self.inside.disbursement_fee in
     c.book_sums.ensures
     ∙ ap (λ r. balances_by fee (at r)) c.deref.ensures.value
     ∙ ap (balances_by fee) c.book.view_is
     ∙ ap (λ f. balances_by f c.self.inside.book) c.self.invariant.fee_is
-    ∙ ap (λ (a : Account). balances_by (fee_of_loan a.loan) a.state) c.self.view_is
+    ∙ ap (λ (a : KeptAccount). balances_by (fee_of_loan a.loan) a.state) c.self.view_is
 
 pub returns-clause-apart : goal.returns-clause-apart
 returns-clause-apart c =
-    subst (λ (a : Account). AreWithin a.state.rows) c.self.view_is c.self.invariant.safe.bounded.within
+    subst (λ (a : KeptAccount). AreWithin a.state.rows) c.self.view_is c.self.invariant.safe.bounded.within

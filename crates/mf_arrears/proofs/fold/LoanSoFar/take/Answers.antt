@@ -1,7 +1,7 @@
 use Rattle.std.proofs.Common.{◌≡◌, ◌+◌, ◌^◌, ◌≤◌, ap, sym, subst, ◌∙◌}
 use Rattle.std.proofs.lemmas.Result.{on_ok_weaker, on_err_weaker}
 use Rattle.mf_alloc.specs.Sums.{open_at}
-use Rattle.mf_arrears.specs.Folding.{LoanSoFar, IsAt, step, with_row}
+use Rattle.mf_arrears.specs.Folding.{LoanSoFar, IsSoFar, step, with_row}
 use Rattle.mf_arrears.proofs.FoldLemmas.{same_loan, next_loan}
 use Rattle.mf_arrears.proofs.SumLemmas.{same_over, next_over}
 use Rattle.mf_arrears.proofs.fold.LoanSoFar.take.Goals as goal
@@ -17,7 +17,7 @@ returns-clause-value c =
           (w.self-is ∙ w.self-then-loan-self.view_is ∙ w.new.ensures) added
           (λ x loans is. w.line-is ∙ w.in_ok-count.ensures.line x loans is) at
       | else-loan-self w ↦
-          subst (λ l. IsAt office (step c.args.today p c.args.found) c.add.new.self l) (sym w.line-is)
+          subst (λ l. IsSoFar office (step c.args.today p c.args.found) c.add.new.self l) (sym w.line-is)
           (same_loan office c.args.today p c.args.self.now c.add.new.self c.args.line.now c.args.found.0 c.args.found.1
           (w.if-loan-self.false ∙ own) (added ∙ ap (λ s. with_row s c.args.found.1) w.self-is) at)
     ]) c.add.ensures.value

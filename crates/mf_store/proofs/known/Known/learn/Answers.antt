@@ -1,6 +1,7 @@
 use Rattle.std.proofs.Common.{nat_eq, refl, sym, subst, ◌∙◌}
 use Rattle.mf_store.specs.Learning.{Tells}
-use Rattle.mf_store.proofs.KeptLemmas.{account_still, counts_learnt, some_is, forgotten}
+use Rattle.mf_store.proofs.KeptLemmas.{account_still, counts_learnt, forgotten}
+use Rattle.mf_store.proofs.CatalogueLemmas.{some_is}
 use Rattle.mf_store.proofs.known.Known.learn.Goals as goal
 
 pub returns-in-OfficeCounts : goal.returns-in-OfficeCounts

@@ -1,5 +1,7 @@
-use Rattle.std.proofs.Common.{Some, sym, ap, ◌∙◌}
-use Rattle.mf_store.proofs.KeptLemmas.{keys_learnt}
+use Rattle.std.proofs.Common.{◌≡◌, Some, nat_eq, sym, ap, ◌∙◌}
+use Rattle.std.specs.Cmp.{nat_eq_equiv}
+use Rattle.mf_store_values.specs.Flat.{key_at}
+use Rattle.mf_store.proofs.KeptLemmas.{put_true, nat_exact}
 use Rattle.mf_store.proofs.known.Known.learn_key.Goals as goal
 
 pub returns : goal.returns
@@ -8,8 +10,9 @@ returns c = rw (← c.self.view_is) (λ i known so. record {
   catalogue = known.catalogue;
   day = known.day;
   roles = known.roles;
-  keys = keys_learnt c.self.inside.keys c.put-kept.new.self c.args.office c.in-Some.copy c.put-kept.result i
-      c.put-kept.ensures.entries c.put-kept.ensures.err (so ∙ ap Some (sym c.in-Some.ensures)) known.keys;
+  keys = put_true nat_eq nat_exact nat_eq_equiv (λ y w. key_at y i ≡ Some w) c.self.inside.keys c.put-kept.new.self
+      c.args.office c.in-Some.copy c.put-kept.result c.put-kept.ensures.entries c.put-kept.ensures.err
+      (so ∙ ap Some (sym c.in-Some.ensures)) (λ y w other. known.keys y w);
   products = known.products;
   accounts = known.accounts;
 })

@@ -8,32 +8,21 @@ use Rattle.mf_model.specs.Stages.{disbursed_on}
 use Rattle.mf_store_commits.specs.Becoming.{Becomes}
 use Rattle.mf_store.proofs.MadeLemmas.{made_by}
 use Rattle.mf_store_commits.proofs.CommitLemmas.{none_there}
-use Rattle.mf_store.specs.declared.known.News.TheVariants.{OfficeCounts}
 use Rattle.mf_store.proofs.NewsLemmas.{loan_tells}
 use Rattle.mf_store.proofs.store.Store.add_loan.Goals as goal
 
 pub returns : goal.returns
 returns g c =
-    let old = c.args.self.now in
-    let mid = c.counts_there.new.self in
     let loan = c.args.loan in
     let office = c.get-office.ensures.value in
-    let known = c.in_ok-counts.counts in
     let undisbursed : is_some (disbursed_on loan.stage) ≡ false = search rules in
-    let none = none_there (disbursed_on loan.stage) undisbursed in
-    made_by g.S.Store (AddLoan c.args.office loan) old mid c.make.new.self (c.in_ok-write.write ∷ [])
-    (OfficeCounts c.get-office.result (record {
-      staff = known.staff;
-      clients = known.clients;
-      loans = known.loans + 1;
-    })) c.make.result c.in_ok-counts.ensures.asks.kept
+    made_by g.S.Store _ _ _ _ _ _ _ c.in_ok-counts.ensures.asks.kept c.make.ensures.premise c.make.ensures.gives_up
+    c.make.ensures.made c.make.ensures.left c.make.ensures.same c.make.ensures.stop c.make.ensures.shuts
+    c.make.ensures.open
     (λ clean i s admitted. let told = c.in_ok-counts.ensures.value clean i s in
-    let here = ap (is_there i.offices) (sym office) ∙ told.0 in
-    let counts = told.1 in
-    let carried = c.in_ok-write.ensures.carries i s.sound (subst (λ x. IsAdmitted (AddLoan x loan) i)
-    (sym office) admitted) told.0 (ap (λ (k : Counts). k.loans + 1) counts) none in (
+    let carried = c.in_ok-write.ensures.carries i s.sound (subst (λ x. IsAdmitted (AddLoan x loan) i) (sym office)
+    admitted) told.0 (ap (λ (k : Counts). k.loans + 1) told.1) (none_there (disbursed_on loan.stage) undisbursed) in (
       subst (λ x. Becomes (c.in_ok-write.write ∷ []) i (after_commit (AddLoan x loan) i)) office carried.becomes,
-      loan_tells c.get-office.result c.args.office loan i known office here counts,
+      loan_tells c.get-office.result c.args.office loan i c.in_ok-counts.counts office
+          (ap (is_there i.offices) (sym office) ∙ told.0) told.1,
     ))
-    c.make.ensures.premise c.make.ensures.gives_up c.make.ensures.made c.make.ensures.left c.make.ensures.same
-    c.make.ensures.stop c.make.ensures.shuts c.make.ensures.open

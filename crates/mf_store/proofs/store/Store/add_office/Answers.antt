@@ -1,48 +1,31 @@
-use Rattle.std.proofs.Common.{◌≡◌, false, Some, [], ◌∷◌, sym, ap, ◌∙◌, string_bytes, rules}
+use Rattle.std.proofs.Common.{◌≡◌, false, sym, ap, ◌∙◌, string_bytes, rules}
 use Rattle.mf_office.specs.Keys.{key_of, child_key}
-use Rattle.mf_model.specs.declared.commit.Commit.TheVariants.{AddOffice}
 use Rattle.mf_model.specs.Institution.{office_at}
 use Rattle.mf_model.specs.Tree.{is_there, parent_of}
-use Rattle.mf_store_schema.specs.declared.offices.OfficeRow.{OfficeRow}
-use Rattle.mf_store_schema.specs.declared.writes.StoreWrite.TheVariants.{PutOffice}
 use Rattle.mf_store.proofs.MadeLemmas.{made_by}
 use Rattle.mf_store_commits.proofs.CommitLemmas.{office_becomes, same_office, office_known, none_there}
 use Rattle.mf_store.proofs.KeptLemmas.{stays_then}
-use Rattle.mf_store.specs.declared.known.News.TheVariants.{Nothing}
 use Rattle.mf_store.proofs.NewsLemmas.{office_tells}
 use Rattle.mf_store.proofs.store.Store.add_office.Goals as goal
 
 pub returns : goal.returns
 returns g c =
-    let old = c.args.self.now in
-    let first = c.has_office.new.self in
-    let mid = c.key.new.self in
-    let above_key = c.in-Some.above in
-    let office : OfficeRow = record {
-      number = c.get-2.result;
-      parent = Some c.get-parent.result;
-      hkey = c.new.result;
-      name = c.of_name.result;
-    } in
     let free : c.in_ok-taken.taken ≡ false = search rules in
-    let text : string_bytes c.into_text.result ≡ child_key above_key c.args.number =
+    let text : string_bytes c.into_text.result ≡ child_key c.in-Some.above c.args.number =
     c.into_text.ensures ∙ c.in_ok-key.ensures.key in
-    let number = c.get.ensures.value in
     let parent = c.get-parent.ensures.value in
-    made_by g.S.Store (AddOffice c.args.number c.args.parent c.args.name) old mid c.make.new.self (PutOffice office
-    ∷ []) Nothing c.make.result (stays_then g.S.Store old first mid c.in_ok-taken.ensures.asks.kept
-    c.in_ok-above.ensures.asks.kept)
-    (λ clean i s admitted. let sound = admitted.sound in let before = c.in_ok-above.ensures.asks.kept.premise clean in
-    let known = office_known c.in_ok-above.field-0 above_key c.get-parent.result i c.in-Some.is
+    made_by g.S.Store _ _ _ _ _ _ _ (stays_then g.S.Store _ _ _ c.in_ok-taken.ensures.asks.kept
+    c.in_ok-above.ensures.asks.kept) c.make.ensures.premise c.make.ensures.gives_up
+    c.make.ensures.made c.make.ensures.left c.make.ensures.same c.make.ensures.stop c.make.ensures.shuts
+    c.make.ensures.open
+    (λ clean i s admitted. let before = c.in_ok-above.ensures.asks.kept.premise clean in
+    let known = office_known c.in_ok-above.field-0 c.in-Some.above c.get-parent.result i c.in-Some.is
     (c.in_ok-above.ensures.value clean i (c.in_ok-taken.ensures.asks.kept.same before i s)) in
-    let none = none_there (office_at c.args.number i.offices) (ap (is_there i.offices) (sym number)
+    let none = none_there (office_at c.args.number i.offices) (ap (is_there i.offices) (sym c.get.ensures.value)
     ∙ sym (c.in_ok-taken.ensures.value before i s) ∙ free) in (
-      office_becomes c.args.number c.args.parent c.args.name above_key i office s.sound sound c.tree_of_offices.ensures
-          none (ap (is_there i.offices) (sym parent) ∙ known.0) (known.1 ∙ ap (key_of (parent_of i.offices)) parent)
-          (same_office c.get-2.result c.args.number c.get-parent.result c.args.parent c.of_name.result c.args.name
-          c.new.result (child_key above_key c.args.number) c.get-2.ensures.value parent (c.new.ensures
-          ∙ text) c.of_name.ensures),
+      office_becomes c.args.number c.args.parent c.args.name c.in-Some.above i _ s.sound admitted.sound
+          c.tree_of_offices.ensures none (ap (is_there i.offices) (sym parent) ∙ known.0)
+          (known.1 ∙ ap (key_of (parent_of i.offices)) parent)
+          (same_office _ _ _ _ _ _ _ _ c.get-2.ensures.value parent (c.new.ensures ∙ text) c.of_name.ensures),
       office_tells c.args.number c.args.parent c.args.name i s.sound none,
     ))
-    c.make.ensures.premise c.make.ensures.gives_up c.make.ensures.made c.make.ensures.left c.make.ensures.same
-    c.make.ensures.stop c.make.ensures.shuts c.make.ensures.open

@@ -1,7 +1,7 @@
 use Rattle.std.proofs.Common.{◌≡◌, true, List, Some, sym, ap, ◌∙◌, rules}
 use Rattle.std.specs.List.{list_any}
 use Rattle.std.specs.Option.{option_map}
-use Rattle.mf_alloc.specs.Sums.{Sums, is_open}
+use Rattle.mf_alloc.specs.Sums.{Instalment, is_open}
 use Rattle.mf_account.specs.Change.{account_by_replay}
 use Rattle.mf_model.specs.Accounts.{account_in, statement_with}
 use Rattle.mf_model.specs.Institution.{Ledger}
@@ -16,7 +16,7 @@ returns-then-is_active-clause-value g c clean i s l there its disbursed =
     let read = c.in_ok-rows.ensures.value before i s l there in
     let yes : c.is_active.result ≡ true = search rules in
     let status = active_status i.catalogue l (loan_account_sound c.args.account l i s.sound there)
-    (sym (ap (λ (all : List Sums). list_any is_open all) (c.deref.ensures.value ∙ read)) ∙ sym c.is_active.ensures
+    (sym (ap (λ (all : List Instalment). list_any is_open all) (c.deref.ensures.value ∙ read)) ∙ sym c.is_active.ensures
     ∙ yes) in
     let sums = c.in_ok-sums.ensures.value clean i (c.in_ok-rows.ensures.asks.kept.same before i s) c.args.account l
     there its disbursed (c.deref-then-is_active.ensures.value ∙ read) in

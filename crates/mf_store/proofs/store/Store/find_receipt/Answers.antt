@@ -2,15 +2,12 @@ use Rattle.std.proofs.Common.{◌∙◌}
 use Rattle.std.proofs.lemmas.Result.{IfOk-weaker}
 use Rattle.mf_store_commits.proofs.ReceiptRowLemmas.{receipt_found}
 use Rattle.mf_store_values.specs.Flat.{tables_of}
-use Rattle.mf_store_commits.proofs.StandLemmas.{unchanged_stays}
 use Rattle.mf_store.proofs.KeptLemmas.{known_asks}
 use Rattle.mf_store.proofs.store.Store.find_receipt.Goals as goal
 
 pub returns-clause-asks : goal.returns-clause-asks
 returns-clause-asks g c =
-    rw (← c.self.view_is) (known_asks g.S.Store c.self.inside.connection c.find_receipt.new.connection
-    c.self.inside.known c.find_receipt.result (unchanged_stays g.S.Store c.self.inside.connection
-    c.find_receipt.new.connection c.find_receipt.ensures.kept) c.find_receipt.ensures.gives_up
+    rw (← c.self.view_is) (known_asks g.S.Store _ _ _ _ c.find_receipt.ensures.kept c.find_receipt.ensures.gives_up
     c.find_receipt.ensures.open)
 
 pub returns-clause-value : goal.returns-clause-value

@@ -1,13 +1,11 @@
 use Rattle.mf_store_values.specs.Flat.{tables_of}
 use Rattle.mf_store.proofs.KeptLemmas.{known_asks}
-use Rattle.mf_store_commits.proofs.StandLemmas.{unchanged_stays}
 use Rattle.mf_store.proofs.store.Store.is_principal_open.Goals as goal
 
 pub returns-clause-asks : goal.returns-clause-asks
 returns-clause-asks g c =
-    rw (← c.self.view_is) (known_asks g.S.Store c.self.inside.connection c.is_principal_open.new.connection
-    c.self.inside.known c.is_principal_open.result (unchanged_stays g.S.Store c.self.inside.connection
-    c.is_principal_open.new.connection c.is_principal_open.ensures.kept) c.is_principal_open.ensures.gives_up
+    rw (← c.self.view_is) (known_asks g.S.Store _ _ _ _ c.is_principal_open.ensures.kept
+    c.is_principal_open.ensures.gives_up
     c.is_principal_open.ensures.open)
 
 pub returns-clause-left : goal.returns-clause-left

@@ -4,14 +4,11 @@ use Rattle.mf_store_values.specs.Flat.{tables_of}
 use Rattle.mf_store.proofs.KeptLemmas.{known_stays}
 use Rattle.mf_store.proofs.OfficeLoansLemmas.{loans_from, above_from, office_rows, office_accounts, whole_from}
 use Rattle.mf_store.proofs.OfficeLoansLemmas.{within_from}
-use Rattle.mf_store_commits.proofs.StandLemmas.{unchanged_stays}
 use Rattle.mf_store.proofs.store.Store.line_of_office.Goals as goal
 
 pub returns-clause-kept : goal.returns-clause-kept
 returns-clause-kept g c =
-    rw (← c.self.view_is) (known_stays g.S.Store c.self.inside.connection c.line_of_office.new.connection
-    c.self.inside.known (unchanged_stays g.S.Store c.self.inside.connection c.line_of_office.new.connection
-    c.line_of_office.ensures.kept))
+    rw (← c.self.view_is) (known_stays g.S.Store _ _ _ c.line_of_office.ensures.kept)
 
 pub returns-clause-sums : goal.returns-clause-sums
 returns-clause-sums g c =

@@ -10,7 +10,7 @@ loop-office-preserved g c =
     let kept = c.loop-office.invariant.kept in
     let now = c.in_ok-line.ensures in
     record {
-      kept = stays_then g.S.Store c.args.self.now c.loop-office.self c.office_line.new.self kept now.asks.kept;
+      kept = stays_then g.S.Store _ _ _ kept now.asks.kept;
       live = λ clean opened. now.asks.stays_open clean (c.loop-office.invariant.live (now.asks.kept.premise clean)
           opened);
       read = λ clean i s day. let before = now.asks.kept.premise clean in

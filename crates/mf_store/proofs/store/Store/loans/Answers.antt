@@ -1,6 +1,6 @@
-use Rattle.std.proofs.Common.{◌≡◌, ◌∙◌}
+use Rattle.std.proofs.Common.{◌∙◌}
 use Rattle.std.proofs.lemmas.Result.{IfOk-weaker}
-use Rattle.mf_model.specs.Store.{rows_at, loans_at}
+use Rattle.mf_model.specs.Store.{rows_at}
 use Rattle.mf_store.proofs.LoanLemmas.{shown_loans, shown_there, above_shown, lines_shown}
 use Rattle.mf_store.proofs.store.Store.loans.Goals as goal
 
@@ -11,7 +11,7 @@ returns-clause-value g c clean i s =
     let after = c.args.after in
     let loans = (rows_at office i).loans in
     let shown = rw c.get.ensures.value at (c.in_ok-rows.ensures.rows mid i s) in
-    IfOk-weaker c.lines_of.result _ (λ list. list ≡ loans_at office after i) (λ list h. h
+    IfOk-weaker c.lines_of.result _ _ (λ list h. h
     ∙ lines_shown i.catalogue office after loans)
     (c.lines_of.ensures.value clean i (c.in_ok-rows.ensures.asks.kept.same mid i s) office (shown_loans after loans)
     (shown_there office after i) (c.deref.ensures.value ∙ shown ∙ above_shown office after i s.sound))

@@ -1,7 +1,6 @@
-use Rattle.std.proofs.Common.{◌≡◌, ap, ◌∙◌, arith}
+use Rattle.std.proofs.Common.{ap, ◌∙◌, arith}
 use Rattle.std.proofs.lemmas.Result.{IfOk-weaker}
-use Rattle.mf_arrears.specs.Line.{line_of}
-use Rattle.mf_model.specs.Arrears.{active_in}
+use Rattle.mf_arrears.specs.Line.{line_of_loans}
 use Rattle.mf_model.specs.Store.{rows_at}
 use Rattle.mf_store_values.specs.Arrears.{aged_loans}
 use Rattle.mf_store.proofs.OfficeLoansLemmas.{loans_from, above_from, office_rows, office_accounts, whole_from}
@@ -15,8 +14,8 @@ returns-clause-value g c clean i s day =
     let ls = (rows_at x i).loans in
     let loans = loans_from k 1 ls in
     let sound = office_accounts x i s.sound in
-    IfOk-weaker c.read_line.result (λ line. line ≡ line_of x (aged_loans c.args.today loans))
-    (λ line. line ≡ line_of x (active_in k ls))
-    (λ line is. is ∙ ap (λ t. line_of x (aged_loans t loans)) day ∙ ap (line_of x) (aged_from k 1 ls sound))
+    IfOk-weaker c.read_line.result _ _
+    (λ line is. is ∙ ap (λ t. line_of_loans x (aged_loans t loans)) day ∙ ap (line_of_loans x)
+    (aged_from k 1 ls sound))
     (c.read_line.ensures.line clean i s loans (above_from k 0 1 ls (omega arith)) (whole_from k 1 ls sound)
     (office_rows x i s.sound))

@@ -1,6 +1,5 @@
-use Rattle.std.proofs.Common.{◌≡◌, map, ap, ◌∙◌}
+use Rattle.std.proofs.Common.{map, ap, ◌∙◌}
 use Rattle.std.proofs.lemmas.Result.{IfOk-weaker}
-use Rattle.mf_model.specs.Arrears.{arrears_seen}
 use Rattle.mf_store_values.specs.Arrears.{line_at}
 use Rattle.mf_store.proofs.ArrearsLemmas.{lines_seen}
 use Rattle.mf_store.proofs.store.Store.office_lines.Goals as goal
@@ -12,7 +11,6 @@ returns-clause-value g c clean i s =
     let first = c.in_ok-offices.ensures.asks.kept.same after_offices i s in
     let offices = c.as_slice.ensures ∙ c.in_ok-offices.ensures.value after_offices i s in
     let day = c.in_ok-today.ensures.value after_today i first in
-    IfOk-weaker c.lines_of_offices.result (λ list. list ≡ map (line_at i) c.as_slice.result.now)
-    (λ list. list ≡ arrears_seen c.args.to i)
-    (λ list h. h ∙ ap (map (line_at i)) offices ∙ lines_seen c.args.to i s.sound.tree.ascending)
+    IfOk-weaker c.lines_of_offices.result _ _ (λ list h. h ∙ ap (map (line_at i)) offices
+    ∙ lines_seen c.args.to i s.sound.tree.ascending)
     (c.lines_of_offices.ensures.value clean i (c.in_ok-today.ensures.asks.kept.same after_today i first) day)

@@ -1,10 +1,8 @@
-use Rattle.std.proofs.Common.{◌≡◌, ℕ, Option, None, List, map, sym, ap, ◌∙◌, rules}
+use Rattle.std.proofs.Common.{◌≡◌, None, map, sym, ap, ◌∙◌, rules}
 use Rattle.std.proofs.lemmas.Result.{IfOk-weaker}
-use Rattle.mf_model.specs.Institution.{Office}
 use Rattle.mf_model.specs.Tree.{parent_of, seen_by}
-use Rattle.mf_model.specs.Desk.{line_of}
-use Rattle.mf_store_schema.specs.Rows.{office_row}
-use Rattle.mf_store_values.specs.Flat.{key_at, office_under}
+use Rattle.mf_model.specs.Desk.{office_shown}
+use Rattle.mf_store_values.specs.Flat.{key_at}
 use Rattle.mf_store.proofs.VisibleLemmas.{none_seen, offices_are}
 use Rattle.mf_store.proofs.store.Store.offices.Goals as goal
 
@@ -12,7 +10,8 @@ pub returns-in_default-clause-value : goal.returns-in_default-clause-value
 returns-in_default-clause-value g c clean i s =
     let none : c.in_ok-found.found ≡ None = search rules in
     c.new-in_default.ensures ∙ c.new.ensures.items
-    ∙ sym (ap (map line_of) (none_seen i s.sound (c.tree_of_offices.ensures i s.sound) c.args.to c.in_ok-found.found
+    ∙ sym (ap (map office_shown)
+    (none_seen i s.sound (c.tree_of_offices.ensures i s.sound) c.args.to c.in_ok-found.found
     none (c.in_ok-found.ensures.value clean i s ∙ ap (λ x. key_at x i) c.get.ensures.value)))
 
 pub returns-clause-value : goal.returns-clause-value
@@ -23,8 +22,6 @@ returns-clause-value g c clean i s =
     let rows = offices_are i s.sound (c.tree_of_offices.ensures i s.sound) c.args.to c.in_ok-found.found c.in-Some.above
     c.as_str.result.now c.as_str-2.result.now c.in-Some.is found (c.as_str.ensures.value ∙ c.in_ok-low.ensures.low)
     (c.as_str-2.ensures.value ∙ c.in_ok-low.ensures.high) in
-    IfOk-weaker c.offices_from.result (λ list. (parents : ℕ → Option ℕ) (fs : List Office) → c.deref.result.now
-    ≡ map (λ f. office_row (office_under parents f)) fs → list ≡ map line_of fs)
-    (λ list. list ≡ map line_of (seen_by c.args.to i.offices))
-    (λ list h. h (parent_of i.offices) (seen_by c.args.to i.offices) (c.deref.ensures.value ∙ shown ∙ rows))
+    IfOk-weaker c.offices_from.result _ _ (λ list h. h (parent_of i.offices) (seen_by c.args.to i.offices)
+    (c.deref.ensures.value ∙ shown ∙ rows))
     c.offices_from.ensures.offices

@@ -1,7 +1,7 @@
 use Rattle.std.proofs.Common.{◌≡◌, ◌++◌, List, length, sym, ap, ◌∙◌, arith}
 use Rattle.std.proofs.lemmas.List.{length-append}
 use Rattle.std.proofs.lemmas.Result.{on_ok_weaker}
-use Rattle.mf_alloc.specs.Sums.{Sums}
+use Rattle.mf_alloc.specs.Sums.{Instalment}
 use Rattle.mf_store_commits.specs.ChangeWrites.{schedule_put}
 use Rattle.mf_store_values.specs.Flat.{numbered_from}
 use Rattle.mf_store.proofs.LoanLemmas.{fresh_rows}
@@ -16,7 +16,7 @@ returns-clause-writes g c clean i s =
     (c.in_ok-fresh.ensures.value clean i s) c.new.ensures.items day in
     let put = schedule_put c.args.office c.args.number in
     on_ok_weaker c.put_schedule.result (λ writes. writes
-    ∙ ap (λ (rows : List Sums). old ++ put (numbered_from (λ n row. (n, row)) 1 rows)) c.rows.ensures.rows
+    ∙ ap (λ (rows : List Instalment). old ++ put (numbered_from (λ n row. (n, row)) 1 rows)) c.rows.ensures.rows
     ∙ ap (λ items. old ++ put items) (sym fresh)) c.put_schedule.ensures.writes
 
 pub returns-clause-more : goal.returns-clause-more

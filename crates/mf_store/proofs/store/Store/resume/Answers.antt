@@ -1,9 +1,8 @@
-use Rattle.std.proofs.Common.{◌≡◌, Some, sym, ap, ◌∙◌}
+use Rattle.std.proofs.Common.{Some, sym, ap, ◌∙◌}
 use Rattle.std.specs.Option.{option_map}
 use Rattle.std.proofs.lemmas.Result.{IfOk-weaker}
 use Rattle.mf_account.specs.Change.{account_by_replay}
 use Rattle.mf_model.specs.Accounts.{running_from}
-use Rattle.mf_model.specs.Store.{account_at}
 use Rattle.mf_store.proofs.LoanLemmas.{account_replayed}
 use Rattle.mf_store.proofs.PartReadLemmas.{kept_is}
 use Rattle.mf_store.proofs.store.Store.resume.Goals as goal
@@ -22,7 +21,6 @@ returns-clause-value g c clean i s there day rows =
     let own = c.in_ok-entries.ensures.value before_parts i named in
     let kept = kept_is i account loan c.args.day entries terms c.args.rows.items c.in_ok-parts.parts.items s.sound
     there day own names rows (c.in_ok-parts.ensures.value clean i entered) in
-    IfOk-weaker c.stored-2.result _ (λ resumed. account_at account i ≡ Some resumed)
-    (λ a is. account_replayed i account loan c.args.day entries a own
+    IfOk-weaker c.or_give_up-2.result _ _ (λ a is. account_replayed i account loan c.args.day entries a own
     (ap (λ t. option_map account_by_replay (running_from loan entries (Some c.args.day) t)) names
-    ∙ sym (c.in_ok-found.ensures.account kept.0 kept.1) ∙ is) there day) c.stored-2.ensures.value
+    ∙ sym (c.in_ok-found.ensures.account kept.0 kept.1) ∙ is) there day) c.or_give_up-2.ensures.value

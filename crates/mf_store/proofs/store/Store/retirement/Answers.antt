@@ -1,5 +1,5 @@
 use Rattle.std.proofs.Common.{true, ap, ◌∙◌}
-use Rattle.mf_model.specs.Institution.{Offer, item_numbered}
+use Rattle.mf_model.specs.Institution.{ListedProduct, item_numbered}
 use Rattle.mf_store_values.specs.Flat.{product_as}
 use Rattle.mf_store_schema.specs.declared.products.ProductRow.{ProductRow}
 use Rattle.mf_store_commits.proofs.CatalogueLemmas.{retired_becomes}
@@ -12,9 +12,9 @@ returns-clause-carries g c clean i s admitted =
     let product = c.args.product in
     let k = known (product_as product) c.in_ok-found.field-0 c.in-Some.found (item_numbered i.catalogue.products
     product) c.in-Some.is (c.in_ok-found.ensures.value clean i s) in
-    let row_is = c.retired-row.ensures ∙ ap (λ (r : ProductRow). record r { retired = 1 }) k.2 in
-    let now : Offer = record k.0 { retired = true } in
+    let row_is = c.retire-row.ensures ∙ ap (λ (r : ProductRow). record r { retired = 1 }) k.2 in
+    let now : ListedProduct = record k.0 { retired = true } in
     record {
-      becomes = retired_becomes product k.0 i c.retired-row.result s.sound admitted.sound k.1 row_is;
-      suits = retired_suits product k.0 now i c.retired-row.result k.1 row_is;
+      becomes = retired_becomes product k.0 i c.retire-row.result s.sound admitted.sound k.1 row_is;
+      suits = retired_suits product k.0 now i c.retire-row.result k.1 row_is;
     }

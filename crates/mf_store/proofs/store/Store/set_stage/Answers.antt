@@ -10,12 +10,11 @@ use Rattle.mf_store.proofs.store.Store.set_stage.Goals as goal
 pub returns : goal.returns
 returns g c =
     let commit = SetStage c.args.loan c.args.stage in
-    made_by g.S.Store commit c.args.self.now c.stage_writes.new.self c.make.new.self c.deref.result.now
-    (news.Account c.args.loan) c.make.result c.in_ok-writes.ensures.kept
+    made_by g.S.Store _ _ _ _ _ _ _ c.in_ok-writes.ensures.kept c.make.ensures.premise c.make.ensures.gives_up
+    c.make.ensures.made c.make.ensures.left c.make.ensures.same c.make.ensures.stop c.make.ensures.shuts
+    c.make.ensures.open
     (λ clean i s admitted. (
       subst (λ ws. Becomes ws i (after_commit commit i)) (sym c.deref.ensures.value)
           (c.in_ok-writes.ensures.carries clean i s admitted).becomes,
       stage_tells c.args.loan c.args.stage i,
     ))
-    c.make.ensures.premise c.make.ensures.gives_up c.make.ensures.made c.make.ensures.left c.make.ensures.same
-    c.make.ensures.stop c.make.ensures.shuts c.make.ensures.open

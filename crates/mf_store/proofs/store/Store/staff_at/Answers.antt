@@ -1,4 +1,4 @@
-use Rattle.std.proofs.Common.{◌≡◌, ◌∙◌}
+use Rattle.std.proofs.Common.{◌∙◌}
 use Rattle.std.proofs.lemmas.Result.{IfOk-weaker}
 use Rattle.mf_model.specs.Store.{rows_at}
 use Rattle.mf_store.proofs.OfficeRowsLemmas.{staff_shown}
@@ -6,6 +6,6 @@ use Rattle.mf_store.proofs.store.Store.staff_at.Goals as goal
 
 pub returns-clause-value : goal.returns-clause-value
 returns-clause-value g c clean i s =
-    IfOk-weaker c.staff_from.result _ (λ list. list.items ≡ (rows_at c.args.office i).staff)
-    (λ list h. h c.args.office (rows_at c.args.office i).staff (c.deref.ensures.value
+    IfOk-weaker c.staff_from.result _ _ (λ list h. h c.args.office (rows_at c.args.office i).staff
+    (c.deref.ensures.value
     ∙ c.in_ok-rows.ensures.rows clean i s ∙ staff_shown c.args.office i s.sound)) c.staff_from.ensures.staff

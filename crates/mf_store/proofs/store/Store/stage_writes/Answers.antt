@@ -19,7 +19,7 @@ use Rattle.mf_store_commits.proofs.SuitLemmas.{stage_suits}
 use Rattle.mf_store.proofs.store.Store.stage_writes.Goals as goal
 
 pub returns-clause-kept : goal.returns-clause-kept
-returns-clause-kept g c = stays_then g.S.Store c.args.self.now c.loan.new.self c.put_schedule_of.new.self
+returns-clause-kept g c = stays_then g.S.Store _ _ _
     c.in_ok-before.ensures.asks.kept c.in_ok-put_schedule_of.ensures.kept
 
 pub returns-clause-carries : goal.returns-clause-carries
@@ -36,14 +36,14 @@ returns-clause-carries g c clean i s admitted =
     let before = none_there (disbursed_on l.loan.stage) (ap (λ (m : Loan). is_some (disbursed_on m.stage)) (sym same)
     ∙ none) in
     let without = no_entries loan l i s.sound there before in
-    let now = c.staged-now.ensures ∙ ap (λ (m : Loan). record m { stage = stage }) same in
+    let now = c.with_stage-now.ensures ∙ ap (λ (m : Loan). record m { stage = stage }) same in
     let row = c.in_ok-row.ensures.row ∙ (λ t. loan_in (c.get-office.ensures.value t) (c.get-number.ensures.value t)
     (now t)) in
     let first_write =
     c.in_ok-push.ensures.items ∙ ap (λ ws. ws ++ PutLoan c.in_ok-row.row ∷ []) c.new-writes.ensures.items in
     let schedule = c.in_ok-put_schedule_of.ensures.writes clean i (c.in_ok-before.ensures.asks.kept.same first i s)
     ∙ ap (λ ws. ws ++ schedule_put c.get-office.result c.get-number.result (kept_of instalments_kept i.catalogue
-    (record { loan = c.staged-now.result; entries = [] }))) first_write in
+    (record { loan = c.with_stage-now.result; entries = [] }))) first_write in
     let writes = schedule ∙ (λ t. PutLoan (row t) ∷ schedule_put (c.get-office.ensures.value t)
     (c.get-number.ensures.value t) (kept_of instalments_kept i.catalogue (record {
       loan = now t;

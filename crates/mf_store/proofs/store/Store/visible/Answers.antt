@@ -1,7 +1,5 @@
-use Rattle.std.proofs.Common.{◌≡◌, ap, ap₂, ◌∙◌}
-use Rattle.std.specs.Option.{is_some}
+use Rattle.std.proofs.Common.{ap, ap₂, ◌∙◌}
 use Rattle.std.proofs.lemmas.Result.{IfOk-weaker}
-use Rattle.mf_model.specs.Tree.{seen_office}
 use Rattle.mf_store_values.specs.Flat.{key_at, sees}
 use Rattle.mf_store.proofs.VisibleLemmas.{visible_is}
 use Rattle.mf_store.proofs.store.Store.visible.Goals as goal
@@ -12,7 +10,6 @@ returns-clause-value g c clean i s =
     let one = c.in_ok-above.ensures.value before i s ∙ ap (λ x. key_at x i) c.get.ensures.value in
     let two = c.in_ok-below.ensures.value clean i (c.in_ok-above.ensures.asks.kept.same before i s)
     ∙ ap (λ x. key_at x i) c.get-2.ensures.value in
-    IfOk-weaker c.is_below.result (λ seen. seen ≡ sees c.in_ok-above.above c.in_ok-below.below)
-    (λ seen. seen ≡ is_some (seen_office c.args.to c.args.office i))
-    (λ seen e. e ∙ ap₂ sees one two ∙ visible_is i s.sound (c.tree_of_offices.ensures i s.sound) c.args.to
+    IfOk-weaker c.is_below.result _ _ (λ seen e. e ∙ ap₂ sees one two ∙ visible_is i s.sound
+    (c.tree_of_offices.ensures i s.sound) c.args.to
     c.args.office) c.is_below.ensures.value

@@ -14,18 +14,14 @@ returns-then-is_name c of =
     let a = c.in-Some-Some-Some in
     let fits : SFits w64 c.args.self.now.value = search rules in
     let own = to_z-of_z w64 c.args.self.now.value fits in
-    let number : c.args.self.now.number ≡ c.args.number = elim c.if-self-number.branch [
-      | then-self-number w ↦ grind
-          (arith, nat_tests)
-      | else-self-number w ↦ grind (arith, nat_tests)
+    let both : (c.args.self.now.number ≡ c.args.number) × IsName c.args.self.now.name = elim c.if-self-number.branch [
+      | then-self-number w ↦ (
+        grind (arith, nat_tests),
+        subst IsName w.as_str.ensures (w.is_name.ensures.0 (sym w.value-is ∙ c.if-is_name.true)),
+      )
+      | else-self-number w ↦ absurd (grind (arith, nat_tests))
     ] in
-    let name : IsName c.args.self.now.name = elim c.if-self-number.branch [
-      | then-self-number w ↦ subst IsName
-          w.as_str.ensures (w.is_name.ensures.0 (sym w.value-is ∙ c.if-is_name.true))
-      | else-self-number w ↦ absurd
-          (grind (arith, nat_tests))
-    ] in
-    charge_is c.args.number row a.field-0-0 a.calc a.value c.is_value.result number (sym a.ensures.some)
-    (sym (a.ensures' {u = tt}).some) ((a.ensures'' {u = tt}).some ∙ own) name
+    charge_is c.args.number row a.field-0-0 a.calc a.value c.is_value.result both.0 (sym a.ensures.some)
+    (sym (a.ensures' {u = tt}).some) ((a.ensures'' {u = tt}).some ∙ own) both.1
     (λ d e. (a.ensures' {u = tt}).every d (sym e)) (λ n e. (a.ensures'' {u = tt}).every n (e ∙ sym own))
     c.is_value.ensures

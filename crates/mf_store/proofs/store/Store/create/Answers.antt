@@ -4,15 +4,13 @@ use Rattle.mf_model.specs.Institution.{newly_made}
 use Rattle.mf_store.proofs.FirstLemmas.{founded_stands, unfounded}
 use Rattle.mf_store_commits.proofs.StandLemmas.{made_leaves}
 use Rattle.mf_store.proofs.KeptLemmas.{first_known}
-use Rattle.mf_store.proofs.store.Store.found.Goals as goal
+use Rattle.mf_store.proofs.store.Store.create.Goals as goal
 
 pub returns-in-Ok-apply-clause-stands : goal.returns-in-Ok-apply-clause-stands
-returns-in-Ok-apply-clause-stands g c clean none =
-    first_known g.S.Store c.apply.new.connection c.in-Ok-nothing.known (newly_made c.args.day)
-    c.in-Ok-nothing.ensures.nothing
-    (founded_stands g.S.Store c.args.connection c.apply.new.connection c.deref.result.now c.args.day
-    (subst (λ ws. Begins ws c.args.day) (sym c.deref.ensures.value) c.in-Ok.ensures.writes)
-    (c.soundness.ensures.first c.args.day c.requires.day) (c.in-Ok-apply.ensures.ok clean) none)
+returns-in-Ok-apply-clause-stands g c clean none = first_known g.S.Store _ _ _ c.in-Ok-nothing.ensures.nothing
+    (founded_stands g.S.Store c.args.connection c.apply.new.connection _ _ (subst (λ ws. Begins ws c.args.day)
+    (sym c.deref.ensures.value) c.in-Ok.ensures.writes) (c.soundness.ensures.first c.args.day c.requires.day)
+    (c.in-Ok-apply.ensures.ok clean) none)
 
 pub returns-in-Ok-apply-clause-leaves : goal.returns-in-Ok-apply-clause-leaves
 returns-in-Ok-apply-clause-leaves g c clean none =
@@ -25,6 +23,6 @@ returns-in-Ok-apply-clause-leaves g c clean none =
     })
 
 pub returns-clause-given_back : goal.returns-clause-given_back
-returns-clause-given_back g c = unfounded g.S.Store c.args.connection c.apply.new.connection c.deref.result.now
-    c.args.day (subst (λ ws. Begins ws c.args.day) (sym c.deref.ensures.value) c.in-Ok.ensures.writes)
-    c.apply.ensures.was_open c.in-Err-apply.ensures.err c.apply.ensures.crash
+returns-clause-given_back g c = unfounded g.S.Store _ _ _ _ (subst (λ ws. Begins ws c.args.day)
+    (sym c.deref.ensures.value) c.in-Ok.ensures.writes) c.apply.ensures.was_open c.in-Err-apply.ensures.err
+    c.apply.ensures.crash
