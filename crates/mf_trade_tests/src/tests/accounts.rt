@@ -71,7 +71,7 @@ outstanding [0, 0, 333, 51667] overpaid 0 refunded 0;;1 Interest 1000,1 Principa
 fn repayments_and_reversals(rt: HostRuntime) -> Result<(), Fail> {
     for (steps, expected) in CASES {
         let mut loan = OpenLoan::new(rt.alloc())?;
-        let told = loan.tell(rt.alloc(), *steps)?;
+        let told = loan.take_steps(rt.alloc(), *steps)?;
         assert!(rt; told.as_str() == *expected, "{expected}");
     }
     Ok(())

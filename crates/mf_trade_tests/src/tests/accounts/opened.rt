@@ -101,7 +101,7 @@ impl OpenLoan {
 
     /// Takes steps, and gives what is told: by a refused one the number of its refusal, by one that reads what it
     /// reads.
-    pub fn tell(&mut self, alloc: Global, steps: &[Step]) -> Result<String, Fault> {
+    pub fn take_steps(&mut self, alloc: Global, steps: &[Step]) -> Result<String, Fault> {
         let mut text = String::new(alloc);
         for step in steps {
             match self.tell(alloc, *step, &mut text) {

@@ -19,9 +19,9 @@ fn assert_told_after(
 ) -> Result<(), Fail> {
     let mut loan = OpenLoan::new(alloc)?;
     for _ in 0..cents {
-        loan.tell(alloc, &[CENT])?;
+        loan.take_steps(alloc, &[CENT])?;
     }
-    let told = loan.tell(alloc, steps)?;
+    let told = loan.take_steps(alloc, steps)?;
     assert_eq!(rt; told.as_str(), expected);
     Ok(())
 }
