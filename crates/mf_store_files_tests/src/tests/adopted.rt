@@ -441,7 +441,7 @@ struct Refusal<'a> {
 }
 
 /// What an audit says of the tables of a connection, in its first line.
-fn audit_text<S: Alter>(alloc: Global, connection: &mut Connection<S>) -> Result<String, Fault>
+fn first_line_of_audit<S: Alter>(alloc: Global, connection: &mut Connection<S>) -> Result<String, Fault>
     requires alone { connection.old.in_transaction ≡ false }
     ensures mode { connection.new.in_transaction ≡ false }
 {
@@ -466,7 +466,7 @@ impl Trial for Refusal<'_> {
         if !connection.is_autocommit() {
             return Ok(false);
         }
-        let said = audit_text(alloc, &mut connection)?;
+        let said = first_line_of_audit(alloc, &mut connection)?;
         let wanted = format!(in alloc; "audit: {}\n", self.found)?;
         let after = show(alloc, &mut connection)?;
         Ok(refused && said.as_str() == wanted.as_str() && before.as_str() == after.as_str())

@@ -164,7 +164,7 @@ fn a_sheet_that_is_torn(rt: HostRuntime) -> Result<(), Fail> {
 }
 
 /// A client that sends these bytes, and no more.
-fn send<R: Net<Stream = TcpStream>>(rt: &R, port: u16, bytes: &str) -> io::Result<TcpStream> {
+fn send_message<R: Net<Stream = TcpStream>>(rt: &R, port: u16, bytes: &str) -> io::Result<TcpStream> {
     let stream = TcpStream::connect(rt, (Ipv4Addr::LOCALHOST, port))?;
     (&stream).write_all(bytes.as_bytes())?;
     stream.shutdown(Shutdown::Write)?;
@@ -184,10 +184,10 @@ fn connections_are_served_in_turn(rt: HostRuntime) -> Result<(), Fail> {
     let mut books = books_after(alloc, "")?;
     let listener = TcpListener::bind(&rt, (Ipv4Addr::LOCALHOST, 0))?;
     let port = listener.local_addr()?.port();
-    let silent = send(&rt, port, "")?;
-    let cut = send(&rt, port, "POST /clients HTTP/1.1\r\nX-Sta")?;
-    let whole = send(&rt, port, CLIENT)?;
-    let _late = send(&rt, port, CLIENT)?;
+    let silent = send_message(&rt, port, "")?;
+    let cut = send_message(&rt, port, "POST /clients HTTP/1.1\r\nX-Sta")?;
+    let whole = send_message(&rt, port, CLIENT)?;
+    let _late = send_message(&rt, port, CLIENT)?;
     let served = serve_connections(alloc, &rt, &mut books, &listener, 3, PATIENCE)?;
     assert_eq!(rt; served, 2);
     assert_eq!(rt; answer(alloc, &silent)?.as_str(), "");
@@ -231,8 +231,8 @@ fn connections_that_fail_count(rt: HostRuntime) -> Result<(), Fail> {
     let port = listener.local_addr()?.port();
     let torn = TcpStream::connect(&rt, (Ipv4Addr::LOCALHOST, port))?;
     (&torn).write_all(b"POST /clients HTTP/1.1\r\nX-Sta")?;
-    let whole = send(&rt, port, CLIENT)?;
-    let _late = send(&rt, port, CLIENT)?;
+    let whole = send_message(&rt, port, CLIENT)?;
+    let _late = send_message(&rt, port, CLIENT)?;
     let calls = Cell::new(0);
     let unsteady = Unsteady {
         listener: &listener,
@@ -287,7 +287,7 @@ fn a_silent_client_is_left(rt: HostRuntime) -> Result<(), Fail> {
     let listener = TcpListener::bind(&rt, (Ipv4Addr::LOCALHOST, 0))?;
     let port = listener.local_addr()?.port();
     let silent = TcpStream::connect(&rt, (Ipv4Addr::LOCALHOST, port))?;
-    let whole = send(&rt, port, CLIENT)?;
+    let whole = send_message(&rt, port, CLIENT)?;
     let served = serve_connections(alloc, &rt, &mut books, &listener, 2, PATIENCE)?;
     assert_eq!(rt; served, 1);
     assert_eq!(rt; answer(alloc, &silent)?.as_str(), "");
@@ -334,7 +334,7 @@ fn a_client_that_takes_too_long_is_left(rt: HostRuntime) -> Result<(), Fail> {
             seconds: seconds.as_slice(),
             read: &read,
         };
-        let client = send(&rt, port, CLIENT)?;
+        let client = send_message(&rt, port, CLIENT)?;
         let served = serve_connections(alloc, &clock, &mut books, &listener, 1, PATIENCE)?;
         assert_eq!(rt; served, answered);
         let came = answer(alloc, &client).unwrap_or(String::new(alloc));
