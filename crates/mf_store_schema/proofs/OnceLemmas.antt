@@ -1,5 +1,5 @@
 -- A row is that of one record: each column tells its field.
-use Rattle.std.proofs.Common.{◌≡◌, ℕ, ℤ, List, [], Option, None, Some, refl, sym, ap, ◌∙◌}
+use Rattle.std.proofs.Common.{◌≡◌, ℕ, ℤ, ◌+◌, List, [], Option, None, Some, refl, sym, ap, ◌∙◌}
 use Rattle.std.specs.Prelude.{pos}
 use Rattle.sqlite.specs.declared.types.Value.{Value}
 use Rattle.sqlite.specs.declared.types.Value.TheVariants.{Int, Text}
@@ -17,6 +17,7 @@ use Rattle.mf_store_schema.specs.declared.loans.LoanRow.{LoanRow}
 use Rattle.mf_store_schema.specs.declared.entries.EntryRow.{EntryRow}
 use Rattle.mf_store_schema.specs.declared.receipts.ReceiptRow.{ReceiptRow}
 use Rattle.mf_store_schema.specs.declared.instalments.InstalmentRow.{InstalmentRow}
+use Rattle.mf_store_schema.specs.declared.instalments.PortionSums.{PortionSums}
 use Rattle.mf_store_schema.specs.declared.shares.ShareRow.{ShareRow}
 
 -- ---- what a column tells; anything of a column that is no such field's
@@ -193,29 +194,25 @@ receipt_in row = record {
 pub receipt_once : (x y : ReceiptRow) → receipt_row x ≡ receipt_row y → x ≡ y
 receipt_once x y same = ap receipt_in same
 
+-- a portion's sums, from this column on
+abbrev sums_in : ℕ → Row → PortionSums
+sums_in first row = record {
+  owed = amount_in (column row first);
+  paid = amount_in (column row (first + 1));
+  waived = amount_in (column row (first + 2));
+  written_off = amount_in (column row (first + 3));
+}
+
 abbrev instalment_in : Row → InstalmentRow
 instalment_in row = record {
   office = number_in (column row 0);
   loan = number_in (column row 1);
   number = number_in (column row 2);
   due = text_in (column row 3);
-  owed_penalty = amount_in (column row 4);
-  paid_penalty = amount_in (column row 5);
-  waived_penalty = amount_in (column row 6);
-  written_off_penalty = amount_in (column row 7);
-  owed_fee = amount_in (column row 8);
-  paid_fee = amount_in (column row 9);
-  waived_fee = amount_in (column row 10);
-  written_off_fee = amount_in (column row 11);
-  owed_interest = amount_in (column row 12);
-  paid_interest = amount_in (column row 13);
-  waived_interest = amount_in (column row 14);
-  written_off_interest = amount_in (column row 15);
-  owed_principal = amount_in (column row 16);
-  paid_principal = amount_in (column row 17);
-  waived_principal = amount_in (column row 18);
-  written_off_principal =
-      amount_in (column row 19);
+  penalty = sums_in 4 row;
+  fee = sums_in 8 row;
+  interest = sums_in 12 row;
+  principal = sums_in 16 row;
 }
 
 pub instalment_once : (x y : InstalmentRow) → instalment_row x ≡ instalment_row y → x ≡ y

@@ -1,5 +1,6 @@
 -- The rows of the tables, each table's as a list in the order of its key; and which of them the queries look for.
-use Rattle.std.specs.Prelude.{◌≡◌, ℕ, pos, Bool, true, not, ◌&&◌, List, [], ◌∷◌, filter, find, None, IsSome}
+use Rattle.std.specs.Prelude.{◌≡◌, ℕ, pos, Bool, true, not, ◌&&◌, List, [], ◌∷◌, ◌++◌, filter, find, None}
+use Rattle.std.specs.Prelude.{IsSome}
 use Rattle.std.specs.declared.cmp.Ordering.{Ordering}
 use Rattle.std.specs.Ordering.{nat_cmp, ordering_then, is_eq, is_lt, is_ge, is_gt}
 use Rattle.std.specs.Cmp.Lexicographic.{slice_cmp}
@@ -18,6 +19,7 @@ use Rattle.mf_store_schema.specs.declared.loans.LoanRow.{LoanRow}
 use Rattle.mf_store_schema.specs.declared.entries.EntryRow.{EntryRow}
 use Rattle.mf_store_schema.specs.declared.receipts.ReceiptRow.{ReceiptRow}
 use Rattle.mf_store_schema.specs.declared.instalments.InstalmentRow.{InstalmentRow}
+use Rattle.mf_store_schema.specs.declared.instalments.PortionSums.{PortionSums}
 use Rattle.mf_store_schema.specs.declared.shares.EntryKey.{EntryKey}
 use Rattle.mf_store_schema.specs.declared.shares.ShareRow.{ShareRow}
 
@@ -181,13 +183,14 @@ abbrev pub by_instalment : InstalmentRow → InstalmentRow → Ordering
 by_instalment a b =
     ordering_then (nat_cmp a.office b.office) (ordering_then (nat_cmp a.loan b.loan) (nat_cmp a.number b.number))
 
+-- the values of a portion's sums
+abbrev pub sums_row : PortionSums → Row
+sums_row sums = Int sums.owed ∷ Int sums.paid ∷ Int sums.waived ∷ Int sums.written_off ∷ []
+
 -- the values of a row of instalments
 abbrev pub instalment_row : InstalmentRow → Row
-instalment_row x = Int (pos x.office) ∷ Int (pos x.loan) ∷ Int (pos x.number) ∷ Text x.due ∷ Int x.owed_penalty
-    ∷ Int x.paid_penalty ∷ Int x.waived_penalty ∷ Int x.written_off_penalty ∷ Int x.owed_fee ∷ Int x.paid_fee
-    ∷ Int x.waived_fee ∷ Int x.written_off_fee ∷ Int x.owed_interest ∷ Int x.paid_interest ∷ Int x.waived_interest
-    ∷ Int x.written_off_interest ∷ Int x.owed_principal ∷ Int x.paid_principal ∷ Int x.waived_principal
-    ∷ Int x.written_off_principal ∷ []
+instalment_row x = Int (pos x.office) ∷ Int (pos x.loan) ∷ Int (pos x.number) ∷ Text x.due
+    ∷ sums_row x.penalty ++ sums_row x.fee ++ sums_row x.interest ++ sums_row x.principal
 
 -- the row under a key
 abbrev pub is_row_of_instalment : ℕ → ℕ → ℕ → InstalmentRow → Bool

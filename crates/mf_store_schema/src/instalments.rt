@@ -1,6 +1,11 @@
 //! The table instalments: its rows, and the texts that read and write them.
 
+ghost use Rattle.std.specs.Prelude.{◌≡◌, ◌≢◌, ◌+◌, IfOk, IfErr};
 ghost use Rattle.std.specs.Ordering.{is_eq};
+ghost use Rattle.sqlite.specs.Order.{column};
+ghost use Rattle.sqlite.specs.declared.error.ErrorCode.TheVariants.{OutOfMemory};
+ghost use Rattle.sqlite.specs.declared.types.Value.TheVariants.{Int};
+ghost use Rattle.mf_store_schema.specs.Fields.{IsAmount};
 ghost use Rattle.mf_store_schema.specs.Tables.{instalments};
 ghost use Rattle.mf_store_schema.specs.InstalmentsTexts.{kept, fits, ordered, lists_by_2};
 ghost use Rattle.mf_store_schema.specs.Keys.{two_numbers, three_numbers};
@@ -64,6 +69,36 @@ pub(crate) const INDEX: IndexWords = IndexWords {
     key: &[1, 2, 3],
 };
 
+/// The sums of a portion, in cents: what is owed, and of it what is paid, waived and written off.
+#[derive(Clone, Copy)]
+pub struct PortionSums {
+    pub owed: i64,
+    pub paid: i64,
+    pub waived: i64,
+    pub written_off: i64,
+}
+
+impl PortionSums {
+    /// The sums that four columns keep, from this one on. At any error but running out of memory one of these keeps no
+    /// amount.
+    pub fn read(row: &Row, first: u32) -> Result<PortionSums, Error>
+        ensures sums { IfOk result (λ sums. (column row.now first ≡ Int sums.owed)
+            × (column row.now (first + 1) ≡ Int sums.paid) × (column row.now (first + 2) ≡ Int sums.waived)
+            × (column row.now (first + 3) ≡ Int sums.written_off)) }
+        ensures none { IfErr result (λ e. e ≢ Error.SqliteFailure OutOfMemory
+            → ¬ (IsAmount (column row.now first) × IsAmount (column row.now (first + 1))
+            × IsAmount (column row.now (first + 2)) × IsAmount (column row.now (first + 3)))) }
+    {
+        let first = first as usize;
+        Ok(PortionSums {
+            owed: row.get(first)?,
+            paid: row.get(first + 1)?,
+            waived: row.get(first + 2)?,
+            written_off: row.get(first + 3)?,
+        })
+    }
+}
+
 /// A row of the table instalments.
 #[derive(Drop)]
 pub struct InstalmentRow {
@@ -74,23 +109,10 @@ pub struct InstalmentRow {
     pub number: u32,
     /// The day on which it is due, as YYYY-MM-DD.
     pub due: Text,
-    /// Cents, as in all that follow: by portion what is owed, and of it what is paid, waived and written off.
-    pub owed_penalty: i64,
-    pub paid_penalty: i64,
-    pub waived_penalty: i64,
-    pub written_off_penalty: i64,
-    pub owed_fee: i64,
-    pub paid_fee: i64,
-    pub waived_fee: i64,
-    pub written_off_fee: i64,
-    pub owed_interest: i64,
-    pub paid_interest: i64,
-    pub waived_interest: i64,
-    pub written_off_interest: i64,
-    pub owed_principal: i64,
-    pub paid_principal: i64,
-    pub waived_principal: i64,
-    pub written_off_principal: i64,
+    pub penalty: PortionSums,
+    pub fee: PortionSums,
+    pub interest: PortionSums,
+    pub principal: PortionSums,
 }
 
 impl Table for InstalmentRow {
@@ -122,22 +144,10 @@ impl Table for InstalmentRow {
             office: row.get(0)?,
             loan: row.get(1)?,
             number: row.get(2)?,
-            owed_penalty: row.get(4)?,
-            paid_penalty: row.get(5)?,
-            waived_penalty: row.get(6)?,
-            written_off_penalty: row.get(7)?,
-            owed_fee: row.get(8)?,
-            paid_fee: row.get(9)?,
-            waived_fee: row.get(10)?,
-            written_off_fee: row.get(11)?,
-            owed_interest: row.get(12)?,
-            paid_interest: row.get(13)?,
-            waived_interest: row.get(14)?,
-            written_off_interest: row.get(15)?,
-            owed_principal: row.get(16)?,
-            paid_principal: row.get(17)?,
-            waived_principal: row.get(18)?,
-            written_off_principal: row.get(19)?,
+            penalty: PortionSums::read(row, 4)?,
+            fee: PortionSums::read(row, 8)?,
+            interest: PortionSums::read(row, 12)?,
+            principal: PortionSums::read(row, 16)?,
             due: row.get(3)?,
         })
     }
@@ -151,22 +161,22 @@ impl Table for InstalmentRow {
                 self.loan,
                 self.number,
                 &self.due,
-                &self.owed_penalty,
-                &self.paid_penalty,
-                &self.waived_penalty,
-                &self.written_off_penalty,
-                &self.owed_fee,
-                &self.paid_fee,
-                &self.waived_fee,
-                &self.written_off_fee,
-                &self.owed_interest,
-                &self.paid_interest,
-                &self.waived_interest,
-                &self.written_off_interest,
-                &self.owed_principal,
-                &self.paid_principal,
-                &self.waived_principal,
-                &self.written_off_principal
+                &self.penalty.owed,
+                &self.penalty.paid,
+                &self.penalty.waived,
+                &self.penalty.written_off,
+                &self.fee.owed,
+                &self.fee.paid,
+                &self.fee.waived,
+                &self.fee.written_off,
+                &self.interest.owed,
+                &self.interest.paid,
+                &self.interest.waived,
+                &self.interest.written_off,
+                &self.principal.owed,
+                &self.principal.paid,
+                &self.principal.waived,
+                &self.principal.written_off
             ],
         )
     }

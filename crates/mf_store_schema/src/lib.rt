@@ -40,7 +40,7 @@ pub use charges::ChargeRow;
 pub use clients::ClientRow;
 pub use entries::EntryRow;
 pub use groups::{Group, Last};
-pub use instalments::InstalmentRow;
+pub use instalments::{InstalmentRow, PortionSums};
 pub use loans::{LoanRow, loans_above};
 pub use logs::{has_log, remove_bare_log};
 pub use meta::{FIRST_SCHEMA, MetaRow, SCHEMA};

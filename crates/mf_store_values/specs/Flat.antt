@@ -36,6 +36,7 @@ use Rattle.mf_store_schema.specs.declared.products.ProductRow.{ProductRow}
 use Rattle.mf_store_schema.specs.declared.loans.LoanRow.{LoanRow}
 use Rattle.mf_store_schema.specs.declared.entries.EntryRow.{EntryRow}
 use Rattle.mf_store_schema.specs.declared.instalments.InstalmentRow.{InstalmentRow}
+use Rattle.mf_store_schema.specs.declared.instalments.PortionSums.{PortionSums}
 use Rattle.mf_store_schema.specs.declared.shares.ShareRow.{ShareRow}
 
 -- the number of the schema that these tables are
@@ -138,6 +139,15 @@ entry_in office loan e = record {
   reversed = flag_number e.reversed;
 }
 
+-- the sums of a portion of an instalment, by its place
+abbrev pub sums_at : Instalment → ℕ → PortionSums
+sums_at row p = record {
+  owed = pos (slice_index row.owed p);
+  paid = pos (slice_index row.paid p);
+  waived = pos (slice_index row.waived p);
+  written_off = pos (slice_index row.written_off p);
+}
+
 -- the row of an instalment, with its number: office, loan
 abbrev pub instalment_in : ℕ → ℕ → ℕ × Instalment → InstalmentRow
 instalment_in office loan numbered = record {
@@ -145,22 +155,10 @@ instalment_in office loan numbered = record {
   loan = loan;
   number = numbered.0;
   due = day_text numbered.1.due;
-  owed_penalty = pos (slice_index numbered.1.owed 0);
-  paid_penalty = pos (slice_index numbered.1.paid 0);
-  waived_penalty = pos (slice_index numbered.1.waived 0);
-  written_off_penalty = pos (slice_index numbered.1.written_off 0);
-  owed_fee = pos (slice_index numbered.1.owed 1);
-  paid_fee = pos (slice_index numbered.1.paid 1);
-  waived_fee = pos (slice_index numbered.1.waived 1);
-  written_off_fee = pos (slice_index numbered.1.written_off 1);
-  owed_interest = pos (slice_index numbered.1.owed 2);
-  paid_interest = pos (slice_index numbered.1.paid 2);
-  waived_interest = pos (slice_index numbered.1.waived 2);
-  written_off_interest = pos (slice_index numbered.1.written_off 2);
-  owed_principal = pos (slice_index numbered.1.owed 3);
-  paid_principal = pos (slice_index numbered.1.paid 3);
-  waived_principal = pos (slice_index numbered.1.waived 3);
-  written_off_principal = pos (slice_index numbered.1.written_off 3);
+  penalty = sums_at numbered.1 0;
+  fee = sums_at numbered.1 1;
+  interest = sums_at numbered.1 2;
+  principal = sums_at numbered.1 3;
 }
 
 -- the row of what an entry settled in a cell, with the entry's number and its place within the entry: office, loan

@@ -1,15 +1,14 @@
 -- What is shown of an instalment's principal.
-use Rattle.std.specs.Prelude.{◌≡◌, ℕ, Bool, true, List, [], ◌∷◌, find, Some}
-use Rattle.sqlite.specs.declared.types.Value.TheVariants.{Int}
+use Rattle.std.specs.Prelude.{◌≡◌, ℕ, Bool, true, List, find, Some}
 use Rattle.sqlite.specs.Order.{Row}
 use Rattle.mf_alloc.specs.Sums.{Instalment, is_open}
+use Rattle.mf_store_schema.specs.Rows.{sums_row}
 use Rattle.mf_store_schema.specs.declared.instalments.InstalmentRow.{InstalmentRow}
 use Rattle.mf_store_values.specs.Flat.{instalment_in}
 
 -- what is owed, paid, waived and written off of it
 abbrev pub principal_row : InstalmentRow → Row
-principal_row x =
-    Int x.owed_principal ∷ Int x.paid_principal ∷ Int x.waived_principal ∷ Int x.written_off_principal ∷ []
+principal_row x = sums_row x.principal
 
 -- the sums whose row it is have something outstanding
 abbrev pub IsOpenRow : InstalmentRow → Type 0

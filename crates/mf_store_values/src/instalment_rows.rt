@@ -1,14 +1,29 @@
 //! The rows of instalments, made of those of an account.
 
 ghost use Rattle.std.specs.Prelude.{◌≡◌, ◌++◌, map, OnOk, IfOk, IfErr};
+ghost use Rattle.mf_alloc.specs.Rows.{place_in_row};
 ghost use Rattle.mf_base.specs.declared.fault.Fault.TheVariants.{F20};
-ghost use Rattle.mf_store_values.specs.Flat.{instalment_in, numbered_from};
+ghost use Rattle.mf_store_values.specs.Flat.{instalment_in, numbered_from, sums_at};
 
 use crate::numbers::to_signed;
-use mf_alloc::Instalment;
+use mf_alloc::{Instalment, Portion};
 use mf_base::Fault;
-use mf_store_schema::{InstalmentRow, Text};
+use mf_store_schema::{InstalmentRow, PortionSums, Text};
 use std::alloc::Global;
+
+/// The sums of a portion of an instalment.
+fn sums_of(row: &Instalment, portion: Portion) -> Result<PortionSums, Fault>
+    ensures sums { IfOk result (λ made. made ≡ sums_at row.now (place_in_row portion)) }
+    ensures gives_up { IfErr result (λ fault. fault ≡ F20) }
+{
+    let place = portion.index();
+    Ok(PortionSums {
+        owed: to_signed(row.owed[place])?,
+        paid: to_signed(row.paid[place])?,
+        waived: to_signed(row.waived[place])?,
+        written_off: to_signed(row.written_off[place])?,
+    })
+}
 
 /// The row of an instalment as it stands, with its number.
 pub fn instalment_row(
@@ -21,34 +36,15 @@ pub fn instalment_row(
     ensures row { IfOk result (λ made. made ≡ instalment_in office loan (number, row.now)) }
     ensures gives_up { IfErr result (λ fault. fault ≡ F20) }
 {
-    let Instalment {
-        due,
-        owed,
-        paid,
-        waived,
-        written_off,
-    } = *row;
     Ok(InstalmentRow {
         office,
         loan,
         number,
-        owed_penalty: to_signed(owed[0])?,
-        paid_penalty: to_signed(paid[0])?,
-        waived_penalty: to_signed(waived[0])?,
-        written_off_penalty: to_signed(written_off[0])?,
-        owed_fee: to_signed(owed[1])?,
-        paid_fee: to_signed(paid[1])?,
-        waived_fee: to_signed(waived[1])?,
-        written_off_fee: to_signed(written_off[1])?,
-        owed_interest: to_signed(owed[2])?,
-        paid_interest: to_signed(paid[2])?,
-        waived_interest: to_signed(waived[2])?,
-        written_off_interest: to_signed(written_off[2])?,
-        owed_principal: to_signed(owed[3])?,
-        paid_principal: to_signed(paid[3])?,
-        waived_principal: to_signed(waived[3])?,
-        written_off_principal: to_signed(written_off[3])?,
-        due: Text::new(due.text(alloc)?),
+        penalty: sums_of(row, Portion::Penalty)?,
+        fee: sums_of(row, Portion::Fee)?,
+        interest: sums_of(row, Portion::Interest)?,
+        principal: sums_of(row, Portion::Principal)?,
+        due: Text::new(row.due.text(alloc)?),
     })
 }
 

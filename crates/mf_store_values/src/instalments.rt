@@ -1,80 +1,47 @@
 //! What the rows of a loan's instalments stand for. What can be no instalment's is F20.
 
-ghost use Rattle.std.specs.Prelude.{◌≡◌, ◌+◌, ◌≤◌, ℕ, List, [], ◌∷◌, map, pos, IsTrue, IfOk, IfErr};
-ghost use Rattle.mf_base.specs.DayText.{day_text};
+ghost use Rattle.std.specs.Prelude.{◌≡◌, ◌+◌, ◌≤◌, ℕ, List, map, pos, IfOk, IfErr};
 ghost use Rattle.mf_base.specs.declared.fault.Fault.TheVariants.{F20};
 ghost use Rattle.std.specs.List.{AllByRecursion, list_any};
-ghost use Rattle.mf_alloc.specs.Sums.{Instalment, AreWhole, AreWithin, IsRowWithin, IsWithin, IsWhole, is_open};
+ghost use Rattle.mf_alloc.specs.Sums.{Instalment, AreWhole, AreWithin, IsRowWithin, IsWhole, is_open};
 ghost use Rattle.mf_store_schema.specs.Rows.{instalment_row};
 ghost use Rattle.mf_store_values.specs.Flat.{instalment_in};
 
 use crate::loans::day_from;
 use crate::values::to_unsigned;
 use mf_base::Fault;
-use mf_store_schema::{InstalmentRow, read_row};
+use mf_store_schema::{InstalmentRow, PortionSums, read_row};
 use sqlite::Row;
 use std::alloc::Global;
 
-/// Four sums in whole cents, in the order of the portions.
-fn four(penalty: &i64, fee: &i64, interest: &i64, principal: &i64) -> Result<[u64; 4], Fault>
-    ensures sums { IfOk result (λ sums. map pos sums ≡ penalty.now ∷ fee.now ∷ interest.now ∷ principal.now ∷ []) }
-    ensures gives_up { IfErr result (λ fault. fault ≡ F20) }
-{
-    Ok([
-        to_unsigned(*penalty)?,
-        to_unsigned(*fee)?,
-        to_unsigned(*interest)?,
-        to_unsigned(*principal)?,
-    ])
+/// The sums of a portion as amounts in cents.
+#[derive(Clone, Copy)]
+pub(crate) struct PortionAmounts {
+    pub(crate) owed: u64,
+    pub(crate) paid: u64,
+    pub(crate) waived: u64,
+    pub(crate) written_off: u64,
 }
 
-/// Whether what is paid, waived and written off of a portion is together at most what is owed.
-fn is_within(owed: u64, paid: u64, waived: u64, written_off: u64) -> bool
-    ensures { IsTrue result → paid + waived + written_off ≤ owed }
-{
-    paid <= owed && waived <= owed - paid && written_off <= owed - paid - waived
-}
-
-/// The same in each portion.
-fn are_within(owed: &[u64; 4], paid: &[u64; 4], waived: &[u64; 4], written_off: &[u64; 4]) -> bool
-    ensures { IsTrue result → IsWithin owed.now paid.now waived.now written_off.now }
-{
-    if !is_within(owed[0], paid[0], waived[0], written_off[0]) {
-        return false;
-    }
-    if !is_within(owed[1], paid[1], waived[1], written_off[1]) {
-        return false;
-    }
-    if !is_within(owed[2], paid[2], waived[2], written_off[2]) {
-        return false;
-    }
-    is_within(owed[3], paid[3], waived[3], written_off[3])
-}
-
-/// The instalment that these sums are.
-fn instalment_of(
-    row: &InstalmentRow,
-    owed: [u64; 4],
-    paid: [u64; 4],
-    waived: [u64; 4],
-    written_off: [u64; 4],
-) -> Result<mf_alloc::Instalment, Fault>
-    ensures row { IfOk result (λ found. (due : ℕ) → row.now.due ≡ day_text due → found ≡ record {
-      due = due;
-      owed = owed;
-      paid = paid;
-      waived = waived;
-      written_off = written_off;
+/// The sums of a portion as amounts; F20 where one is negative, or more is settled than owed.
+pub(crate) fn amounts_from(sums: PortionSums) -> Result<PortionAmounts, Fault>
+    ensures amounts { IfOk result (λ amounts. sums ≡ record {
+      owed = pos amounts.owed;
+      paid = pos amounts.paid;
+      waived = pos amounts.waived;
+      written_off = pos amounts.written_off;
     }) }
-    ensures within { IfOk result (λ found. IsWhole found × IsRowWithin found) }
+    ensures within { IfOk result (λ amounts. amounts.paid + amounts.waived + amounts.written_off ≤ amounts.owed) }
     ensures gives_up { IfErr result (λ fault. fault ≡ F20) }
 {
-    let due = day_from(&row.due)?;
-    if !are_within(&owed, &paid, &waived, &written_off) {
+    let owed = to_unsigned(sums.owed)?;
+    let paid = to_unsigned(sums.paid)?;
+    let waived = to_unsigned(sums.waived)?;
+    let written_off = to_unsigned(sums.written_off)?;
+    if paid > owed || waived > owed - paid || written_off > owed - paid - waived {
         return Err(Fault::F20);
     }
-    Ok(mf_alloc::Instalment {
-        due,
+    Ok(PortionAmounts {
         owed,
         paid,
         waived,
@@ -89,31 +56,28 @@ pub fn instalment_from(row: &InstalmentRow) -> Result<mf_alloc::Instalment, Faul
     ensures within { IfOk result (λ found. IsWhole found × IsRowWithin found) }
     ensures gives_up { IfErr result (λ fault. fault ≡ F20) }
 {
-    let owed = four(
-        &row.owed_penalty,
-        &row.owed_fee,
-        &row.owed_interest,
-        &row.owed_principal,
-    )?;
-    let paid = four(
-        &row.paid_penalty,
-        &row.paid_fee,
-        &row.paid_interest,
-        &row.paid_principal,
-    )?;
-    let waived = four(
-        &row.waived_penalty,
-        &row.waived_fee,
-        &row.waived_interest,
-        &row.waived_principal,
-    )?;
-    let written_off = four(
-        &row.written_off_penalty,
-        &row.written_off_fee,
-        &row.written_off_interest,
-        &row.written_off_principal,
-    )?;
-    instalment_of(row, owed, paid, waived, written_off)
+    let penalty = amounts_from(row.penalty)?;
+    let fee = amounts_from(row.fee)?;
+    let interest = amounts_from(row.interest)?;
+    let principal = amounts_from(row.principal)?;
+    let due = day_from(&row.due)?;
+    Ok(mf_alloc::Instalment {
+        due,
+        owed: [penalty.owed, fee.owed, interest.owed, principal.owed],
+        paid: [penalty.paid, fee.paid, interest.paid, principal.paid],
+        waived: [
+            penalty.waived,
+            fee.waived,
+            interest.waived,
+            principal.waived,
+        ],
+        written_off: [
+            penalty.written_off,
+            fee.written_off,
+            interest.written_off,
+            principal.written_off,
+        ],
+    })
 }
 
 /// The instalment of a row as the tables give it.
