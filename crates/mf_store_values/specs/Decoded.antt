@@ -1,8 +1,35 @@
--- What the columns of an entry's row stand for.
-use Rattle.std.specs.Prelude.{ℕ, List, Option}
+-- What the columns of the rows of charges, products, loans and entries stand for.
+use Rattle.std.specs.Prelude.{◌≡◌, ℕ, List, Option}
 use Rattle.mf_account.specs.declared.entry.Entry.{Entry}
+use Rattle.mf_model.specs.Institution.{ListedCharge, ListedProduct}
+use Rattle.mf_model.specs.Stages.{stage_number}
+use Rattle.mf_model.specs.declared.loan.Stage.{Stage}
+use Rattle.mf_store_values.specs.declared.catalogue.ChargeColumns.{ChargeColumns}
+use Rattle.mf_store_values.specs.declared.catalogue.ProductColumns.{ProductColumns}
 use Rattle.mf_store_values.specs.declared.kept_entries.EntryColumns.{EntryColumns}
+use Rattle.mf_store_values.specs.Flat.{approval_text, disbursal_text}
 use Rattle.mf_store_schema.specs.declared.entries.EntryRow.{EntryRow}
+use Rattle.mf_store_schema.specs.declared.loans.LoanRow.{LoanRow}
+
+-- what they stand for of a charge
+abbrev pub charge_columns_of : ListedCharge → ChargeColumns
+charge_columns_of c = record { kind = c.kind; calc = c.calc; value = c.value }
+
+-- what they stand for of a product
+abbrev pub product_columns_of : ListedProduct → ProductColumns
+product_columns_of p = record {
+  method = p.members.method;
+  freq = p.members.freq;
+  strategy = p.members.strategy;
+  min_principal = p.members.min_principal;
+  max_principal = p.members.max_principal;
+  retired = p.retired;
+}
+
+-- the number and the texts of days that a row keeps of a stage
+abbrev pub IsStageTold : Stage → LoanRow → Type 0
+IsStageTold stage row = (stage_number stage ≡ row.stage) × (approval_text stage ≡ row.approved)
+    × (disbursal_text stage ≡ row.disbursed)
 
 -- what they stand for of an entry
 abbrev pub entry_columns_of : Entry → EntryColumns

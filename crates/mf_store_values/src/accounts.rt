@@ -1,35 +1,22 @@
 //! The account of a loan, by the rows of the loan, of its entries and of the catalogue.
 
-ghost use Rattle.std.specs.Prelude.{◌≡◌, ◌≤◌, ℕ, List, map, option_map, IfOk, IfErr};
-ghost use Rattle.mf_base.specs.DayText.{last_entered_day};
+ghost use Rattle.std.specs.Prelude.{◌≡◌, ℕ, List, map, option_map, IfOk, IfErr};
 ghost use Rattle.mf_base.specs.declared.fault.Fault.TheVariants.{F20};
 ghost use Rattle.mf_account.specs.Change.{account_by_replay};
 ghost use Rattle.mf_model.specs.Accounts.{account_in};
 ghost use Rattle.mf_model.specs.Institution.{Catalogue, Ledger};
-ghost use Rattle.mf_model.specs.Sound.{IsSoundCatalogue, IsStageBy};
-ghost use Rattle.mf_model.specs.Stages.{disbursed_on};
-ghost use Rattle.mf_model.specs.declared.loan.Loan.{Loan};
+ghost use Rattle.mf_model.specs.Sound.{IsSoundCatalogue};
 ghost use Rattle.mf_store_values.specs.Flat.{charge_as, product_as, loan_in, entry_in, numbered_from};
 ghost use Rattle.mf_store_values.specs.Ledgers.{IsPlainLoan};
 
 use crate::kept_entries::entries_of;
+use crate::loans::disbursal_day;
 use crate::numbers::amount_from;
 use crate::terms::terms_of;
 use mf_account::LoanAccount;
-use mf_base::{Day, Fault};
+use mf_base::Fault;
 use mf_store_schema::{ChargeRow, EntryRow, LoanRow, ProductRow};
 use std::alloc::Global;
-
-/// The day on which the loan of a row was disbursed, if it was.
-fn disbursal_day(row: &LoanRow) -> Option<Day>
-    ensures { (today office number : ℕ) (l : Loan) → today ≤ last_entered_day → IsStageBy today l.stage →
-        loan_in office number l ≡ row.now → result ≡ disbursed_on l.stage }
-{
-    match &row.disbursed {
-        None => None,
-        Some(text) => Day::parse(text.as_str().as_bytes()),
-    }
-}
 
 /// The account of the loan of a row, or None where the loan has none. The only error is F20, out of memory.
 pub fn account_of(

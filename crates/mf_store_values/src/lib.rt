@@ -12,7 +12,6 @@ mod fold;
 mod instalment_rows;
 mod instalments;
 mod kept_entries;
-mod kept_shares;
 mod loans;
 mod numbers;
 mod office_line;
@@ -30,14 +29,15 @@ mod values;
 
 pub use account_rows::{are_accounts, rows_of_accounts};
 pub use accounts::account_of;
-pub use catalogue::{charge_from, product_from};
+pub use catalogue::{
+    ChargeColumns, ProductColumns, charge_columns, charge_from, product_columns, product_from,
+};
 pub use entries::entries_from;
 pub use fold::{NoLine, fold_loans};
 pub use instalment_rows::instalment_row;
 pub use instalments::{instalment_from, instalments_from, is_active};
 pub use kept_entries::{EntryColumns, entry_columns};
-pub use kept_shares::part_of;
-pub use loans::{loan_from, loan_in_row};
+pub use loans::{disbursal_day, loan_from, loan_in_row, stage_of};
 pub use numbers::{amount_from, flag_from, to_signed};
 pub use office_line::line_of_office;
 pub use office_rows::{Ledger, OfficeRows, StaffMember, names_from, staff_from};

@@ -1,16 +1,18 @@
 //! What the rows of loans stand for.
 
-ghost use Rattle.std.specs.Prelude.{◌≡◌, ℕ, Some, IfOk, IfErr};
+ghost use Rattle.std.specs.Prelude.{◌≡◌, ◌≤◌, ℕ, Some, IfSome, IfOk, IfErr};
 ghost use Rattle.mf_base.specs.declared.fault.Fault.TheVariants.{F20};
-ghost use Rattle.mf_base.specs.DayText.{day_text};
-ghost use Rattle.mf_model.specs.Stages.{stage_number};
+ghost use Rattle.mf_base.specs.DayText.{day_text, last_entered_day};
+ghost use Rattle.mf_model.specs.Sound.{IsStageBy};
+ghost use Rattle.mf_model.specs.Stages.{disbursed_on};
 ghost use Rattle.mf_model.specs.declared.loan.Loan.{Loan};
 ghost use Rattle.mf_model.specs.declared.loan.Stage.{Stage};
 ghost use Rattle.mf_store_schema.specs.Rows.{loan_row};
-ghost use Rattle.mf_store_values.specs.Flat.{loan_in, approval_text, disbursal_text};
+ghost use Rattle.mf_store_values.specs.Decoded.{IsStageTold};
+ghost use Rattle.mf_store_values.specs.Flat.{loan_in};
 
 use crate::offices::office_number;
-use crate::values::to_unsigned;
+use crate::values::{or_give_up, to_unsigned};
 use mf_base::{Day, Fault, laws};
 use mf_model::{Loan, Stage};
 use mf_office::{Account, AccountNo};
@@ -29,22 +31,43 @@ pub(crate) fn day_from(text: &Text) -> Result<Day, Fault>
     }
 }
 
-/// The stage that a number and the days of approval and disbursement stand for.
-fn stage_from(number: u32, approved: Option<Text>, disbursed: Option<Text>) -> Result<Stage, Fault>
-    ensures stage { IfOk result (λ stage. (s : Stage) → stage_number s ≡ number → approval_text s ≡ approved
-        → disbursal_text s ≡ disbursed → stage ≡ s) }
-    ensures gives_up { IfErr result (λ fault. fault ≡ F20) }
+/// The day of a text, where it is one that may be entered.
+fn entered_day(text: &Text) -> Option<Day>
+    ensures some { IfSome result (λ day. (day ≤ last_entered_day) × (day_text day ≡ text.now)) }
+    ensures every { (day : ℕ) → day ≤ last_entered_day → day_text day ≡ text.now → result ≡ Some day }
 {
-    match (number, approved, disbursed) {
-        (100, None, None) => Ok(Stage::Submitted),
-        (200, Some(approved), None) => Ok(Stage::Approved(day_from(&approved)?)),
-        (300, Some(approved), Some(disbursed)) => Ok(Stage::Disbursed {
-            approved: day_from(&approved)?,
-            day: day_from(&disbursed)?,
+    Day::parse(text.as_str().as_bytes())
+}
+
+/// The stage that a row's number of a stage and its days of approval and disbursement stand for, or None where they
+/// stand for none.
+pub fn stage_of(row: &LoanRow) -> Option<Stage>
+    ensures some { IfSome result (λ stage. IsStageTold stage row.now) }
+    ensures every { (today : ℕ) (stage : Stage) → today ≤ last_entered_day → IsStageBy today stage
+        → IsStageTold stage row.now → result ≡ Some stage }
+    ensures only { IfSome result (λ stage. (s : Stage) → IsStageTold s row.now → stage ≡ s) }
+{
+    match (row.stage, &row.approved, &row.disbursed) {
+        (100, None, None) => Some(Stage::Submitted),
+        (200, Some(approved), None) => Some(Stage::Approved(entered_day(approved)?)),
+        (300, Some(approved), Some(disbursed)) => Some(Stage::Disbursed {
+            approved: entered_day(approved)?,
+            day: entered_day(disbursed)?,
         }),
-        (400, None, None) => Ok(Stage::Withdrawn),
-        (500, None, None) => Ok(Stage::Rejected),
-        _ => Err(Fault::F20),
+        (400, None, None) => Some(Stage::Withdrawn),
+        (500, None, None) => Some(Stage::Rejected),
+        _ => None,
+    }
+}
+
+/// The day on which the loan of a row was disbursed, if it was.
+pub fn disbursal_day(row: &LoanRow) -> Option<Day>
+    ensures { (today office number : ℕ) (l : Loan) → today ≤ last_entered_day → IsStageBy today l.stage →
+        loan_in office number l ≡ row.now → result ≡ disbursed_on l.stage }
+{
+    match stage_of(row)? {
+        Stage::Disbursed { day, .. } => Some(day),
+        _ => None,
     }
 }
 
@@ -67,7 +90,7 @@ pub fn loan_from(row: LoanRow) -> Result<Loan, Fault>
 {
     let client = account_number(row.client)?;
     let principal = to_unsigned(row.principal)?;
-    let stage = stage_from(row.stage, row.approved, row.disbursed)?;
+    let stage = or_give_up(stage_of(&row))?;
     Ok(Loan {
         client,
         product: row.product,

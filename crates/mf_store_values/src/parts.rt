@@ -1,19 +1,44 @@
 //! What the rows of a loan's shares stand for. What can be no share's is F20.
 
-ghost use Rattle.std.specs.Prelude.{◌≡◌, ℕ, List, map, IfOk, IfErr};
+ghost use Rattle.std.specs.Prelude.{◌≡◌, ℕ, Some, List, map, IfOk, IfErr};
 ghost use Rattle.mf_base.specs.declared.fault.Fault.TheVariants.{F20};
 ghost use Rattle.mf_account.specs.declared.settled.SettledPart.{SettledPart};
 ghost use Rattle.mf_store_schema.specs.Rows.{share_row};
 ghost use Rattle.mf_store_values.specs.Flat.{share_in};
 ghost use Rattle.mf_store_values.specs.Kept.{part_told};
 
-use crate::kept_shares::part_of;
+use crate::numbers::amount_from;
 use crate::values::or_give_up;
-use mf_account::SettledPart;
-use mf_base::Fault;
+use mf_account::{How, SettledPart};
+use mf_alloc::{Cell, Portion};
+use mf_base::{Choice, Fault};
 use mf_store_schema::{ShareRow, read_row};
 use sqlite::Row;
 use std::alloc::Global;
+
+/// The part of a cell whose row this is, or None where it is that of none.
+fn part_of(row: &ShareRow) -> Option<SettledPart>
+    ensures part { (office loan : ℕ) (placed : ℕ × (ℕ × SettledPart)) → share_in office loan placed ≡ row.now
+        → result ≡ Some (part_told placed) }
+{
+    match (
+        Portion::from_number(row.portion),
+        How::from_number(row.how),
+        amount_from(row.amount),
+    ) {
+        (Some(portion), Some(how), Some(amount)) => Some(SettledPart {
+            seq: row.seq,
+            place: row.place,
+            cell: Cell {
+                instalment: row.instalment,
+                portion,
+            },
+            how,
+            amount,
+        }),
+        _ => None,
+    }
+}
 
 /// The part of a row as the tables give it.
 fn part_in_row(row: &Row) -> Result<SettledPart, Fault>

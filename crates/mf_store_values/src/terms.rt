@@ -8,10 +8,10 @@ ghost use Rattle.mf_model.specs.Institution.{Catalogue, ListedCharge, ListedProd
 ghost use Rattle.mf_model.specs.Institution.{charge_in};
 ghost use Rattle.mf_store_values.specs.Flat.{charge_as, product_as, numbered_from};
 
-use crate::numbers::amount_from;
+use crate::catalogue::{charge_columns, product_columns};
 use crate::row_numbers::row_numbered;
-use mf_base::{Choice, Fault, Freq, Name};
-use mf_catalog::{Calc, ChargeDef, ChargeKind, Method, StrategyName, Terms};
+use mf_base::{Fault, Name};
+use mf_catalog::{ChargeDef, Terms};
 use mf_store_schema::{ChargeRow, ProductRow};
 use std::alloc::Global;
 
@@ -22,19 +22,9 @@ fn charge_def(alloc: Global, number: u32, row: &ChargeRow) -> Result<Option<Char
     ensures gives_up { IfErr result (λ fault. fault ≡ F20) }
 {
     let name = Name::new(String::from_str(alloc, row.name.as_str())?);
-    match (
-        ChargeKind::from_number(row.kind),
-        Calc::from_number(row.calc),
-        amount_from(row.value),
-    ) {
-        (Some(kind), Some(calc), Some(value)) => Ok(Some(ChargeDef {
-            number,
-            name,
-            kind,
-            calc,
-            value,
-        })),
-        _ => Ok(None),
+    match charge_columns(row) {
+        Some(columns) => Ok(Some(columns.charge(number, name))),
+        None => Ok(None),
     }
 }
 
@@ -70,25 +60,19 @@ fn terms_with(
         overdue ≡ charge_of (charge_in k) row.now.overdue_charge →
         result ≡ Some (terms_of (charge_in k) p.members) }
 {
-    match (
-        Method::from_number(row.method),
-        Freq::from_number(row.frequency),
-        StrategyName::from_number(row.strategy),
-    ) {
-        (Some(method), Some(freq), Some(strategy)) => Some(Terms {
-            method,
-            rate: row.rate,
-            freq,
-            every: row.every,
-            principal_grace: row.principal_grace,
-            interest_grace: row.interest_grace,
-            strategy,
-            disbursement,
-            instalment,
-            overdue,
-        }),
-        _ => None,
-    }
+    let columns = product_columns(row)?;
+    Some(Terms {
+        method: columns.method,
+        rate: row.rate,
+        freq: columns.freq,
+        every: row.every,
+        principal_grace: row.principal_grace,
+        interest_grace: row.interest_grace,
+        strategy: columns.strategy,
+        disbursement,
+        instalment,
+        overdue,
+    })
 }
 
 /// The terms that the product of this number gives its loans, or None where it is not there.
