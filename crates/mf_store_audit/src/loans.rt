@@ -7,7 +7,7 @@ ghost use Rattle.mf_model.specs.Institution.{item_numbered};
 ghost use Rattle.mf_model.specs.Stages.{stage_number};
 ghost use Rattle.mf_store_values.specs.Flat.{approval_text, disbursal_text};
 ghost use Rattle.mf_store_schema.specs.Rows.{by_loan};
-ghost use Rattle.mf_store_sound.specs.Stages.{IsApproval, IsDisbursal, IsStageOf};
+ghost use Rattle.mf_store_sound.specs.Stages.{IsStageOf};
 ghost use Rattle.mf_store_audit.specs.Catalogue.{IsNoNumber};
 ghost use Rattle.mf_store_audit.specs.Loans.{is_client, IsDayIf, IsNoStageText, BreaksLoanIn};
 ghost use Rattle.mf_store_audit.specs.Places.{number_within, IsAfter, IsAt, NoneBetween};

@@ -1,19 +1,15 @@
 -- Rows of loans, and the products that they name.
-use Rattle.std.proofs.Common.{◌≡◌, ◌↔◌, ◌∙◌, ℕ, pos, Bool, false, List, arith, IsTrue, Option, Some, None, refl, sym}
+use Rattle.std.proofs.Common.{◌≡◌, ◌↔◌, ◌∙◌, ℕ, pos, Bool, false, List, IsTrue, Option, Some, None, refl, sym}
 use Rattle.std.proofs.Common.{ap, subst}
 use Rattle.std.specs.Option.{option_map}
-use Rattle.mf_base.specs.DayText.{day_text}
 use Rattle.mf_catalog.specs.Product.{allows}
 use Rattle.mf_model.specs.Institution.{Catalogue, ListedProduct, product_in, product_of, item_numbered}
-use Rattle.mf_model.specs.Stages.{stage_number}
 use Rattle.mf_model.specs.Sound.{IsStageBy, lends}
 use Rattle.mf_model.specs.declared.loan.Loan.{Loan}
-use Rattle.mf_model.specs.declared.loan.Stage.{Stage}
-use Rattle.mf_model.specs.declared.loan.Stage.TheVariants.{Approved, Disbursed}
 use Rattle.mf_store_schema.specs.declared.loans.LoanRow.{LoanRow}
 use Rattle.mf_store_schema.specs.declared.products.ProductRow.{ProductRow}
-use Rattle.mf_store_values.specs.Flat.{loan_in, product_as, numbered_from, approval_text, disbursal_text}
-use Rattle.mf_store_sound.specs.Stages.{IsApproval, IsDisbursal, IsStageOf}
+use Rattle.mf_store_values.specs.Flat.{loan_in, product_as, numbered_from}
+use Rattle.mf_store_sound.specs.Stages.{IsStageOf}
 use Rattle.mf_store_sound.specs.Stored.{IsRowOf}
 use Rattle.mf_store_sound.proofs.StoredLemmas.{value_found}
 
@@ -71,28 +67,3 @@ loan_row_is today office number amount row b o n a h = (
     ap (λ (r : LoanRow). r.disbursed) are.row_is,
   ),
 )
-
-pub approved_is : (today : ℕ) (text : List ℕ) (b : Bool) → (IsTrue b ↔ IsApproval today text) → IsTrue b
-    ↔ IsStageOf today 200 (Some text) None
-approved_is today text b h = (
-  λ yes. (let on = h.0 yes in (Approved on.0, on.1, refl, ap Some (sym on.2), refl)),
-  λ s. h.1 (go s.0 s.1 s.2 s.3),
-)
-  where
-    go : (s : Stage) → IsStageBy today s → stage_number s ≡ 200 → approval_text s ≡ Some text → IsApproval today text
-    go (Approved day) by st at = (day, by, (let e : text ≡ day_text day = cc in e))
-    go s by st at = absurd (omega (arith, st))
-
-pub disbursed_is : (today : ℕ) (text other : List ℕ) (b : Bool) → (IsTrue b ↔ IsDisbursal today text other) → IsTrue b
-    ↔ IsStageOf today 300 (Some text) (Some other)
-disbursed_is today text other b h = (
-  λ yes. (let on = h.0 yes in
-      (Disbursed on.0 on.1, (on.2, on.3), refl, ap Some (sym on.4), ap Some (sym on.5))),
-  λ s. h.1 (go s.0 s.1 s.2 s.3 s.4),
-)
-  where
-    go : (s : Stage) → IsStageBy today s → stage_number s ≡ 300 → approval_text s ≡ Some text → disbursal_text s
-        ≡ Some other → IsDisbursal today text other
-    go (Disbursed first day) by st at on =
-        (first, day, by.0, by.1, (let e : text ≡ day_text first = cc in e), (let e : other ≡ day_text day = cc in e))
-    go s by st at on = absurd (omega (arith, st))

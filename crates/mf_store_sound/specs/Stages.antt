@@ -1,21 +1,11 @@
 -- Rows of loans: what the texts of a loan's days say of its stage, and what a loan keeps by itself.
-use Rattle.std.specs.Prelude.{◌≡◌, ℕ, ◌≤◌, List, [], Option, Some, None}
-use Rattle.mf_base.specs.DayText.{day_text}
+use Rattle.std.specs.Prelude.{◌≡◌, ℕ, List, [], Option, Some, None}
 use Rattle.mf_model.specs.Sound.{IsStageBy}
 use Rattle.mf_store_schema.specs.declared.entries.EntryRow.{EntryRow}
 use Rattle.mf_store_sound.specs.Entries.{AreLoanEntries}
 use Rattle.mf_model.specs.Stages.{stage_number}
 use Rattle.mf_model.specs.declared.loan.Stage.{Stage}
 use Rattle.mf_store_values.specs.Flat.{approval_text, disbursal_text}
-
--- the text of a day up to this one
-abbrev pub IsApproval : ℕ → List ℕ → Type 0
-IsApproval today text = (day : ℕ) × (day ≤ today) × (text ≡ day_text day)
-
--- the texts of two days, the first not after the second, up to this one
-abbrev pub IsDisbursal : ℕ → List ℕ → List ℕ → Type 0
-IsDisbursal today approved disbursed = (first : ℕ) × (second : ℕ) × (first ≤ second) × (second ≤ today)
-    × (approved ≡ day_text first) × (disbursed ≡ day_text second)
 
 -- a stage that a loan can have reached on this day has this number and these texts
 abbrev pub IsStageOf : ℕ → ℕ → Option (List ℕ) → Option (List ℕ) → Type 0

@@ -6,11 +6,10 @@ ghost use Rattle.mf_store_values.specs.Flat.{charge_as};
 ghost use Rattle.mf_store_sound.specs.Stored.{IsRowOf};
 
 use crate::numbered::NumberedRow;
-use mf_base::Choice;
-use mf_catalog::{Calc, ChargeKind, greatest_value};
+use mf_catalog::{Calc, greatest_value};
 use mf_model::is_name;
 use mf_store_schema::ChargeRow;
-use mf_store_values::amount_from;
+use mf_store_values::charge_columns;
 
 /// Whether a value is within the limits of a charge that is computed this way.
 pub fn is_value(calc: Calc, value: u64) -> bool
@@ -26,15 +25,11 @@ impl NumberedRow<()> for ChargeRow {
     ghost IsNumbered = { λ catalogue of number row. IsRowOf charge_as IsSoundCharge number row };
 
     fn is_numbered(&self, _catalogue: (), number: u32) -> bool {
-        match (
-            ChargeKind::from_number(self.kind),
-            Calc::from_number(self.calc),
-            amount_from(self.value),
-        ) {
-            (Some(_), Some(calc), Some(value)) => {
-                self.number == number && is_name(self.name.as_str()) && is_value(calc, value)
-            }
-            _ => false,
-        }
+        let Some(columns) = charge_columns(self) else {
+            return false;
+        };
+        self.number == number
+            && is_name(self.name.as_str())
+            && is_value(columns.calc, columns.value)
     }
 }

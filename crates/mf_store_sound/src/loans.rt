@@ -7,7 +7,7 @@ ghost use Rattle.mf_model.specs.Institution.{Catalogue, ListedProduct, product_i
 ghost use Rattle.mf_model.specs.Sound.{IsStageBy, lends};
 ghost use Rattle.mf_model.specs.declared.loan.Loan.{Loan};
 ghost use Rattle.mf_store_values.specs.Flat.{loan_in, product_as, numbered_from};
-ghost use Rattle.mf_store_sound.specs.Stages.{IsApproval, IsDisbursal, IsStageOf, AreEntriesOf};
+ghost use Rattle.mf_store_sound.specs.Stages.{IsStageOf, AreEntriesOf};
 ghost use Rattle.mf_store_values.specs.Ledgers.{IsOwnLoan};
 ghost use Rattle.mf_model.specs.Stages.{disbursed_on};
 ghost use Rattle.mf_store_sound.specs.Stored.{IsRowOf};
@@ -15,8 +15,9 @@ ghost use Rattle.mf_store_sound.specs.Stored.{IsRowOf};
 use crate::entered::are_loan_entries;
 use crate::entries::DisbursedLoan;
 use mf_base::Day;
-use mf_store_schema::{EntryRow, LoanRow, ProductRow, Text};
-use mf_store_values::{amount_from, row_numbered};
+use mf_model::Stage;
+use mf_store_schema::{EntryRow, LoanRow, ProductRow};
+use mf_store_values::{amount_from, disbursal_day, row_numbered, stage_of};
 
 /// An office that lends, and what its loans are checked against.
 #[derive(Drop)]
@@ -30,29 +31,15 @@ pub(crate) struct Lender<'a> {
     pub(crate) today: Day,
 }
 
-/// Whether an approval's text is that of a day up to this one.
-fn is_approval(today: Day, approved: &Text) -> bool
-    requires { today ≤ last_entered_day }
-    ensures { IsTrue result ↔ IsApproval today approved.now }
+/// Whether a loan can have reached a stage by this day.
+fn is_stage_by(today: Day, stage: Stage) -> bool
+    ensures { IsTrue result ↔ IsStageBy today stage }
 {
-    match Day::parse(approved.as_str().as_bytes()) {
-        Some(day) => day <= today,
-        None => false,
+    match stage {
+        Stage::Approved(day) => day <= today,
+        Stage::Disbursed { approved, day } => approved <= day && day <= today,
+        Stage::Submitted | Stage::Withdrawn | Stage::Rejected => true,
     }
-}
-
-/// Whether the texts are those of a day of approval and a day of disbursement, in this order and up to this day.
-fn is_disbursal(today: Day, approved: &Text, disbursed: &Text) -> bool
-    requires { today ≤ last_entered_day }
-    ensures { IsTrue result ↔ IsDisbursal today approved.now disbursed.now }
-{
-    let Some(first) = Day::parse(approved.as_str().as_bytes()) else {
-        return false;
-    };
-    let Some(second) = Day::parse(disbursed.as_str().as_bytes()) else {
-        return false;
-    };
-    first <= second && second <= today
 }
 
 /// Whether a row's status and days are those of a stage that a loan can have reached on this day.
@@ -60,13 +47,9 @@ pub fn is_stage(today: Day, row: &LoanRow) -> bool
     requires { today ≤ last_entered_day }
     ensures { IsTrue result ↔ IsStageOf today row.now.stage row.now.approved row.now.disbursed }
 {
-    match (row.stage, &row.approved, &row.disbursed) {
-        (100, None, None) => true,
-        (200, Some(approved), None) => is_approval(today, approved),
-        (300, Some(approved), Some(disbursed)) => is_disbursal(today, approved, disbursed),
-        (400, None, None) => true,
-        (500, None, None) => true,
-        _ => false,
+    match stage_of(row) {
+        Some(stage) => is_stage_by(today, stage),
+        None => false,
     }
 }
 
@@ -148,11 +131,8 @@ pub(crate) fn are_entries_of(lender: &Lender, number: u32, row: &LoanRow, own: &
         IsTrue result ↔ AreEntriesOf lender.now.today l.periods (disbursed_on l.stage) lender.now.office number
         own.now }
 {
-    let Some(text) = &row.disbursed else {
+    let Some(day) = disbursal_day(row) else {
         return own.is_empty();
-    };
-    let Some(day) = Day::parse(text.as_str().as_bytes()) else {
-        return false;
     };
     let loan = DisbursedLoan {
         office: lender.office,

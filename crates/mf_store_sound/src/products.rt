@@ -15,28 +15,16 @@ ghost use Rattle.mf_store_sound.specs.Stored.{IsRowOf};
 use crate::amounts::is_amount;
 use crate::numbered::NumberedRow;
 use mf_base::{Choice, Freq};
-use mf_catalog::{
-    ChargeKind, GREATEST_RATE, MOST_GRACE, MOST_PERIODS, Method, StrategyName, longest_step,
-};
+use mf_catalog::{ChargeKind, GREATEST_RATE, MOST_GRACE, MOST_PERIODS, longest_step};
 use mf_model::is_name;
 use mf_store_schema::{ChargeRow, ProductRow};
-use mf_store_values::{amount_from, flag_from, row_numbered};
+use mf_store_values::{product_columns, row_numbered};
 
 /// Whether each number that stands for a choice is that of one, and no amount is negative.
 fn has_choices(row: &ProductRow) -> bool
     ensures { IsTrue result ↔ ((p : ListedProduct) × (product_as row.now.number p ≡ row.now)) }
 {
-    match (
-        Method::from_number(row.method),
-        Freq::from_number(row.frequency),
-        StrategyName::from_number(row.strategy),
-        flag_from(row.retired),
-        amount_from(row.min_principal),
-        amount_from(row.max_principal),
-    ) {
-        (Some(_), Some(_), Some(_), Some(_), Some(_), Some(_)) => true,
-        _ => false,
-    }
+    product_columns(row).is_some()
 }
 
 /// Whether a step between due days is one that the frequency of this number allows.

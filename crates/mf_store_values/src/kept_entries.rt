@@ -38,26 +38,14 @@ pub fn entry_columns(row: &EntryRow) -> Option<EntryColumns>
     ensures only { IfSome result (λ c. (office loan : ℕ) (e : Entry) → IsCaller e.staff
         → entry_in office loan e ≡ row.now → c ≡ entry_columns_of e) }
 {
-    match (
-        Kind::from_number(row.kind),
-        Portion::from_number(row.portion),
-        flag_from(row.reversed),
-        amount_from(row.amount),
-        Day::parse(row.day.as_str().as_bytes()),
-        Caller::parse(row.staff.as_str().as_bytes()),
-    ) {
-        (Some(kind), Some(portion), Some(reversed), Some(amount), Some(day), Some(staff)) => {
-            Some(EntryColumns {
-                kind,
-                portion,
-                reversed,
-                amount,
-                day,
-                staff,
-            })
-        }
-        _ => None,
-    }
+    Some(EntryColumns {
+        kind: Kind::from_number(row.kind)?,
+        portion: Portion::from_number(row.portion)?,
+        reversed: flag_from(row.reversed)?,
+        amount: amount_from(row.amount)?,
+        day: Day::parse(row.day.as_str().as_bytes())?,
+        staff: Caller::parse(row.staff.as_str().as_bytes())?,
+    })
 }
 
 /// The receipt of a row, if it has one.

@@ -1,7 +1,6 @@
 //! What the rows of the tables stand for: charges, products, loans, entries, instalments, offices. A row that can be
 //! none of these is F20. And which rows of instalments and of shares an institution has, made and checked by the rows
-//! of
-//! loans and of their entries.
+//! of loans and of their entries.
 #![tactic(auto)]
 
 mod account_rows;

@@ -21,23 +21,16 @@ fn part_of(row: &ShareRow) -> Option<SettledPart>
     ensures part { (office loan : ℕ) (placed : ℕ × (ℕ × SettledPart)) → share_in office loan placed ≡ row.now
         → result ≡ Some (part_told placed) }
 {
-    match (
-        Portion::from_number(row.portion),
-        How::from_number(row.how),
-        amount_from(row.amount),
-    ) {
-        (Some(portion), Some(how), Some(amount)) => Some(SettledPart {
-            seq: row.seq,
-            place: row.place,
-            cell: Cell {
-                instalment: row.instalment,
-                portion,
-            },
-            how,
-            amount,
-        }),
-        _ => None,
-    }
+    Some(SettledPart {
+        seq: row.seq,
+        place: row.place,
+        cell: Cell {
+            instalment: row.instalment,
+            portion: Portion::from_number(row.portion)?,
+        },
+        how: How::from_number(row.how)?,
+        amount: amount_from(row.amount)?,
+    })
 }
 
 /// The part of a row as the tables give it.

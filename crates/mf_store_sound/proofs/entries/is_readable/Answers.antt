@@ -1,11 +1,8 @@
-use Rattle.std.proofs.Common.{◌∙◌, Option, Some, None, IsTrue, sym, ap, true≢false}
-use Rattle.std.specs.Option.{IfSome, is_some}
+use Rattle.std.proofs.Common.{◌∙◌, sym, ap}
+use Rattle.std.specs.Option.{is_some}
 use Rattle.mf_store_values.specs.Decoded.{entry_of_columns}
+use Rattle.mf_store_values.proofs.AnswerLemmas.{there}
 use Rattle.mf_store_sound.proofs.entries.is_readable.Goals as goal
-
-there : {A : Type 0} (r : Option A) (P : A → Type 0) → IfSome r P → IsTrue (is_some r) → (x : A) × P x
-there (Some x) P h told = (x, h)
-there None P h told = absurd (true≢false (sym told))
 
 pub returns : goal.returns
 returns c =

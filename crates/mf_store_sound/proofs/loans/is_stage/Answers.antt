@@ -1,12 +1,16 @@
-use Rattle.mf_store_sound.proofs.LoanLemmas.{approved_is, disbursed_is}
+use Rattle.std.proofs.Common.{sym, subst}
+use Rattle.mf_model.specs.Sound.{IsStageBy}
+use Rattle.mf_store_values.proofs.AnswerLemmas.{no_answer}
 use Rattle.mf_store_sound.proofs.loans.is_stage.Goals as goal
 
-pub returns-in-200-Some-None : goal.returns-in-200-Some-None
-returns-in-200-Some-None c =
-    let a = c.in-200-Some-None in
-    rw (a.is-0, a.is-1, a.is-2) (approved_is c.args.today _ _ c.is_approval.ensures)
+pub returns-in-Some : goal.returns-in-Some
+returns-in-Some c =
+    let told = c.in-Some.ensures.some in (
+      λ yes. (c.in-Some.stage, c.is_stage_by.ensures.0 yes, told.0, told.1, told.2),
+      λ of. c.is_stage_by.ensures.1 (subst (IsStageBy c.args.today) (sym (c.in-Some.ensures.only of.0
+          (of.2, of.3, of.4))) of.1),
+    )
 
-pub returns-in-300-Some-Some : goal.returns-in-300-Some-Some
-returns-in-300-Some-Some c =
-    let a = c.in-300-Some-Some in
-    rw (a.is-0, a.is-1, a.is-2) (disbursed_is c.args.today _ _ _ c.is_disbursal.ensures)
+pub returns-in-None : goal.returns-in-None
+returns-in-None c = no_answer (λ of. absurd (let never = c.in-None.ensures.every c.args.today of.0 c.requires of.1
+    (of.2, of.3, of.4) in cc))
