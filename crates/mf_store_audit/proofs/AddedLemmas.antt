@@ -10,7 +10,7 @@ use Rattle.mf_model.specs.Accounts.{status_in, balances_in}
 use Rattle.mf_model.specs.Institution.{Catalogue, Ledger}
 use Rattle.mf_store_audit.specs.declared.totals.OfficeSums.{OfficeSums}
 use Rattle.mf_store_audit.specs.declared.totals.Sums.{Sums}
-use Rattle.mf_store_audit.specs.Sums.{loans_of_status, lent_on, sums_by_loan, added, sums_of_all}
+use Rattle.mf_store_audit.specs.Sums.{loans_of_status, lent_on, sums_by_loan, added, sums_made, sums_of_all}
 
 module _ {X : Type 0} where
   sum_more : (f : X → ℕ) (s : ℕ) (x : X) (xs : List X) → s + sum_by f (x ∷ []) + sum_by f xs ≡ s + sum_by f (x ∷ xs)
@@ -93,62 +93,12 @@ more_added k s l ls =
 
 -- no loan changes nothing
 pub none_added : (k : Catalogue) (s : Sums) → added s (sums_by_loan k 0 []) ≡ s
-none_added k s = λ t. record {
-  clients = and_none s.clients t;
-  loans = record {
-    submitted = and_none s.loans.submitted t;
-    approved = and_none s.loans.approved t;
-    active = and_none s.loans.active t;
-    withdrawn = and_none s.loans.withdrawn t;
-    rejected = and_none s.loans.rejected t;
-    closed = and_none s.loans.closed t;
-    written_off = and_none s.loans.written_off t;
-    overpaid = and_none s.loans.overpaid t;
-  };
-  entries = record { standing = and_none s.entries.standing t; reversed = and_none s.entries.reversed t };
-  principal = record {
-    disbursed = and_none s.principal.disbursed t;
-    paid = and_none s.principal.paid t;
-    written_off = and_none s.principal.written_off t;
-    outstanding = and_none s.principal.outstanding t;
-  };
-  money = record {
-    repaid = and_none s.money.repaid t;
-    paid = and_none s.money.paid t;
-    overpaid = and_none s.money.overpaid t;
-    refunded = and_none s.money.refunded t;
-  };
-}
+none_added k s = λ t. sums_made (λ read. and_none (read s) t)
 
 -- sums of so many clients, with loans added
 first_added : (clients : ℕ) (s : Sums) → added (record (sums_of_all []) { clients = clients }) s
     ≡ record s { clients = clients + s.clients }
-first_added clients s = λ t. record {
-  clients = clients + s.clients;
-  loans = record {
-    submitted = none_and s.loans.submitted t;
-    approved = none_and s.loans.approved t;
-    active = none_and s.loans.active t;
-    withdrawn = none_and s.loans.withdrawn t;
-    rejected = none_and s.loans.rejected t;
-    closed = none_and s.loans.closed t;
-    written_off = none_and s.loans.written_off t;
-    overpaid = none_and s.loans.overpaid t;
-  };
-  entries = record { standing = none_and s.entries.standing t; reversed = none_and s.entries.reversed t };
-  principal = record {
-    disbursed = none_and s.principal.disbursed t;
-    paid = none_and s.principal.paid t;
-    written_off = none_and s.principal.written_off t;
-    outstanding = none_and s.principal.outstanding t;
-  };
-  money = record {
-    repaid = none_and s.money.repaid t;
-    paid = none_and s.money.paid t;
-    overpaid = none_and s.money.overpaid t;
-    refunded = none_and s.money.refunded t;
-  };
-}
+first_added clients s = λ t. record (sums_made (λ read. none_and (read s) t)) { clients = clients + s.clients }
 
 pub clients_first : (k : Catalogue) (clients : ℕ) (ls : List Ledger)
     → added (record (sums_of_all []) { clients = clients }) (sums_by_loan k 0 ls) ≡ sums_by_loan k clients ls
@@ -158,35 +108,4 @@ clients_first k clients ls = first_added clients (sums_by_loan k 0 ls) ∙ (λ t
 
 pub office_added : (os : List OfficeSums) (i : ℕ) (d : OfficeSums) → i < length os → added (sums_of_all (take i os))
     (get_or os i d).sums ≡ sums_of_all (take (i + 1) os)
-office_added os i d low =
-    let by : (f : OfficeSums → ℕ) → sum_by f (take i os) + f (get_or os i d) ≡ sum_by f (take (i + 1) os) =
-    λ f. sym (sum_by_more f os i d low) in
-    λ t. record {
-      clients = by (λ (x : OfficeSums). x.sums.clients) t;
-      loans = record {
-        submitted = by (λ (x : OfficeSums). x.sums.loans.submitted) t;
-        approved = by (λ (x : OfficeSums). x.sums.loans.approved) t;
-        active = by (λ (x : OfficeSums). x.sums.loans.active) t;
-        withdrawn = by (λ (x : OfficeSums). x.sums.loans.withdrawn) t;
-        rejected = by (λ (x : OfficeSums). x.sums.loans.rejected) t;
-        closed = by (λ (x : OfficeSums). x.sums.loans.closed) t;
-        written_off = by (λ (x : OfficeSums). x.sums.loans.written_off) t;
-        overpaid = by (λ (x : OfficeSums). x.sums.loans.overpaid) t;
-      };
-      entries = record {
-        standing = by (λ (x : OfficeSums). x.sums.entries.standing) t;
-        reversed = by (λ (x : OfficeSums). x.sums.entries.reversed) t;
-      };
-      principal = record {
-        disbursed = by (λ (x : OfficeSums). x.sums.principal.disbursed) t;
-        paid = by (λ (x : OfficeSums). x.sums.principal.paid) t;
-        written_off = by (λ (x : OfficeSums). x.sums.principal.written_off) t;
-        outstanding = by (λ (x : OfficeSums). x.sums.principal.outstanding) t;
-      };
-      money = record {
-        repaid = by (λ (x : OfficeSums). x.sums.money.repaid) t;
-        paid = by (λ (x : OfficeSums). x.sums.money.paid) t;
-        overpaid = by (λ (x : OfficeSums). x.sums.money.overpaid) t;
-        refunded = by (λ (x : OfficeSums). x.sums.money.refunded) t;
-      };
-    }
+office_added os i d low = λ t. sums_made (λ read. sym (sum_by_more (λ (o : OfficeSums). read o.sums) os i d low) t)

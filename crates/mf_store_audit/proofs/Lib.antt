@@ -1,11 +1,7 @@
 pub mod DifferenceLemmas
 pub mod EntryFlawLemmas
-pub mod EveryLemmas
-pub mod FlawLemmas
 pub mod LoanFlawLemmas
-pub mod OfficeLemmas
 pub mod PlaceLemmas
-pub mod ReceiptFlawLemmas
 pub mod AddedLemmas
 pub mod LoanLemmas
 pub mod BalancedLemmas

@@ -1,18 +1,17 @@
 -- What is wrong with rows of meta, of charges and of products.
-use Rattle.std.specs.Prelude.{◌≡◌, ◌≢◌, ℕ, ℤ, pos, ◌≤◌, ◌<◌, ◌<ℤ◌, List, Option, Some}
+use Rattle.std.specs.Prelude.{◌≡◌, ◌≢◌, ℕ, ℤ, pos, ◌≤◌, ◌<◌, ◌<ℤ◌, List, Option}
 use Rattle.mf_base.specs.Choices.{frequency_number}
 use Rattle.mf_base.specs.declared.day.Freq.{Freq}
 use Rattle.mf_catalog.specs.declared.charge.Calc.{Calc}
-use Rattle.mf_catalog.specs.declared.charge.ChargeKind.{ChargeKind}
 use Rattle.mf_catalog.specs.declared.charge.ChargeKind.TheVariants.{Disbursement, Instalment, Overdue}
 use Rattle.mf_catalog.specs.Limits.{greatest_amount, greatest_rate, most_grace, most_periods, longest_step}
 use Rattle.mf_catalog.specs.Names.{kind_number, calc_number, method_number, strategy_number}
-use Rattle.mf_model.specs.Institution.{item_numbered}
 use Rattle.mf_model.specs.Sound.{IsName, IsValue}
 use Rattle.mf_store_values.specs.Flat.{flag_number}
 use Rattle.mf_store_schema.specs.declared.charges.ChargeRow.{ChargeRow}
 use Rattle.mf_store_schema.specs.declared.meta.MetaRow.{MetaRow}
 use Rattle.mf_store_schema.specs.declared.products.ProductRow.{ProductRow}
+use Rattle.mf_store_sound.specs.Charges.{HasRowOfKind}
 use Rattle.mf_store_audit.specs.Places.{number_after, IsNoDay}
 use Rattle.mf_store_audit.specs.declared.finding.MetaFlaw.{MetaFlaw}
 use Rattle.mf_store_audit.specs.declared.finding.MetaFlaw.TheVariants as meta
@@ -45,12 +44,6 @@ BreaksCharge charge.Calc before row = IsNoNumber calc_number row.calc
 BreaksCharge charge.Value before row =
     (calc : Calc) → calc_number calc ≡ row.calc → (value : ℕ) → pos value ≡ row.value → ¬ IsValue calc value
 
--- a charge is named that is none of this kind
-pub record NamesNoCharge (charges : List ChargeRow) (kind : ChargeKind) (named : Option ℕ) : Type 0 where
-  pub number : ℕ
-  pub is_named : named ≡ Some number
-  pub none : (c : ChargeRow) → item_numbered charges number ≡ Some c → c.kind ≢ kind_number kind
-
 -- a row of a product, after another, over these charges
 abbrev pub BreaksProduct : List ChargeRow → ProductFlaw → Option ProductRow → ProductRow → Type 0
 BreaksProduct charges product.Number before row = row.number ≢ number_after (λ (p : ProductRow). p.number) before
@@ -73,6 +66,6 @@ BreaksProduct charges product.PrincipalOrder before row = row.max_principal <ℤ
 BreaksProduct charges product.PeriodsOrder before row = row.max_periods < row.min_periods
 BreaksProduct charges product.PrincipalGraceOrder before row = row.min_periods ≤ row.principal_grace
 BreaksProduct charges product.InterestGraceOrder before row = row.min_periods ≤ row.interest_grace
-BreaksProduct charges product.DisbursementCharge before row = NamesNoCharge charges Disbursement row.disbursement_charge
-BreaksProduct charges product.InstalmentCharge before row = NamesNoCharge charges Instalment row.instalment_charge
-BreaksProduct charges product.OverdueCharge before row = NamesNoCharge charges Overdue row.overdue_charge
+BreaksProduct charges product.DisbursementCharge before row = ¬ HasRowOfKind charges Disbursement row.disbursement_charge
+BreaksProduct charges product.InstalmentCharge before row = ¬ HasRowOfKind charges Instalment row.instalment_charge
+BreaksProduct charges product.OverdueCharge before row = ¬ HasRowOfKind charges Overdue row.overdue_charge

@@ -70,7 +70,7 @@ BreaksEntry today loans staff receipts rows entry.Order before row = ¬ IsAfter 
 BreaksEntry today loans staff receipts rows entry.Loan before row = list_any (is_own_loan row) loans ≡ false
 BreaksEntry today loans staff receipts rows entry.Undisbursed before row = OnLoan loans row (λ l. l.disbursed ≡ None)
 BreaksEntry today loans staff receipts rows entry.Number before row =
-    row.seq ≢ number_within (λ (e : EntryRow). (e.office == row.office) && (e.loan == row.loan)) (λ e. e.seq) before
+    row.seq ≢ number_within (λ (e : EntryRow). (e.loan == row.loan) && (e.office == row.office)) (λ e. e.seq) before
 BreaksEntry today loans staff receipts rows entry.Limit before row = 9999 < row.seq
 BreaksEntry today loans staff receipts rows entry.Kind before row = IsNoNumber entry_kind_number row.kind
 BreaksEntry today loans staff receipts rows entry.Day before row = IsNoDay row.day
@@ -99,19 +99,9 @@ is_decided entry.Columns = false
 is_decided entry.Seal = false
 is_decided _ = true
 
--- a row breaks a condition that is decided so
-abbrev pub BreaksDecided : ℕ → List LoanRow → List StaffRow → List ReceiptRow → List EntryRow → EntryFlaw
-    → Option EntryRow → EntryRow → Type 0
-BreaksDecided today loans staff receipts rows flaw before row =
-    (is_decided flaw ≡ true) × BreaksEntry today loans staff receipts rows flaw before row
-
--- both under a setting
+-- the same under a setting
 abbrev pub BreaksEntryIn : EntrySetting → EntryFlaw → Option EntryRow → EntryRow → Type 0
 BreaksEntryIn s = BreaksEntry s.today s.loans.now s.staff.now s.receipts.now s.entries.now
-
--- the same of the conditions that are decided of each row
-abbrev pub BreaksDecidedIn : EntrySetting → EntryFlaw → Option EntryRow → EntryRow → Type 0
-BreaksDecidedIn s = BreaksDecided s.today s.loans.now s.staff.now s.receipts.now s.entries.now
 
 -- a row of a receipt, after another, over these entries
 abbrev pub BreaksReceipt : List EntryRow → ReceiptFlaw → Option ReceiptRow → ReceiptRow → Type 0

@@ -1,4 +1,5 @@
 pub mod Places
+pub mod Keys
 pub mod Catalogue
 pub mod Offices
 pub mod Loans

@@ -78,49 +78,38 @@ pub record IsBalanced (s : Sums) : Type 0 where
   pub principal : s.principal.disbursed ≡ s.principal.paid + s.principal.written_off + s.principal.outstanding
   pub money : s.money.repaid ≡ s.money.paid + s.money.overpaid + s.money.refunded
 
--- what offices come to in all
-abbrev pub all_loans : List OfficeSums → LoanCounts
-all_loans os = record {
-  submitted = sum_by (λ (o : OfficeSums). o.sums.loans.submitted) os;
-  approved = sum_by (λ (o : OfficeSums). o.sums.loans.approved) os;
-  active = sum_by (λ (o : OfficeSums). o.sums.loans.active) os;
-  withdrawn = sum_by (λ (o : OfficeSums). o.sums.loans.withdrawn) os;
-  rejected = sum_by (λ (o : OfficeSums). o.sums.loans.rejected) os;
-  closed = sum_by (λ (o : OfficeSums). o.sums.loans.closed) os;
-  written_off = sum_by (λ (o : OfficeSums). o.sums.loans.written_off) os;
-  overpaid = sum_by (λ (o : OfficeSums). o.sums.loans.overpaid) os;
-}
-
--- the sums of principal of all offices
-abbrev pub all_principal : List OfficeSums → PrincipalSums
-all_principal os = record {
-  disbursed = sum_by (λ (o : OfficeSums). o.sums.principal.disbursed) os;
-  paid = sum_by (λ (o : OfficeSums). o.sums.principal.paid) os;
-  written_off = sum_by (λ (o : OfficeSums). o.sums.principal.written_off) os;
-  outstanding = sum_by (λ (o : OfficeSums). o.sums.principal.outstanding) os;
-}
-
--- the sums of repayments of all offices
-abbrev pub all_money : List OfficeSums → MoneySums
-all_money os = record {
-  repaid = sum_by (λ (o : OfficeSums). o.sums.money.repaid) os;
-  paid = sum_by (λ (o : OfficeSums). o.sums.money.paid) os;
-  overpaid = sum_by (λ (o : OfficeSums). o.sums.money.overpaid) os;
-  refunded = sum_by (λ (o : OfficeSums). o.sums.money.refunded) os;
-}
-
--- the sums of all offices
-abbrev pub sums_of_all : List OfficeSums → Sums
-sums_of_all os = record {
-  clients = sum_by (λ (o : OfficeSums). o.sums.clients) os;
-  loans = all_loans os;
-  entries = record {
-    standing = sum_by (λ (o : OfficeSums). o.sums.entries.standing) os;
-    reversed = sum_by (λ (o : OfficeSums). o.sums.entries.reversed) os;
+-- the sums that have these numbers, where each is made from the way in which it is read
+abbrev pub sums_made : ((Sums → ℕ) → ℕ) → Sums
+sums_made made = record {
+  clients = made (λ s. s.clients);
+  loans = record {
+    submitted = made (λ s. s.loans.submitted);
+    approved = made (λ s. s.loans.approved);
+    active = made (λ s. s.loans.active);
+    withdrawn = made (λ s. s.loans.withdrawn);
+    rejected = made (λ s. s.loans.rejected);
+    closed = made (λ s. s.loans.closed);
+    written_off = made (λ s. s.loans.written_off);
+    overpaid = made (λ s. s.loans.overpaid);
   };
-  principal = all_principal os;
-  money = all_money os;
+  entries = record { standing = made (λ s. s.entries.standing); reversed = made (λ s. s.entries.reversed) };
+  principal = record {
+    disbursed = made (λ s. s.principal.disbursed);
+    paid = made (λ s. s.principal.paid);
+    written_off = made (λ s. s.principal.written_off);
+    outstanding = made (λ s. s.principal.outstanding);
+  };
+  money = record {
+    repaid = made (λ s. s.money.repaid);
+    paid = made (λ s. s.money.paid);
+    overpaid = made (λ s. s.money.overpaid);
+    refunded = made (λ s. s.money.refunded);
+  };
 }
+
+-- what offices come to in all
+abbrev pub sums_of_all : List OfficeSums → Sums
+sums_of_all os = sums_made (λ read. sum_by (λ (o : OfficeSums). read o.sums) os)
 
 -- two of each, added number by number
 abbrev pub loans_added : LoanCounts → LoanCounts → LoanCounts

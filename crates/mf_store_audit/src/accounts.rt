@@ -10,9 +10,8 @@ ghost use Rattle.mf_store_audit.specs.Findings.{Breaks};
 
 use crate::finding::Finding;
 use mf_base::Fault;
-use mf_store_schema::{InstalmentRow, ShareRow};
-use mf_store_sound::Tables;
-use mf_store_values::{Same, rows_of_accounts};
+use mf_store_sound::{Tables, account_rows};
+use mf_store_values::Same;
 use std::alloc::Global;
 
 /// The first place at which two lists of rows differ; one of the two may have no row there.
@@ -37,22 +36,6 @@ fn first_difference<T: Same>(rows: &[T], others: &[T]) -> Option<usize>
     }
 }
 
-/// The rows of instalments and of shares that replaying the entries of all loans gives.
-fn made_rows(alloc: Global, tables: &Tables) -> Result<(Vec<InstalmentRow>, Vec<ShareRow>), Fault>
-    ensures rows { IfOk result (λ rows. (schema : ℕ) (i : Institution) → IsSound i →
-        tables_under schema i ≡ without_accounts tables.now →
-        (rows.0.items ≡ (tables_of i).instalments) × (rows.1.items ≡ (tables_of i).shares)) }
-    ensures gives_up { IfErr result (λ fault. fault ≡ F20) }
-{
-    rows_of_accounts(
-        alloc,
-        &tables.charges,
-        &tables.products,
-        &tables.loans,
-        &tables.entries,
-    )
-}
-
 /// The first place at which the rows of instalments, or else those of shares, are not those that replaying the entries
 /// of all loans gives. The error is F20, out of memory.
 pub(crate) fn differing_account(alloc: Global, tables: &Tables) -> Result<Option<Finding>, Fault>
@@ -62,7 +45,7 @@ pub(crate) fn differing_account(alloc: Global, tables: &Tables) -> Result<Option
         ((tables_of i).instalments ≡ tables.now.instalments) × ((tables_of i).shares ≡ tables.now.shares)) }
     ensures gives_up { IfErr result (λ fault. fault ≡ F20) }
 {
-    let (instalments, shares) = made_rows(alloc, tables)?;
+    let (instalments, shares) = account_rows(alloc, tables)?;
     if let Some(place) = first_difference(&instalments, &tables.instalments) {
         return Ok(Some(Finding::Instalment { place }));
     }

@@ -1,5 +1,7 @@
 //! The conditions of a sound institution, one kind each, by the row that breaks it.
 
+use crate::places::Flaws;
+
 /// What is wrong with a row of `meta`.
 #[derive(Clone, Copy, Debug, PartialEq, Eq)]
 pub enum MetaFlaw {
@@ -9,6 +11,12 @@ pub enum MetaFlaw {
     Schema,
     /// Its business day is the text of no day up to 2099-12-31.
     Day,
+}
+
+impl Flaws for MetaFlaw {
+    fn all() -> &'static [MetaFlaw] {
+        &[MetaFlaw::Key, MetaFlaw::Schema, MetaFlaw::Day]
+    }
 }
 
 /// What is wrong with a row of a charge.
@@ -25,6 +33,19 @@ pub enum ChargeFlaw {
     Calc,
     /// Its value lies outside of the limits of its way of computing.
     Value,
+}
+
+impl Flaws for ChargeFlaw {
+    fn all() -> &'static [ChargeFlaw] {
+        &[
+            ChargeFlaw::Number,
+            ChargeFlaw::Limit,
+            ChargeFlaw::Name,
+            ChargeFlaw::Kind,
+            ChargeFlaw::Calc,
+            ChargeFlaw::Value,
+        ]
+    }
 }
 
 /// What is wrong with a row of a product.
@@ -75,6 +96,35 @@ pub enum ProductFlaw {
     OverdueCharge,
 }
 
+impl Flaws for ProductFlaw {
+    fn all() -> &'static [ProductFlaw] {
+        &[
+            ProductFlaw::Number,
+            ProductFlaw::Limit,
+            ProductFlaw::Name,
+            ProductFlaw::Method,
+            ProductFlaw::Frequency,
+            ProductFlaw::Strategy,
+            ProductFlaw::Retired,
+            ProductFlaw::Rate,
+            ProductFlaw::Every,
+            ProductFlaw::PrincipalGrace,
+            ProductFlaw::InterestGrace,
+            ProductFlaw::MinPrincipal,
+            ProductFlaw::MaxPrincipal,
+            ProductFlaw::MinPeriods,
+            ProductFlaw::MaxPeriods,
+            ProductFlaw::PrincipalOrder,
+            ProductFlaw::PeriodsOrder,
+            ProductFlaw::PrincipalGraceOrder,
+            ProductFlaw::InterestGraceOrder,
+            ProductFlaw::DisbursementCharge,
+            ProductFlaw::InstalmentCharge,
+            ProductFlaw::OverdueCharge,
+        ]
+    }
+}
+
 /// What is wrong with a row of an office.
 #[derive(Clone, Copy, Debug, PartialEq, Eq)]
 pub enum OfficeFlaw {
@@ -89,6 +139,19 @@ pub enum OfficeFlaw {
     Text,
     /// It lies more than five steps below the head office.
     Depth,
+}
+
+impl Flaws for OfficeFlaw {
+    fn all() -> &'static [OfficeFlaw] {
+        &[
+            OfficeFlaw::Order,
+            OfficeFlaw::Number,
+            OfficeFlaw::Name,
+            OfficeFlaw::Parent,
+            OfficeFlaw::Text,
+            OfficeFlaw::Depth,
+        ]
+    }
 }
 
 /// What is wrong with a row of a member of staff.
@@ -107,6 +170,19 @@ pub enum StaffFlaw {
     Role,
 }
 
+impl Flaws for StaffFlaw {
+    fn all() -> &'static [StaffFlaw] {
+        &[
+            StaffFlaw::Order,
+            StaffFlaw::Office,
+            StaffFlaw::Number,
+            StaffFlaw::Limit,
+            StaffFlaw::Name,
+            StaffFlaw::Role,
+        ]
+    }
+}
+
 /// What is wrong with a row of a client.
 #[derive(Clone, Copy, Debug, PartialEq, Eq)]
 pub enum ClientFlaw {
@@ -119,6 +195,18 @@ pub enum ClientFlaw {
     /// Its number is above 999999.
     Limit,
     Name,
+}
+
+impl Flaws for ClientFlaw {
+    fn all() -> &'static [ClientFlaw] {
+        &[
+            ClientFlaw::Order,
+            ClientFlaw::Office,
+            ClientFlaw::Number,
+            ClientFlaw::Limit,
+            ClientFlaw::Name,
+        ]
+    }
 }
 
 /// What is wrong with a row of a loan.
@@ -149,6 +237,25 @@ pub enum LoanFlaw {
     Disbursed,
     /// Its days are out of order, or after the business day.
     Days,
+}
+
+impl Flaws for LoanFlaw {
+    fn all() -> &'static [LoanFlaw] {
+        &[
+            LoanFlaw::Order,
+            LoanFlaw::Office,
+            LoanFlaw::Number,
+            LoanFlaw::Limit,
+            LoanFlaw::Client,
+            LoanFlaw::Product,
+            LoanFlaw::Principal,
+            LoanFlaw::Periods,
+            LoanFlaw::Stage,
+            LoanFlaw::Approved,
+            LoanFlaw::Disbursed,
+            LoanFlaw::Days,
+        ]
+    }
 }
 
 /// What is wrong with a row of an entry.
@@ -190,6 +297,30 @@ pub enum EntryFlaw {
     Unlisted,
 }
 
+impl Flaws for EntryFlaw {
+    fn all() -> &'static [EntryFlaw] {
+        &[
+            EntryFlaw::Order,
+            EntryFlaw::Loan,
+            EntryFlaw::Undisbursed,
+            EntryFlaw::Number,
+            EntryFlaw::Limit,
+            EntryFlaw::Kind,
+            EntryFlaw::Day,
+            EntryFlaw::Early,
+            EntryFlaw::Late,
+            EntryFlaw::Amount,
+            EntryFlaw::Portion,
+            EntryFlaw::Reversed,
+            EntryFlaw::Columns,
+            EntryFlaw::Receipt,
+            EntryFlaw::Seal,
+            EntryFlaw::Staff,
+            EntryFlaw::Unlisted,
+        ]
+    }
+}
+
 /// What is wrong with a row of a receipt.
 #[derive(Clone, Copy, Debug, PartialEq, Eq)]
 pub enum ReceiptFlaw {
@@ -197,6 +328,12 @@ pub enum ReceiptFlaw {
     Order,
     /// The entry that it names does not carry it.
     Entry,
+}
+
+impl Flaws for ReceiptFlaw {
+    fn all() -> &'static [ReceiptFlaw] {
+        &[ReceiptFlaw::Order, ReceiptFlaw::Entry]
+    }
 }
 
 /// A row that breaks a condition: by its table, its place there in the order of the key, counted from 0, and what is

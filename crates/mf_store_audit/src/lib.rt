@@ -4,13 +4,13 @@
 
 mod accounts;
 mod audits;
-mod books;
 mod charges;
 mod clients;
 mod entries;
 mod files;
 mod find;
 mod finding;
+mod keys;
 mod loans;
 mod meta;
 mod offices;

@@ -4,12 +4,13 @@ ghost use Rattle.std.specs.Prelude.{◌≡◌, IfSome, IfOk, IfErr};
 ghost use Rattle.mf_base.specs.declared.fault.Fault.TheVariants.{F20};
 ghost use Rattle.mf_store_audit.specs.Findings.{IsFoundFrom};
 
-use crate::books::{entry_from, loan_from, receipt_from};
+use crate::entries::EntrySetting;
 use crate::finding::Finding;
-use crate::offices::{is_office, next_office};
+use crate::loans::LoanSetting;
+use crate::offices::{OfficeSetting, is_office};
 use crate::places::next_flaw;
 use mf_base::Fault;
-use mf_store_sound::Tables;
+use mf_store_sound::{Tables, business_day};
 use std::alloc::Global;
 
 /// The number of the head office.
@@ -57,31 +58,6 @@ fn meta_rows_from(schema: u32, tables: &Tables, from: usize) -> Option<(usize, F
     }
 }
 
-/// The next row of meta.
-fn meta_from(schema: u32, tables: &Tables, from: usize) -> Option<(usize, Finding)>
-    ensures { IfSome result (IsFoundFrom schema tables.now from) }
-{
-    let (place, flaw) = next_flaw(schema, tables.meta.as_slice(), from)?;
-    Some((place, Finding::Meta { place, flaw }))
-}
-
-/// The next row of a charge.
-fn charge_from(schema: u32, tables: &Tables, from: usize) -> Option<(usize, Finding)>
-    ensures { IfSome result (IsFoundFrom schema tables.now from) }
-{
-    let (place, flaw) = next_flaw((), tables.charges.as_slice(), from)?;
-    Some((place, Finding::Charge { place, flaw }))
-}
-
-/// The next row of a product.
-fn product_from(schema: u32, tables: &Tables, from: usize) -> Option<(usize, Finding)>
-    ensures { IfSome result (IsFoundFrom schema tables.now from) }
-{
-    let charges = tables.charges.as_slice();
-    let (place, flaw) = next_flaw(charges, tables.products.as_slice(), from)?;
-    Some((place, Finding::Product { place, flaw }))
-}
-
 /// That there is no head office.
 fn head_from(schema: u32, tables: &Tables, from: usize) -> Option<(usize, Finding)>
     ensures { IfSome result (IsFoundFrom schema tables.now from) }
@@ -93,41 +69,45 @@ fn head_from(schema: u32, tables: &Tables, from: usize) -> Option<(usize, Findin
     }
 }
 
-/// The next row of an office.
-fn office_from(
-    alloc: Global,
-    schema: u32,
-    tables: &Tables,
-    from: usize,
-) -> Result<Option<(usize, Finding)>, Fault>
+/// The next row of a loan. There is none where the business day can't be read.
+fn loan_from(schema: u32, tables: &Tables, from: usize) -> Result<Option<(usize, Finding)>, Fault>
     ensures found { IfOk result (λ next. IfSome next (IsFoundFrom schema tables.now from)) }
     ensures gives_up { IfErr result (λ fault. fault ≡ F20) }
 {
-    match next_office(alloc, tables.offices.as_slice(), from)? {
-        Some((place, flaw)) => Ok(Some((place, Finding::Office { place, flaw }))),
-        None => Ok(None),
-    }
+    let Some(today) = business_day(schema, &tables.meta) else {
+        return Ok(None);
+    };
+    let setting = LoanSetting {
+        today,
+        offices: tables.offices.as_slice(),
+        clients: tables.clients.as_slice(),
+        products: tables.products.as_slice(),
+    };
+    let next = next_flaw(&setting, tables.loans.as_slice(), from)?;
+    Ok(next.map(|(place, flaw)| (place, Finding::Loan { place, flaw })))
 }
 
-/// The next row of a member of staff.
-fn staff_from(schema: u32, tables: &Tables, from: usize) -> Option<(usize, Finding)>
-    ensures { IfSome result (IsFoundFrom schema tables.now from) }
+/// The next row of an entry. There is none where the business day can't be read.
+fn entry_from(schema: u32, tables: &Tables, from: usize) -> Result<Option<(usize, Finding)>, Fault>
+    ensures found { IfOk result (λ next. IfSome next (IsFoundFrom schema tables.now from)) }
+    ensures gives_up { IfErr result (λ fault. fault ≡ F20) }
 {
-    let offices = tables.offices.as_slice();
-    let (place, flaw) = next_flaw(offices, tables.staff.as_slice(), from)?;
-    Some((place, Finding::Staff { place, flaw }))
+    let Some(today) = business_day(schema, &tables.meta) else {
+        return Ok(None);
+    };
+    let entries = tables.entries.as_slice();
+    let setting = EntrySetting {
+        today,
+        loans: tables.loans.as_slice(),
+        staff: tables.staff.as_slice(),
+        receipts: tables.receipts.as_slice(),
+        entries,
+    };
+    let next = next_flaw(&setting, entries, from)?;
+    Ok(next.map(|(place, flaw)| (place, Finding::Entry { place, flaw })))
 }
 
-/// The next row of a client.
-fn client_from(schema: u32, tables: &Tables, from: usize) -> Option<(usize, Finding)>
-    ensures { IfSome result (IsFoundFrom schema tables.now from) }
-{
-    let offices = tables.offices.as_slice();
-    let (place, flaw) = next_flaw(offices, tables.clients.as_slice(), from)?;
-    Some((place, Finding::Client { place, flaw }))
-}
-
-/// The next finding of a part from a place on, with the place of its row.
+/// The next finding of a part from a place on, with the place of its row. The error is F20, out of memory.
 pub(crate) fn next_in(
     alloc: Global,
     schema: u32,
@@ -140,15 +120,38 @@ pub(crate) fn next_in(
 {
     match part {
         Part::MetaRows => Ok(meta_rows_from(schema, tables, from)),
-        Part::Meta => Ok(meta_from(schema, tables, from)),
-        Part::Charges => Ok(charge_from(schema, tables, from)),
-        Part::Products => Ok(product_from(schema, tables, from)),
+        Part::Meta => {
+            let next = next_flaw(schema, tables.meta.as_slice(), from)?;
+            Ok(next.map(|(place, flaw)| (place, Finding::Meta { place, flaw })))
+        }
+        Part::Charges => {
+            let next = next_flaw((), tables.charges.as_slice(), from)?;
+            Ok(next.map(|(place, flaw)| (place, Finding::Charge { place, flaw })))
+        }
+        Part::Products => {
+            let next = next_flaw(tables.charges.as_slice(), tables.products.as_slice(), from)?;
+            Ok(next.map(|(place, flaw)| (place, Finding::Product { place, flaw })))
+        }
         Part::Head => Ok(head_from(schema, tables, from)),
-        Part::Offices => office_from(alloc, schema, tables, from),
-        Part::Staff => Ok(staff_from(schema, tables, from)),
-        Part::Clients => Ok(client_from(schema, tables, from)),
-        Part::Loans => Ok(loan_from(schema, tables, from)),
-        Part::Entries => Ok(entry_from(schema, tables, from)),
-        Part::Receipts => Ok(receipt_from(schema, tables, from)),
+        Part::Offices => {
+            let offices = tables.offices.as_slice();
+            let setting = OfficeSetting { alloc, offices };
+            let next = next_flaw(&setting, offices, from)?;
+            Ok(next.map(|(place, flaw)| (place, Finding::Office { place, flaw })))
+        }
+        Part::Staff => {
+            let next = next_flaw(tables.offices.as_slice(), tables.staff.as_slice(), from)?;
+            Ok(next.map(|(place, flaw)| (place, Finding::Staff { place, flaw })))
+        }
+        Part::Clients => {
+            let next = next_flaw(tables.offices.as_slice(), tables.clients.as_slice(), from)?;
+            Ok(next.map(|(place, flaw)| (place, Finding::Client { place, flaw })))
+        }
+        Part::Loans => loan_from(schema, tables, from),
+        Part::Entries => entry_from(schema, tables, from),
+        Part::Receipts => {
+            let next = next_flaw(tables.entries.as_slice(), tables.receipts.as_slice(), from)?;
+            Ok(next.map(|(place, flaw)| (place, Finding::Receipt { place, flaw })))
+        }
     }
 }

@@ -5,7 +5,7 @@ ghost use Rattle.mf_base.specs.declared.fault.Fault.TheVariants.{F20};
 ghost use Rattle.sqlite.specs.Held.{state};
 ghost use Rattle.sqlite.specs.Schema.{Schema};
 ghost use Rattle.sqlite.specs.State.{HasCleanDisk};
-ghost use Rattle.mf_store_schema.specs.Schemas.{IsUnchangedUnder};
+ghost use Rattle.mf_store_schema.specs.Schemas.{IsKnown, IsPresent, IsUnchangedUnder};
 ghost use Rattle.mf_store_audit.specs.Unread.{IsUnread};
 
 use crate::unread::{TableName, Unread, unread_in};
@@ -32,19 +32,19 @@ pub(crate) type FirstTables = (Frame, Entered);
 /// The tables of today.
 pub(crate) type PresentTables = (Frame, (Entered, (InstalmentRow, ShareRow)));
 
+/// What a search tells: a row that no record can hold, if there is one. The error is F20.
+type Searching = Result<Option<Unread>, Fault>;
+
 /// A table, by its rows' type, or a pair of such.
 pub(crate) trait Searched: Sized {
     /// The schemas that have the tables.
-    ghost IsUnder: { Schema → Type 0 };
+    ghost IsUnder: { Schema → Type 0 } = { IsKnown };
 
     /// The first row that no record can hold.
     ///
     /// The clause on what is found speaks of a connection whose tables are those of a schema with these, whatever rows
     /// stand there.
-    fn unread<S: Alter>(
-        alloc: Global,
-        connection: &mut Connection<S>,
-    ) -> Result<Option<Unread>, Fault>
+    fn unread<S: Alter>(alloc: Global, connection: &mut Connection<S>) -> Searching
         requires alone { connection.old.in_transaction ≡ false }
         ensures kept { IsUnchangedUnder IsUnder (state S.Store connection.old) (state S.Store connection.new) }
         ensures gives_up { IfErr result (λ fault. fault ≡ F20) }
@@ -59,10 +59,7 @@ pub(crate) trait Searched: Sized {
 impl<A: Searched, B: Searched> Searched for (A, B) {
     ghost IsUnder = { λ k. A.Searched.IsUnder k × B.Searched.IsUnder k };
 
-    fn unread<S: Alter>(
-        alloc: Global,
-        connection: &mut Connection<S>,
-    ) -> Result<Option<Unread>, Fault> {
+    fn unread<S: Alter>(alloc: Global, connection: &mut Connection<S>) -> Searching {
         let found = A::unread(alloc, connection)?;
         if found.is_some() {
             return Ok(found);
@@ -72,144 +69,71 @@ impl<A: Searched, B: Searched> Searched for (A, B) {
 }
 
 impl Searched for MetaRow {
-    ghost use Rattle.mf_store_schema.specs.Schemas.{IsKnown};
-
-    ghost IsUnder = { IsKnown };
-
-    fn unread<S: Alter>(
-        alloc: Global,
-        connection: &mut Connection<S>,
-    ) -> Result<Option<Unread>, Fault> {
+    fn unread<S: Alter>(alloc: Global, connection: &mut Connection<S>) -> Searching {
         unread_in::<MetaRow, S>(alloc, connection, TableName::Meta, 1)
     }
 }
 
 impl Searched for OfficeRow {
-    ghost use Rattle.mf_store_schema.specs.Schemas.{IsKnown};
-
-    ghost IsUnder = { IsKnown };
-
-    fn unread<S: Alter>(
-        alloc: Global,
-        connection: &mut Connection<S>,
-    ) -> Result<Option<Unread>, Fault> {
+    fn unread<S: Alter>(alloc: Global, connection: &mut Connection<S>) -> Searching {
         unread_in::<OfficeRow, S>(alloc, connection, TableName::Offices, 1)
     }
 }
 
 impl Searched for StaffRow {
-    ghost use Rattle.mf_store_schema.specs.Schemas.{IsKnown};
-
-    ghost IsUnder = { IsKnown };
-
-    fn unread<S: Alter>(
-        alloc: Global,
-        connection: &mut Connection<S>,
-    ) -> Result<Option<Unread>, Fault> {
+    fn unread<S: Alter>(alloc: Global, connection: &mut Connection<S>) -> Searching {
         unread_in::<StaffRow, S>(alloc, connection, TableName::Staff, 2)
     }
 }
 
 impl Searched for ClientRow {
-    ghost use Rattle.mf_store_schema.specs.Schemas.{IsKnown};
-
-    ghost IsUnder = { IsKnown };
-
-    fn unread<S: Alter>(
-        alloc: Global,
-        connection: &mut Connection<S>,
-    ) -> Result<Option<Unread>, Fault> {
+    fn unread<S: Alter>(alloc: Global, connection: &mut Connection<S>) -> Searching {
         unread_in::<ClientRow, S>(alloc, connection, TableName::Clients, 2)
     }
 }
 
 impl Searched for ChargeRow {
-    ghost use Rattle.mf_store_schema.specs.Schemas.{IsKnown};
-
-    ghost IsUnder = { IsKnown };
-
-    fn unread<S: Alter>(
-        alloc: Global,
-        connection: &mut Connection<S>,
-    ) -> Result<Option<Unread>, Fault> {
+    fn unread<S: Alter>(alloc: Global, connection: &mut Connection<S>) -> Searching {
         unread_in::<ChargeRow, S>(alloc, connection, TableName::Charges, 1)
     }
 }
 
 impl Searched for ProductRow {
-    ghost use Rattle.mf_store_schema.specs.Schemas.{IsKnown};
-
-    ghost IsUnder = { IsKnown };
-
-    fn unread<S: Alter>(
-        alloc: Global,
-        connection: &mut Connection<S>,
-    ) -> Result<Option<Unread>, Fault> {
+    fn unread<S: Alter>(alloc: Global, connection: &mut Connection<S>) -> Searching {
         unread_in::<ProductRow, S>(alloc, connection, TableName::Products, 1)
     }
 }
 
 impl Searched for LoanRow {
-    ghost use Rattle.mf_store_schema.specs.Schemas.{IsKnown};
-
-    ghost IsUnder = { IsKnown };
-
-    fn unread<S: Alter>(
-        alloc: Global,
-        connection: &mut Connection<S>,
-    ) -> Result<Option<Unread>, Fault> {
+    fn unread<S: Alter>(alloc: Global, connection: &mut Connection<S>) -> Searching {
         unread_in::<LoanRow, S>(alloc, connection, TableName::Loans, 2)
     }
 }
 
 impl Searched for EntryRow {
-    ghost use Rattle.mf_store_schema.specs.Schemas.{IsKnown};
-
-    ghost IsUnder = { IsKnown };
-
-    fn unread<S: Alter>(
-        alloc: Global,
-        connection: &mut Connection<S>,
-    ) -> Result<Option<Unread>, Fault> {
+    fn unread<S: Alter>(alloc: Global, connection: &mut Connection<S>) -> Searching {
         unread_in::<EntryRow, S>(alloc, connection, TableName::Entries, 3)
     }
 }
 
 impl Searched for ReceiptRow {
-    ghost use Rattle.mf_store_schema.specs.Schemas.{IsKnown};
-
-    ghost IsUnder = { IsKnown };
-
-    fn unread<S: Alter>(
-        alloc: Global,
-        connection: &mut Connection<S>,
-    ) -> Result<Option<Unread>, Fault> {
+    fn unread<S: Alter>(alloc: Global, connection: &mut Connection<S>) -> Searching {
         unread_in::<ReceiptRow, S>(alloc, connection, TableName::Receipts, 1)
     }
 }
 
 impl Searched for InstalmentRow {
-    ghost use Rattle.mf_store_schema.specs.Schemas.{IsPresent};
-
     ghost IsUnder = { IsPresent };
 
-    fn unread<S: Alter>(
-        alloc: Global,
-        connection: &mut Connection<S>,
-    ) -> Result<Option<Unread>, Fault> {
+    fn unread<S: Alter>(alloc: Global, connection: &mut Connection<S>) -> Searching {
         unread_in::<InstalmentRow, S>(alloc, connection, TableName::Instalments, 3)
     }
 }
 
 impl Searched for ShareRow {
-    ghost use Rattle.mf_store_schema.specs.Schemas.{IsPresent};
-
     ghost IsUnder = { IsPresent };
 
-    fn unread<S: Alter>(
-        alloc: Global,
-        connection: &mut Connection<S>,
-    ) -> Result<Option<Unread>, Fault> {
+    fn unread<S: Alter>(alloc: Global, connection: &mut Connection<S>) -> Searching {
         unread_in::<ShareRow, S>(alloc, connection, TableName::Shares, 4)
     }
 }
