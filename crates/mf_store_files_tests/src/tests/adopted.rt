@@ -441,7 +441,10 @@ struct Refusal<'a> {
 }
 
 /// What an audit says of the tables of a connection, in its first line.
-fn first_line_of_audit<S: Alter>(alloc: Global, connection: &mut Connection<S>) -> Result<String, Fault>
+fn first_line_of_audit<S: Alter>(
+    alloc: Global,
+    connection: &mut Connection<S>,
+) -> Result<String, Fault>
     requires alone { connection.old.in_transaction ≡ false }
     ensures mode { connection.new.in_transaction ≡ false }
 {

@@ -164,7 +164,11 @@ fn a_sheet_that_is_torn(rt: HostRuntime) -> Result<(), Fail> {
 }
 
 /// A client that sends these bytes, and no more.
-fn send_message<R: Net<Stream = TcpStream>>(rt: &R, port: u16, bytes: &str) -> io::Result<TcpStream> {
+fn send_message<R: Net<Stream = TcpStream>>(
+    rt: &R,
+    port: u16,
+    bytes: &str,
+) -> io::Result<TcpStream> {
     let stream = TcpStream::connect(rt, (Ipv4Addr::LOCALHOST, port))?;
     (&stream).write_all(bytes.as_bytes())?;
     stream.shutdown(Shutdown::Write)?;
