@@ -6,14 +6,14 @@ use Rattle.std.specs.List.{list_any, Contains}
 use Rattle.std.proofs.lemmas.Bool.Decides.{nat_tests}
 use Rattle.std.proofs.lemmas.List.{get_or_default}
 use Rattle.std.proofs.lemmas.Option.{slice_get_read}
-use Rattle.mf_store_audit.specs.Places.{row_before, IsAmong, IsAt, NoneBetween}
+use Rattle.mf_store_audit.specs.Places.{row_before, IsOneOf, IsAt, NoneBetween}
 
 module _ {R : Type 0} where
   -- the row at a place is one of the rows
   pub contains_item : (rows : List R) (i : ℕ) (row : R) → i < length rows → row ≡ get_or rows i row → Contains rows row
   contains_item rows i row below is = (i, below, sym is)
 
-  pub among_there : (rows : List R) (row : R) → IsAmong rows row → Contains rows row
+  pub among_there : (rows : List R) (row : R) → IsOneOf rows row → Contains rows row
   among_there [] row x = elim x [ ]
   among_there (r ∷ rs) row (inl is) = (0, omega arith, is)
   among_there (r ∷ rs) row (inr later) =

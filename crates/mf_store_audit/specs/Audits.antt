@@ -1,6 +1,5 @@
 -- What an audit says of rows, and of a database.
 use Rattle.std.specs.Prelude.{◌≡◌, ◌≢◌, ◌⊎◌, ℕ, List, map, Some, IfSome}
-use Rattle.std.specs.List.{AllByRecursion}
 use Rattle.sqlite.specs.Effect.{Database}
 use Rattle.sqlite.specs.Files.{HoldsDatabase}
 use Rattle.sqlite.specs.Schema.{Schema}
@@ -19,10 +18,8 @@ use Rattle.mf_store_values.specs.Flat.{tables_of}
 use Rattle.mf_store_sound.specs.Schemas.{first_tables_of, without_accounts}
 use Rattle.mf_store_schema.specs.Upgrade.{HoldsFirst}
 use Rattle.mf_store_audit.specs.Findings.{AllBreak, AreOfNone, rows_under}
-use Rattle.mf_store_audit.specs.declared.finding.Finding.{Finding}
 use Rattle.mf_store_audit.specs.Sums.{sums_of_office}
 use Rattle.mf_store_audit.specs.declared.totals.OfficeSums.{OfficeSums}
-use Rattle.mf_store_files.specs.Files.{HasNoTables}
 use Rattle.mf_store_audit.specs.Unread.{IsUnread}
 use Rattle.mf_store_audit.specs.declared.audits.Audit.{Audit}
 use Rattle.mf_store_audit.specs.declared.audits.Audit.TheVariants.{NoTables, OtherTables, Sound, Unsound, Unreadable}

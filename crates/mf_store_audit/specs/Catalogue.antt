@@ -66,6 +66,7 @@ BreaksProduct charges product.PrincipalOrder before row = row.max_principal <ℤ
 BreaksProduct charges product.PeriodsOrder before row = row.max_periods < row.min_periods
 BreaksProduct charges product.PrincipalGraceOrder before row = row.min_periods ≤ row.principal_grace
 BreaksProduct charges product.InterestGraceOrder before row = row.min_periods ≤ row.interest_grace
-BreaksProduct charges product.DisbursementCharge before row = ¬ HasRowOfKind charges Disbursement row.disbursement_charge
+BreaksProduct charges product.DisbursementCharge before row =
+    ¬ HasRowOfKind charges Disbursement row.disbursement_charge
 BreaksProduct charges product.InstalmentCharge before row = ¬ HasRowOfKind charges Instalment row.instalment_charge
 BreaksProduct charges product.OverdueCharge before row = ¬ HasRowOfKind charges Overdue row.overdue_charge

@@ -1,5 +1,5 @@
 -- Rows by their keys: an office, a loan and a number, 0 for what a table has none of.
-use Rattle.std.specs.Prelude.{◌≡◌, ℕ, ◌==◌, ◌&&◌, Bool}
+use Rattle.std.specs.Prelude.{ℕ, ◌==◌, ◌&&◌, Bool}
 use Rattle.std.specs.declared.cmp.Ordering.{Ordering}
 use Rattle.std.specs.Ordering.{nat_cmp, ordering_then}
 
@@ -14,8 +14,8 @@ abbrev pub is_beside : {R : Type 0} → (R → ℕ × ℕ × ℕ) → R → R �
 is_beside key a b = ((key b).1 == (key a).1) && ((key b).0 == (key a).0)
 
 -- the number in a row's key
-abbrev pub number_of : {R : Type 0} → (R → ℕ × ℕ × ℕ) → R → ℕ
-number_of key a = (key a).2
+abbrev pub number_in_key : {R : Type 0} → (R → ℕ × ℕ × ℕ) → R → ℕ
+number_in_key key a = (key a).2
 
 -- a row has this key
 abbrev pub is_at : {R : Type 0} → (R → ℕ × ℕ × ℕ) → ℕ × ℕ × ℕ → R → Bool

@@ -20,9 +20,9 @@ abbrev pub NoneBetween : {F R : Type 0} → (F → Option R → R → Type 0) �
 NoneBetween breaks from to rows = (place : ℕ) (flaw : _) → from ≤ place → place < to → ¬ IsAt (breaks flaw) place rows
 
 -- one of a list
-abbrev pub IsAmong : {A : Type 0} → List A → A → Type 0
-IsAmong [] a = ⊥
-IsAmong (b ∷ bs) a = (b ≡ a) ⊎ IsAmong bs a
+abbrev pub IsOneOf : {A : Type 0} → List A → A → Type 0
+IsOneOf [] a = ⊥
+IsOneOf (b ∷ bs) a = (b ≡ a) ⊎ IsOneOf bs a
 
 -- a row breaks a condition that is decided of each row
 abbrev pub BreaksDecided : {F R : Type 0} → (F → Bool) → (F → Option R → R → Type 0) → F → Option R → R → Type 0

@@ -2,7 +2,7 @@
 
 ghost use Rattle.std.specs.Prelude.{◌≡◌, ◌↔◌, ℕ, IsTrue, IsNone, IfSome, true, false, option_copied};
 ghost use Rattle.std.specs.List.{Contains, list_any};
-ghost use Rattle.mf_store_audit.specs.Keys.{by_key, is_at, is_beside, number_of};
+ghost use Rattle.mf_store_audit.specs.Keys.{by_key, is_at, is_beside, number_in_key};
 ghost use Rattle.mf_store_audit.specs.Places.{IsAfter, number_within};
 
 use crate::rows::find_row;
@@ -29,8 +29,8 @@ pub(crate) fn is_after<R: Keyed>(before: Option<&R>, row: &R) -> bool
 
 /// Whether a row is numbered next after the one before it, where both are of one owner, and else by 1.
 pub(crate) fn is_next<R: Keyed>(before: Option<&R>, row: &R) -> bool
-    ensures { IsTrue result ↔ (number_of R.key row.now ≡
-        number_within (is_beside R.key row.now) (number_of R.key) (option_copied before.entry)) }
+    ensures { IsTrue result ↔ (number_in_key R.key row.now ≡
+        number_within (is_beside R.key row.now) (number_in_key R.key) (option_copied before.entry)) }
 {
     let (office, loan, number) = row.key();
     let Some(before) = before else {

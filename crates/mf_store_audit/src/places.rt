@@ -3,7 +3,7 @@
 ghost use Rattle.std.specs.Prelude.{◌≡◌, ◌+◌, ◌≤◌, ◌<◌, ◌^◌, List, Option, Bool, true, length, option_copied};
 ghost use Rattle.std.specs.Prelude.{IsTrue, IsNone, IfSome, IfOk, IfErr};
 ghost use Rattle.mf_base.specs.declared.fault.Fault.TheVariants.{F20};
-ghost use Rattle.mf_store_audit.specs.Places.{BreaksDecided, IsAmong, IsAt, NoneBetween, row_before};
+ghost use Rattle.mf_store_audit.specs.Places.{BreaksDecided, IsOneOf, IsAt, NoneBetween, row_before};
 
 use mf_base::Fault;
 
@@ -11,7 +11,7 @@ use mf_base::Fault;
 pub(crate) trait Flaws: Copy + 'static {
     /// All that may be, in the order in which it is asked.
     fn all() -> &'static [Self]
-        ensures { (flaw : Self) → IsAmong result.now flaw };
+        ensures { (flaw : Self) → IsOneOf result.now flaw };
 }
 
 /// A row of a table, with the conditions that it may break by what it is held against.
