@@ -16,8 +16,8 @@ use Rattle.mf_model.proofs.AccountLemmas.{IsRunning, account_is}
 use Rattle.mf_store_commits.proofs.AccountCommitLemmas.{account_with}
 use Rattle.mf_store_commits.proofs.AccountRowLemmas.{TermsStand}
 use Rattle.mf_store_commits.proofs.EnteredLemmas.{IsAccountOf, account_of_loan}
-use Rattle.mf_store_commits.proofs.FlatLemmas.{numbered-suc}
-use Rattle.mf_store_commits.proofs.SoundLemmas.{own_rows}
+use Rattle.mf_store_values.proofs.FlatLemmas.{numbered-suc}
+use Rattle.mf_store_values.proofs.SoundLemmas.{own_rows}
 use Rattle.mf_store.proofs.CatalogueLemmas.{mapped, none_numbered, some_is}
 
 -- ---- things by number, where the one of a number is changed

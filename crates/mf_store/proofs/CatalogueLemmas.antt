@@ -3,7 +3,7 @@ use Rattle.std.proofs.Common.{◌≡◌, ℕ, zero, suc, Bool, List, [], find, f
 use Rattle.std.specs.List.{AllByRecursion}
 use Rattle.std.specs.Option.{option_map}
 use Rattle.mf_model.specs.Institution.{item_numbered}
-use Rattle.mf_store_commits.proofs.FlatLemmas.{numbered-suc}
+use Rattle.mf_store_values.proofs.FlatLemmas.{numbered-suc}
 use Rattle.sqlite_keyed.proofs.ListLemmas.{all-filter, all-slice_get, slice_get-filter}
 
 -- what was kept is what is found

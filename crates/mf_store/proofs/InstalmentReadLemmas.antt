@@ -17,7 +17,7 @@ use Rattle.mf_model.proofs.AccountLemmas.{account_sound}
 use Rattle.mf_store_values.specs.Flat.{numbered_from, instalments_kept, had_by}
 use Rattle.mf_store_values.specs.Flat.{rows_by_loan}
 use Rattle.mf_store_commits.proofs.EnteredLemmas.{loan_sound}
-use Rattle.mf_store_commits.proofs.LoanRowLemmas.{loan_shown}
+use Rattle.mf_store_values.proofs.LoanRowLemmas.{loan_shown}
 
 -- ---- the rows of one loan
 

@@ -24,7 +24,7 @@ use Rattle.mf_store_schema.specs.Rows.{loan_row, is_loan_of, is_loan_above}
 use Rattle.mf_store_schema.specs.declared.loans.LoanRow.{LoanRow}
 use Rattle.mf_store_values.specs.Flat.{tables_of, numbered_from, loan_in, loans_of, line_in, ledger_entries}
 use Rattle.mf_store_values.specs.Flat.{instalments_kept, kept_of}
-use Rattle.mf_store_commits.proofs.FlatLemmas.{numbered-suc}
+use Rattle.mf_store_values.proofs.FlatLemmas.{numbered-suc}
 use Rattle.mf_store.proofs.OfficeRowsLemmas.{rows_in_office}
 use Rattle.mf_store_commits.proofs.LoanLemmas.{loan_of}
 use Rattle.mf_store.proofs.CatalogueLemmas.{mapped}

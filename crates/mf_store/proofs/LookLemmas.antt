@@ -15,8 +15,8 @@ use Rattle.mf_store_values.specs.Flat.{loan_row_at}
 use Rattle.mf_store.specs.Counts.{count_of}
 use Rattle.mf_store.specs.declared.counts.Kind.{Kind}
 use Rattle.mf_store.specs.declared.counts.Kind.TheVariants.{Staff, Clients, Loans, Charges, Products}
-use Rattle.mf_store_commits.proofs.FlatLemmas.{find_row, find_listed}
-use Rattle.mf_store_commits.proofs.SoundLemmas.{office_sound, has_number}
+use Rattle.mf_store_values.proofs.FlatLemmas.{find_row, find_listed}
+use Rattle.mf_store_values.proofs.SoundLemmas.{office_sound, has_number}
 
 pub office_by_number : (x : ℕ) (parents : ℕ → Option ℕ) (fs : List Office) → find (is_row_of_office x)
     (map (office_under parents) fs) ≡ option_map (office_under parents) (office_at x fs)

@@ -43,7 +43,7 @@ use Rattle.mf_store_commits.proofs.CommitLemmas.{none_there, number_at, offices-
 use Rattle.mf_store.proofs.AccountLemmas.{account_kept, others_numbered}
 use Rattle.mf_store.proofs.CatalogueLemmas.{mapped, none_numbered}
 use Rattle.mf_store.proofs.LookLemmas.{office_by_number}
-use Rattle.mf_store_commits.proofs.SoundLemmas.{own_rows}
+use Rattle.mf_store_values.proofs.SoundLemmas.{own_rows}
 
 abbrev counts_in : Rows → Counts
 counts_in rows = record { staff = length rows.staff; clients = length rows.clients; loans = length rows.loans }

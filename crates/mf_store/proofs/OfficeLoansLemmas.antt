@@ -22,8 +22,8 @@ use Rattle.mf_store_values.specs.Folding.{principal_left_of, AreWithinSums}
 use Rattle.mf_store.proofs.ArrearsLemmas.{aged_told}
 use Rattle.mf_store.proofs.InstalmentReadLemmas.{whole_kept, sums_kept}
 use Rattle.mf_store.proofs.OfficeRowsLemmas.{block_filtered}
-use Rattle.mf_store_commits.proofs.LoanRowLemmas.{all_loans}
-use Rattle.mf_store_commits.proofs.SoundLemmas.{office_sound}
+use Rattle.mf_store_values.proofs.LoanRowLemmas.{all_loans}
+use Rattle.mf_store_values.proofs.SoundLemmas.{office_sound}
 
 -- ---- loans, the first with this number, with their instalments
 

@@ -10,7 +10,7 @@ use Rattle.mf_model.specs.Store.{rows_of, rows_at}
 use Rattle.mf_model.specs.Tree.{Ascending}
 use Rattle.mf_store_schema.specs.Rows.{staff_row, client_row, is_staff_of, is_client_of}
 use Rattle.mf_store_values.specs.Flat.{numbered_from, all_rows, staff_in, client_in, tables_of}
-use Rattle.mf_store_commits.proofs.BlockLemmas.{in_blocks, filter_office}
+use Rattle.mf_store_values.proofs.BlockLemmas.{in_blocks, filter_office}
 
 -- ---- one office's rows among all
 

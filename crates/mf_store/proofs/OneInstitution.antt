@@ -40,9 +40,9 @@ use Rattle.mf_store_schema.specs.declared.meta.MetaRow.{MetaRow}
 use Rattle.mf_store_schema.specs.Rows.{Lists, is_row_of_staff, is_row_of_client, is_row_of_charge, is_row_of_product}
 use Rattle.mf_store_schema.specs.Rows.{is_row_of_loan}
 use Rattle.mf_store_schema.specs.Rows.{is_entry_of}
-use Rattle.mf_store_commits.proofs.FlatLemmas.{numbered-suc, portion_same}
+use Rattle.mf_store_values.proofs.FlatLemmas.{numbered-suc, portion_same}
 use Rattle.mf_store_commits.proofs.EnteredLemmas.{HaveCallers, loan_called}
-use Rattle.mf_store_commits.proofs.LoanRowLemmas.{loan_shown}
+use Rattle.mf_store_values.proofs.LoanRowLemmas.{loan_shown}
 use Rattle.mf_store_commits.proofs.LoanLemmas.{loan_of, numbered_loan}
 use Rattle.mf_store_values.specs.Flat.{entry_kind_number, meta_on, staff_in, client_in, charge_as, product_as}
 use Rattle.mf_store_values.specs.Flat.{loan_in, entry_in, own_entries, ledger_entries, tables_of}

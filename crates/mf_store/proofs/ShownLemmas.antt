@@ -25,7 +25,7 @@ use Rattle.mf_store_schema.specs.declared.instalments.InstalmentRow.{InstalmentR
 use Rattle.mf_store_values.specs.Flat.{tables_of, instalment_in, instalments_kept, kept_of, had_by}
 use Rattle.mf_store_values.specs.Principal.{IsOpenRow, IsFirstOpen}
 use Rattle.mf_store.proofs.InstalmentReadLemmas.{sums_of, sums_kept, loan_account_sound}
-use Rattle.mf_store_commits.proofs.LoanRowLemmas.{loan_shown}
+use Rattle.mf_store_values.proofs.LoanRowLemmas.{loan_shown}
 
 -- ---- the last instalment
 

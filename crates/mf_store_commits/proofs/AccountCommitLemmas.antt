@@ -23,13 +23,13 @@ use Rattle.mf_store_commits.specs.ChangeWrites.{change_writes, instalments_put, 
 use Rattle.mf_store_values.specs.Flat.{instalment_in, share_in, parts_from, instalments_kept, shares_kept, kept_of}
 use Rattle.mf_store_values.specs.Flat.{instalment_rows, share_rows}
 use Rattle.mf_store_commits.proofs.AccountRowLemmas.{none_before}
-use Rattle.mf_store_commits.proofs.BlockLemmas.{AroundAt, around_same}
+use Rattle.mf_store_values.proofs.BlockLemmas.{AroundAt, around_same}
 use Rattle.mf_store_commits.proofs.BroughtLemmas.{all_steps}
 use Rattle.mf_store_commits.proofs.ChangedRowLemmas.{instalments_changed, shares_changed, after_both}
 use Rattle.mf_store_commits.proofs.ChangedRowLemmas.{instalments_written, shares_written, schedule_written}
 use Rattle.mf_store_commits.proofs.InstalmentRowLemmas.{loan_place, instalment_step, fresh_put_around}
-use Rattle.mf_store_commits.proofs.LoanRowLemmas.{rows_around}
-use Rattle.mf_store_commits.proofs.PutLemmas.{put_all}
+use Rattle.mf_store_values.proofs.LoanRowLemmas.{rows_around}
+use Rattle.mf_store_values.proofs.PutLemmas.{put_all}
 use Rattle.mf_store_commits.proofs.ShareRowLemmas.{share_place, share_step}
 
 -- ---- entries

@@ -10,7 +10,7 @@ use Rattle.sqlite_keyed.proofs.ListLemmas.{all_weaker}
 use Rattle.std.proofs.lemmas.Bool.{cases_eq}
 use Rattle.std.proofs.lemmas.List.{length-set, get_or-set_same, get_or-set_other, ext_get_or}
 use Rattle.lru.proofs.Splits.{Contains-nil, Contains-cons, Contains-head, Contains-tail}
-use Rattle.mf_store_commits.proofs.BlockLemmas.{AroundAt, blocks_from, set_around, within}
+use Rattle.mf_store_values.proofs.BlockLemmas.{AroundAt, blocks_from, set_around, within}
 
 -- the rows after the step of each of these numbers
 abbrev pub all_steps : {R : Type 0} → (ℕ → List R → List R) → List ℕ → List R → List R

@@ -21,7 +21,7 @@ use Rattle.mf_store_schema.specs.declared.writes.StoreWrite.{StoreWrite}
 use Rattle.mf_store_commits.specs.Becoming.{Becomes}
 use Rattle.mf_model.proofs.Growing.{numbered_with, terms_charge, terms_push, terms_with}
 use Rattle.mf_store_commits.proofs.AccountRowLemmas.{TermsStand, SameRows, catalogue_same}
-use Rattle.mf_store_commits.proofs.FlatLemmas.{put_listed, put_listed_last}
+use Rattle.mf_store_values.proofs.FlatLemmas.{put_listed, put_listed_last}
 
 -- no account changes as the catalogue grows, where products give the terms that they gave
 grown : (writes : List StoreWrite) (h : Catalogue) (i : Institution) → IsSound i → IsSound (record i { catalogue = h })

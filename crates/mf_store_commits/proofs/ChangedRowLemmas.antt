@@ -25,11 +25,11 @@ use Rattle.mf_store_commits.specs.Suiting.{SuitsRows}
 use Rattle.sqlite_keyed.proofs.ListLemmas.{all-append, all-map}
 use Rattle.mf_store_values.specs.Flat.{how_number, portion_number, instalment_in, share_in, placed_parts, parts_from}
 use Rattle.mf_store_values.specs.Flat.{instalments_kept, shares_kept}
-use Rattle.mf_store_commits.proofs.BlockLemmas.{AroundAt}
+use Rattle.mf_store_values.proofs.BlockLemmas.{AroundAt}
 use Rattle.mf_store_commits.proofs.BroughtLemmas.{all_steps}
 use Rattle.mf_store_commits.proofs.InstalmentRowLemmas.{loan_place, instalment_step, instalments_put_around}
-use Rattle.mf_store_commits.proofs.FlatLemmas.{portion_at, portion_read}
-use Rattle.mf_store_commits.proofs.PutLemmas.{put_all}
+use Rattle.mf_store_values.proofs.FlatLemmas.{portion_at, portion_read}
+use Rattle.mf_store_values.proofs.PutLemmas.{put_all}
 use Rattle.mf_store_commits.proofs.ShareRowLemmas.{share_place, share_step, shares_replaced_around}
 use Rattle.mf_store_schema.specs.declared.instalments.InstalmentRow.{InstalmentRow}
 use Rattle.mf_store_schema.specs.declared.shares.ShareRow.{ShareRow}

@@ -33,9 +33,9 @@ use Rattle.mf_store_values.specs.ReceiptRows.{receipt_rows}
 use Rattle.mf_model.specs.Receipts.{uses_from}
 use Rattle.mf_store_schema.specs.declared.writes.StoreWrite.TheVariants.{PutOffice, PutStaff, PutClient}
 use Rattle.mf_store_commits.specs.Becoming.{Becomes}
-use Rattle.mf_store_commits.proofs.LoanRowLemmas.{same_by_loan, none_in_office}
-use Rattle.mf_store_commits.proofs.FlatLemmas.{put_row_of, same_rows_of, no_rows_of}
-use Rattle.mf_store_commits.proofs.PutLemmas.{put_first, put_past}
+use Rattle.mf_store_values.proofs.LoanRowLemmas.{same_by_loan, none_in_office}
+use Rattle.mf_store_values.proofs.FlatLemmas.{put_row_of, same_rows_of, no_rows_of}
+use Rattle.mf_store_values.proofs.PutLemmas.{put_first, put_past}
 use Rattle.mf_store_commits.proofs.ReceiptRowLemmas.{same_receipts_of, no_receipts_in}
 
 -- ---- one more row of an office

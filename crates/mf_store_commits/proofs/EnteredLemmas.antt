@@ -33,8 +33,8 @@ use Rattle.mf_store_schema.specs.Rows.{entry_row, is_entry_of}
 use Rattle.mf_store_values.specs.Flat.{tables_of, ledger_entries, entry_in}
 use Rattle.mf_store_commits.proofs.AccountCommitLemmas.{IsChanged, account_with}
 use Rattle.mf_store_commits.proofs.EntryLemmas.{AreEarlier, AreNumbered, later_numbered, entries_shown}
-use Rattle.mf_store_commits.proofs.BlockLemmas.{numbered-suc, numbered_set, seen}
-use Rattle.mf_store_commits.proofs.SoundLemmas.{office_sound, own_rows}
+use Rattle.mf_store_values.proofs.BlockLemmas.{numbered-suc, numbered_set, seen}
+use Rattle.mf_store_values.proofs.SoundLemmas.{office_sound, own_rows}
 
 -- ---- who entered them
 

@@ -14,10 +14,10 @@ use Rattle.mf_model.specs.Store.{rows_of}
 use Rattle.mf_model.specs.Tree.{Ascending}
 use Rattle.mf_store_schema.specs.Rows.{by_entry, is_entry_of}
 use Rattle.mf_store_values.specs.Flat.{entry_in, own_entries, entry_rows, ledger_entries, reversed_entry}
-use Rattle.mf_store_commits.proofs.PutLemmas.{put_past, put_over}
+use Rattle.mf_store_values.proofs.PutLemmas.{put_past, put_over}
 use Rattle.mf_store_commits.proofs.InstalmentRowLemmas.{decided, own_key}
-use Rattle.mf_store_commits.proofs.LoanRowLemmas.{loan_shown, rows_around}
-use Rattle.mf_store_commits.proofs.PutLemmas.{put_past_all, put_around}
+use Rattle.mf_store_values.proofs.LoanRowLemmas.{loan_shown, rows_around}
+use Rattle.mf_store_values.proofs.PutLemmas.{put_past_all, put_around}
 
 -- the rows of a loan are those of its entries
 pub entries_shown : (x n : ℕ) (fs : List Office) → Ascending fs → filter (is_entry_of x n) (entry_rows fs)

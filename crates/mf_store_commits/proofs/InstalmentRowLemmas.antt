@@ -10,10 +10,10 @@ use Rattle.mf_store_sql.specs.Keep.{put_item}
 use Rattle.mf_store_schema.specs.Rows.{by_instalment}
 use Rattle.mf_store_schema.specs.declared.instalments.InstalmentRow.{InstalmentRow}
 use Rattle.mf_store_values.specs.Flat.{instalment_in, numbered_from}
-use Rattle.mf_store_commits.proofs.BlockLemmas.{AroundAt}
+use Rattle.mf_store_values.proofs.BlockLemmas.{AroundAt}
 use Rattle.mf_store_commits.proofs.BroughtLemmas.{all_steps, AreBut, steps_bring}
-use Rattle.mf_store_commits.proofs.FlatLemmas.{blocks_mapped, all_mapped}
-use Rattle.mf_store_commits.proofs.PutLemmas.{put_around, put_over, put_all, put_all_around, AreRising}
+use Rattle.mf_store_values.proofs.FlatLemmas.{blocks_mapped, all_mapped}
+use Rattle.mf_store_values.proofs.PutLemmas.{put_around, put_over, put_all, put_all_around, AreRising}
 
 abbrev pair : ℕ → Instalment → ℕ × Instalment
 pair n row = (n, row)

@@ -1,7 +1,3 @@
-pub mod BlockLemmas
-pub mod PutLemmas
-pub mod FlatLemmas
-pub mod LoanRowLemmas
 pub mod PushLemmas
 pub mod BroughtLemmas
 pub mod InstalmentRowLemmas
@@ -15,7 +11,6 @@ pub mod ChangedRowLemmas
 pub mod AccountCommitLemmas
 pub mod CommitLemmas
 pub mod CatalogueLemmas
-pub mod SoundLemmas
 pub mod EnteredLemmas
 pub mod LoanLemmas
 pub mod SuitLemmas

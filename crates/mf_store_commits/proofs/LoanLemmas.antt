@@ -42,8 +42,8 @@ use Rattle.mf_store_commits.proofs.AccountRowLemmas.{none_before}
 use Rattle.mf_store_commits.proofs.ChangedRowLemmas.{after_both, fit_both, all_plain, change_plain, schedule_plain}
 use Rattle.mf_store_commits.proofs.CommitLemmas.{loans_become}
 use Rattle.mf_store_commits.proofs.EntryLemmas.{AreEarlier, AreNumbered, PutsEntry, puts_last, puts_reversed, entry_put}
-use Rattle.mf_store_commits.proofs.LoanRowLemmas.{same_by_loan, one_more_loan, change_alone}
-use Rattle.mf_store_commits.proofs.FlatLemmas.{put_row_of, put_over_of, same_rows_of}
+use Rattle.mf_store_values.proofs.LoanRowLemmas.{same_by_loan, one_more_loan, change_alone}
+use Rattle.mf_store_values.proofs.FlatLemmas.{put_row_of, put_over_of, same_rows_of}
 use Rattle.mf_store_commits.proofs.ReceiptRowLemmas.{same_receipts_of, no_receipt_put, receipt_put}
 
 -- ---- loans without their entries

@@ -25,9 +25,9 @@ use Rattle.mf_store_schema.proofs.OrderLemmas.{by_receipt_total}
 use Rattle.mf_store_values.specs.ReceiptRows.{receipt_in, receipts_carried, receipt_rows}
 use Rattle.mf_store_values.proofs.ReceiptLemmas.{apart_bytes, own_key, other_key, AreOthers, others_in, others_of}
 use Rattle.mf_store_values.proofs.ReceiptLemmas.{others_above, AreAllApart, receipts_apart}
-use Rattle.mf_store_commits.proofs.BlockLemmas.{Around, in_blocks, blocks_from, numbered_around, office_around}
-use Rattle.mf_store_commits.proofs.BlockLemmas.{around_mapped}
-use Rattle.mf_store_commits.proofs.BlockLemmas.{within, blocks_same, blocks_new, filter_office, seen}
+use Rattle.mf_store_values.proofs.BlockLemmas.{Around, in_blocks, blocks_from, numbered_around, office_around}
+use Rattle.mf_store_values.proofs.BlockLemmas.{around_mapped}
+use Rattle.mf_store_values.proofs.BlockLemmas.{within, blocks_same, blocks_new, filter_office, seen}
 use Rattle.mf_store_commits.proofs.SortedLemmas.{IsOfOne, find_sorted, put_among}
 
 -- the rows of one office's receipts, before all are sorted

@@ -16,11 +16,11 @@ use Rattle.mf_account.specs.declared.settled.SettledPart.{SettledPart}
 use Rattle.mf_store_schema.specs.Rows.{by_share, is_share_in}
 use Rattle.mf_store_schema.specs.declared.shares.ShareRow.{ShareRow}
 use Rattle.mf_store_values.specs.Flat.{share_in, numbered_from, placed_parts, parts_from}
-use Rattle.mf_store_commits.proofs.BlockLemmas.{AroundAt, blocks_from}
+use Rattle.mf_store_values.proofs.BlockLemmas.{AroundAt, blocks_from}
 use Rattle.mf_store_commits.proofs.BroughtLemmas.{all_steps, steps_bring}
-use Rattle.mf_store_commits.proofs.FlatLemmas.{all_mapped}
+use Rattle.mf_store_values.proofs.FlatLemmas.{all_mapped}
 use Rattle.mf_store_commits.proofs.InstalmentRowLemmas.{decided, own_key}
-use Rattle.mf_store_commits.proofs.PutLemmas.{put_all, put_all_around, AreRising}
+use Rattle.mf_store_values.proofs.PutLemmas.{put_all, put_all_around, AreRising}
 
 -- what entries of these numbers settle, entry by entry
 abbrev listed : (ℕ → List SettledPart) → ℕ → ℕ → List (List SettledPart)

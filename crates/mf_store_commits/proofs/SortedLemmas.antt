@@ -7,7 +7,7 @@ use Rattle.std.specs.Ordering.{ordering_reverse}
 use Rattle.sqlite_keyed.specs.Lists.{insert_sorted, sort_by}
 use Rattle.mf_store_sql.specs.Keep.{put_item}
 use Rattle.mf_store_values.proofs.SortedLemmas.{all_sorted}
-use Rattle.mf_store_commits.proofs.PutLemmas.{none_dropped}
+use Rattle.mf_store_values.proofs.PutLemmas.{none_dropped}
 
 module _ {X : Type 0} (cmp : X → X → Ordering) where
   -- a row with a new key is put as the sorting puts it

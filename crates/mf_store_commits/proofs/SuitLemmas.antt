@@ -32,11 +32,11 @@ use Rattle.mf_store_commits.specs.ChangeWrites.{change_writes}
 use Rattle.mf_store_commits.specs.Suiting.{Suits, AllSuit}
 use Rattle.mf_store_commits.proofs.ChangedRowLemmas.{IsPlain, all_plain, change_plain, schedule_plain}
 use Rattle.mf_store_commits.proofs.EntryLemmas.{AreEarlier, AreNumbered}
-use Rattle.mf_store_commits.proofs.FlatLemmas.{find_listed, find_row}
+use Rattle.mf_store_values.proofs.FlatLemmas.{find_listed, find_row}
 use Rattle.mf_store_commits.proofs.FoundLemmas.{entry_by_number, number_free, number_there}
 use Rattle.mf_store_commits.proofs.LoanLemmas.{loan_of, numbered_loan}
 use Rattle.mf_store_commits.proofs.ReceiptRowLemmas.{receipt_free, receipt_found}
-use Rattle.mf_store_commits.proofs.BlockLemmas.{numbered-suc}
+use Rattle.mf_store_values.proofs.BlockLemmas.{numbered-suc}
 
 -- writes of instalments and shares suit any rows
 all_suit : (writes : List StoreWrite) → AllByRecursion IsPlain writes → (lists : Lists) → AllSuit writes lists

@@ -86,8 +86,8 @@ use Rattle.mf_store_values.specs.ReceiptRows.{receipt_in, receipts_carried}
 use Rattle.mf_store_files.specs.Held.{CanHoldRows}
 use Rattle.mf_store_files.proofs.TableLemmas.{◌also◌}
 use Rattle.mf_model.proofs.StaffLemmas.{staff_are_callers}
-use Rattle.mf_store_commits.proofs.FlatLemmas.{numbered-suc}
-use Rattle.mf_store_commits.proofs.SoundLemmas.{has_number}
+use Rattle.mf_store_values.proofs.FlatLemmas.{numbered-suc}
+use Rattle.mf_store_values.proofs.SoundLemmas.{has_number}
 use Rattle.mf_store_values.proofs.SortedLemmas.{all_sorted}
 
 -- ---- one column

@@ -16,3 +16,8 @@ pub mod FoldLemmas
 pub mod RowsLemmas
 pub mod SumLemmas
 pub mod PrincipalLemmas
+pub mod BlockLemmas
+pub mod PutLemmas
+pub mod FlatLemmas
+pub mod LoanRowLemmas
+pub mod SoundLemmas

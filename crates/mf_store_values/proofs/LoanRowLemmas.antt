@@ -12,8 +12,8 @@ use Rattle.mf_model.specs.Institution.{with_numbered}
 use Rattle.mf_model.specs.Store.{rows_of}
 use Rattle.mf_model.specs.Tree.{Above, Ascending}
 use Rattle.mf_store_values.specs.Flat.{rows_of_loans, rows_by_loan, had_by}
-use Rattle.mf_store_commits.proofs.BlockLemmas.{AroundAt, blocks_from, block_of, all_from, in_blocks, all_above}
-use Rattle.mf_store_commits.proofs.BlockLemmas.{blocks_same, blocks_new, own, changed_around, filter_own}
+use Rattle.mf_store_values.proofs.BlockLemmas.{AroundAt, blocks_from, block_of, all_from, in_blocks, all_above}
+use Rattle.mf_store_values.proofs.BlockLemmas.{blocks_same, blocks_new, own, changed_around, filter_own}
 
 module _ {A R : Type 0} (make : ℕ → ℕ → A → R) where
   -- ---- the rows of one loan

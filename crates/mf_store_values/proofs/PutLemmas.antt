@@ -7,7 +7,7 @@ use Rattle.std.proofs.lemmas.List.Elements.{filter-append}
 use Rattle.sqlite_keyed.proofs.ListLemmas.{all-append, all_both, all_weaker, filter_all}
 use Rattle.sqlite_keyed.specs.Lists.{insert_sorted}
 use Rattle.mf_store_sql.specs.Keep.{put_item, drop_item}
-use Rattle.mf_store_commits.proofs.BlockLemmas.{Around}
+use Rattle.mf_store_values.proofs.BlockLemmas.{Around}
 
 module _ {R : Type 0} (cmp : R → R → Ordering) (r : R) where
   -- each of these rows has a smaller key

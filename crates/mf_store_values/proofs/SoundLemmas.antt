@@ -23,7 +23,7 @@ pub has_number : {A : Type 0} (xs : List A) (n : ℕ) → IsTrue (is_some (item_
 has_number xs zero =
     ((λ h. absurd (Rattle.std.proofs.Common.true≢false (sym h))), (λ h. absurd (let low = h.0 in omega arith)))
 has_number xs (suc n) =
-    let same = Rattle.mf_store_commits.proofs.FlatLemmas.numbered-suc xs n in
+    let same = Rattle.mf_store_values.proofs.FlatLemmas.numbered-suc xs n in
     let at = placed xs n in (
       (λ h. (omega arith, (let low = at.0 (subst (λ o. IsTrue (is_some o)) same h) in omega arith))),
       (λ h. subst (λ o. IsTrue (is_some o)) (sym same) (at.1 (let most = h.1 in omega arith))),

@@ -16,11 +16,11 @@ use Rattle.mf_model.specs.Institution.{with_numbered}
 use Rattle.mf_model.specs.Tree.{Ascending, is_there}
 use Rattle.mf_model.specs.Store.{rows_of}
 use Rattle.mf_store_values.specs.Flat.{numbered_from, all_rows, portion_number}
-pub use Rattle.mf_store_commits.proofs.BlockLemmas.{numbered-suc, with_numbered_later}
-use Rattle.mf_store_commits.proofs.BlockLemmas.{blocks_from, block_of, all_from, numbered_around, push_around}
-use Rattle.mf_store_commits.proofs.BlockLemmas.{filter_numbered, in_blocks, blocks_same, blocks_new, own, filter_own}
-use Rattle.mf_store_commits.proofs.BlockLemmas.{changed_around, pushed_around}
-use Rattle.mf_store_commits.proofs.PutLemmas.{put_around, put_over}
+pub use Rattle.mf_store_values.proofs.BlockLemmas.{numbered-suc, with_numbered_later}
+use Rattle.mf_store_values.proofs.BlockLemmas.{blocks_from, block_of, all_from, numbered_around, push_around}
+use Rattle.mf_store_values.proofs.BlockLemmas.{filter_numbered, in_blocks, blocks_same, blocks_new, own, filter_own}
+use Rattle.mf_store_values.proofs.BlockLemmas.{changed_around, pushed_around}
+use Rattle.mf_store_values.proofs.PutLemmas.{put_around, put_over}
 
 -- numbered rows are blocks of one row each
 pub blocks_mapped : {A B R : Type 0} (f : B → R) (make : ℕ → A → B) (m : ℕ) (xs : List A)
