@@ -1,6 +1,5 @@
 pub mod CallLemmas
 pub mod RowLemmas
-pub mod OnceLemmas
 pub mod OrderLemmas
 pub mod RangeLemmas
 pub mod RemoveLemmas

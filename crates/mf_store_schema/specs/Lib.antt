@@ -15,6 +15,7 @@ pub mod EntriesTexts
 pub mod ReceiptsTexts
 pub mod InstalmentsTexts
 pub mod SharesTexts
+pub mod Once
 pub mod Read
 pub mod Schemas
 pub mod Whole

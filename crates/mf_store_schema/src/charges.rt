@@ -4,6 +4,7 @@ ghost use Rattle.std.specs.Ordering.{is_eq};
 ghost use Rattle.mf_store_schema.specs.Tables.{charges};
 ghost use Rattle.mf_store_schema.specs.ChargesTexts.{kept, fits, ordered, first_shows};
 ghost use Rattle.mf_store_schema.specs.Keys.{one_number};
+ghost use Rattle.mf_store_schema.specs.Once.{charge_once};
 ghost use Rattle.mf_store_schema.specs.Rows.{by_charge, charge_row, put_charge, is_row_of_charge};
 ghost use Rattle.mf_store_schema.specs.Schemas.{IsKnown};
 ghost use Rattle.mf_store_schema.specs.Whole.{asked_known};
@@ -55,6 +56,7 @@ pub struct ChargeRow {
     pub value: i64,
 }
 
+#[tactic(auto, using(crate::proofs::RowLemmas::row_is, crate::proofs::CallLemmas::ran_with))]
 impl Table for ChargeRow {
     ghost use Rattle.std.proofs.Common.{ap, refl};
 
@@ -116,6 +118,8 @@ impl Table for ChargeRow {
     ghost fits = { fits };
 
     ghost ordered = { ordered };
+
+    ghost once = { charge_once };
 
     ghost keyed = { refl };
 

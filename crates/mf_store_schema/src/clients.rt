@@ -4,6 +4,7 @@ ghost use Rattle.std.specs.Ordering.{is_eq};
 ghost use Rattle.mf_store_schema.specs.Tables.{clients};
 ghost use Rattle.mf_store_schema.specs.ClientsTexts.{kept, fits, ordered, lists_by_1, first_shows};
 ghost use Rattle.mf_store_schema.specs.Keys.{one_number, two_numbers};
+ghost use Rattle.mf_store_schema.specs.Once.{client_once};
 ghost use Rattle.mf_store_schema.specs.Rows.{by_client, client_row, put_client, is_row_of_client};
 ghost use Rattle.mf_store_schema.specs.Rows.{is_client_of};
 ghost use Rattle.mf_store_schema.specs.Schemas.{IsKnown};
@@ -49,6 +50,7 @@ pub struct ClientRow {
     pub name: Text,
 }
 
+#[tactic(auto, using(crate::proofs::RowLemmas::row_is, crate::proofs::CallLemmas::ran_with))]
 impl Table for ClientRow {
     ghost use Rattle.std.proofs.Common.{ap, refl};
 
@@ -104,6 +106,8 @@ impl Table for ClientRow {
     ghost fits = { fits };
 
     ghost ordered = { ordered };
+
+    ghost once = { client_once };
 
     ghost keyed = { refl };
 

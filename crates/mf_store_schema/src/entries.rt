@@ -4,6 +4,7 @@ ghost use Rattle.std.specs.Ordering.{is_eq};
 ghost use Rattle.mf_store_schema.specs.Tables.{entries};
 ghost use Rattle.mf_store_schema.specs.EntriesTexts.{kept, fits, ordered, lists_by_2, first_shows};
 ghost use Rattle.mf_store_schema.specs.Keys.{two_numbers, three_numbers};
+ghost use Rattle.mf_store_schema.specs.Once.{entry_once};
 ghost use Rattle.mf_store_schema.specs.Rows.{by_entry, entry_row, put_entry, is_row_of_entry};
 ghost use Rattle.mf_store_schema.specs.Rows.{is_entry_of};
 ghost use Rattle.mf_store_schema.specs.Schemas.{IsKnown};
@@ -78,6 +79,7 @@ pub struct EntryRow {
     pub reversed: u32,
 }
 
+#[tactic(auto, using(crate::proofs::RowLemmas::row_is, crate::proofs::CallLemmas::ran_with))]
 impl Table for EntryRow {
     ghost use Rattle.std.proofs.Common.{ap, refl};
 
@@ -159,6 +161,8 @@ impl Table for EntryRow {
     ghost fits = { fits };
 
     ghost ordered = { ordered };
+
+    ghost once = { entry_once };
 
     ghost keyed = { refl };
 

@@ -9,6 +9,7 @@ ghost use Rattle.mf_store_schema.specs.Fields.{IsAmount};
 ghost use Rattle.mf_store_schema.specs.Tables.{instalments};
 ghost use Rattle.mf_store_schema.specs.InstalmentsTexts.{kept, fits, ordered, lists_by_2};
 ghost use Rattle.mf_store_schema.specs.Keys.{two_numbers, three_numbers};
+ghost use Rattle.mf_store_schema.specs.Once.{instalment_once};
 ghost use Rattle.mf_store_schema.specs.Rows.{by_instalment, instalment_row, put_instalment, is_row_of_instalment};
 ghost use Rattle.mf_store_schema.specs.Rows.{is_instalment_of};
 ghost use Rattle.mf_store_schema.specs.Schemas.{IsPresent};
@@ -115,6 +116,7 @@ pub struct InstalmentRow {
     pub principal: PortionSums,
 }
 
+#[tactic(auto, using(crate::proofs::RowLemmas::row_is, crate::proofs::CallLemmas::ran_with))]
 impl Table for InstalmentRow {
     ghost use Rattle.std.proofs.Common.{ap, refl};
 
@@ -208,6 +210,8 @@ impl Table for InstalmentRow {
     ghost fits = { fits };
 
     ghost ordered = { ordered };
+
+    ghost once = { instalment_once };
 
     ghost keyed = { refl };
 

@@ -8,6 +8,7 @@ ghost use Rattle.std.specs.Ordering.{is_eq};
 ghost use Rattle.mf_store_schema.specs.Tables.{loans};
 ghost use Rattle.mf_store_schema.specs.LoansTexts.{kept, fits, ordered, lists_by_1, first_shows};
 ghost use Rattle.mf_store_schema.specs.Keys.{one_number, two_numbers};
+ghost use Rattle.mf_store_schema.specs.Once.{loan_once};
 ghost use Rattle.mf_store_schema.specs.Rows.{by_loan, Lists, loan_row, put_loan, is_row_of_loan};
 ghost use Rattle.mf_store_schema.specs.Rows.{is_loan_of, is_loan_above};
 ghost use Rattle.mf_store_schema.specs.Calls.{IsAsBefore, IsKeeping};
@@ -73,6 +74,7 @@ pub struct LoanRow {
     pub disbursed: Option<Text>,
 }
 
+#[tactic(auto, using(crate::proofs::RowLemmas::row_is, crate::proofs::CallLemmas::ran_with))]
 impl Table for LoanRow {
     ghost use Rattle.std.proofs.Common.{ap, refl};
 
@@ -150,6 +152,8 @@ impl Table for LoanRow {
     ghost fits = { fits };
 
     ghost ordered = { ordered };
+
+    ghost once = { loan_once };
 
     ghost keyed = { refl };
 

@@ -4,6 +4,7 @@ ghost use Rattle.std.specs.Ordering.{is_eq};
 ghost use Rattle.mf_store_schema.specs.Tables.{meta};
 ghost use Rattle.mf_store_schema.specs.MetaTexts.{kept, fits, ordered, first_shows};
 ghost use Rattle.mf_store_schema.specs.Keys.{one_number};
+ghost use Rattle.mf_store_schema.specs.Once.{meta_once};
 ghost use Rattle.mf_store_schema.specs.Rows.{by_meta, meta_row, put_meta, is_row_of_meta};
 ghost use Rattle.mf_store_schema.specs.Schemas.{IsKnown};
 ghost use Rattle.mf_store_schema.specs.Whole.{asked_known};
@@ -55,6 +56,7 @@ pub struct MetaRow {
     pub day: Text,
 }
 
+#[tactic(auto, using(crate::proofs::RowLemmas::row_is, crate::proofs::CallLemmas::ran_with))]
 impl Table for MetaRow {
     ghost use Rattle.std.proofs.Common.{ap, refl};
 
@@ -110,6 +112,8 @@ impl Table for MetaRow {
     ghost fits = { fits };
 
     ghost ordered = { ordered };
+
+    ghost once = { meta_once };
 
     ghost keyed = { refl };
 

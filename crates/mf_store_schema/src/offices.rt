@@ -8,6 +8,7 @@ ghost use Rattle.std.specs.Ordering.{is_eq};
 ghost use Rattle.mf_store_schema.specs.Tables.{offices};
 ghost use Rattle.mf_store_schema.specs.OfficesTexts.{kept, fits, ordered, first_shows};
 ghost use Rattle.mf_store_schema.specs.Keys.{one_number};
+ghost use Rattle.mf_store_schema.specs.Once.{office_once};
 ghost use Rattle.mf_store_schema.specs.Rows.{by_office, Lists, office_row, put_office};
 ghost use Rattle.mf_store_schema.specs.Rows.{is_row_of_office, is_between_keys};
 ghost use Rattle.mf_store_schema.specs.Calls.{IsAsBefore, IsKeeping};
@@ -67,6 +68,7 @@ pub struct OfficeRow {
     pub name: Text,
 }
 
+#[tactic(auto, using(crate::proofs::RowLemmas::row_is, crate::proofs::CallLemmas::ran_with))]
 impl Table for OfficeRow {
     ghost use Rattle.std.proofs.Common.{ap, refl};
 
@@ -127,6 +129,8 @@ impl Table for OfficeRow {
     ghost fits = { fits };
 
     ghost ordered = { ordered };
+
+    ghost once = { office_once };
 
     ghost keyed = { refl };
 

@@ -4,6 +4,7 @@ ghost use Rattle.std.specs.Ordering.{is_eq};
 ghost use Rattle.mf_store_schema.specs.Tables.{products};
 ghost use Rattle.mf_store_schema.specs.ProductsTexts.{kept, fits, ordered, first_shows};
 ghost use Rattle.mf_store_schema.specs.Keys.{one_number};
+ghost use Rattle.mf_store_schema.specs.Once.{product_once};
 ghost use Rattle.mf_store_schema.specs.Rows.{by_product, product_row, put_product, is_row_of_product};
 ghost use Rattle.mf_store_schema.specs.Schemas.{IsKnown};
 ghost use Rattle.mf_store_schema.specs.Whole.{asked_known};
@@ -182,6 +183,8 @@ impl Table for ProductRow {
     ghost fits = { fits };
 
     ghost ordered = { ordered };
+
+    ghost once = { product_once };
 
     ghost keyed = { refl };
 

@@ -8,6 +8,7 @@ ghost use Rattle.std.specs.Ordering.{is_eq};
 ghost use Rattle.mf_store_schema.specs.Tables.{receipts};
 ghost use Rattle.mf_store_schema.specs.ReceiptsTexts.{kept, fits, ordered, first_shows};
 ghost use Rattle.mf_store_schema.specs.Keys.{number_and_text};
+ghost use Rattle.mf_store_schema.specs.Once.{receipt_once};
 ghost use Rattle.mf_store_schema.specs.Rows.{by_receipt, Lists, receipt_row, put_receipt};
 ghost use Rattle.mf_store_schema.specs.Rows.{is_row_of_receipt};
 ghost use Rattle.mf_store_schema.specs.Calls.{IsAsBefore, IsKeeping};
@@ -59,6 +60,7 @@ pub struct ReceiptRow {
     pub seq: u32,
 }
 
+#[tactic(auto, using(crate::proofs::RowLemmas::row_is, crate::proofs::CallLemmas::ran_with))]
 impl Table for ReceiptRow {
     ghost use Rattle.std.proofs.Common.{ap, refl};
 
@@ -119,6 +121,8 @@ impl Table for ReceiptRow {
     ghost fits = { fits };
 
     ghost ordered = { ordered };
+
+    ghost once = { receipt_once };
 
     ghost keyed = { refl };
 

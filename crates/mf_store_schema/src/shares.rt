@@ -7,6 +7,7 @@ ghost use Rattle.std.specs.Ordering.{is_eq};
 ghost use Rattle.mf_store_schema.specs.Tables.{shares};
 ghost use Rattle.mf_store_schema.specs.SharesTexts.{kept, fits, ordered, lists_by_2};
 ghost use Rattle.mf_store_schema.specs.Keys.{two_numbers, four_numbers};
+ghost use Rattle.mf_store_schema.specs.Once.{share_once};
 ghost use Rattle.mf_store_schema.specs.Rows.{by_share, share_row, put_share, is_row_of_share, is_share_of, drop_shares};
 ghost use Rattle.mf_store_schema.specs.Writes.{Putting};
 ghost use Rattle.mf_store_schema.specs.Schemas.{IsPresent};
@@ -68,6 +69,7 @@ pub struct ShareRow {
     pub amount: i64,
 }
 
+#[tactic(auto, using(crate::proofs::RowLemmas::row_is, crate::proofs::CallLemmas::ran_with))]
 impl Table for ShareRow {
     ghost use Rattle.std.proofs.Common.{ap, refl};
 
@@ -144,6 +146,8 @@ impl Table for ShareRow {
     ghost fits = { fits };
 
     ghost ordered = { ordered };
+
+    ghost once = { share_once };
 
     ghost keyed = { refl };
 

@@ -4,6 +4,7 @@ ghost use Rattle.std.specs.Ordering.{is_eq};
 ghost use Rattle.mf_store_schema.specs.Tables.{staff};
 ghost use Rattle.mf_store_schema.specs.StaffTexts.{kept, fits, ordered, lists_by_1, first_shows};
 ghost use Rattle.mf_store_schema.specs.Keys.{one_number, two_numbers};
+ghost use Rattle.mf_store_schema.specs.Once.{staff_once};
 ghost use Rattle.mf_store_schema.specs.Rows.{by_staff, staff_row, put_staff, is_row_of_staff};
 ghost use Rattle.mf_store_schema.specs.Rows.{is_staff_of};
 ghost use Rattle.mf_store_schema.specs.Schemas.{IsKnown};
@@ -52,6 +53,7 @@ pub struct StaffRow {
     pub role: u32,
 }
 
+#[tactic(auto, using(crate::proofs::RowLemmas::row_is, crate::proofs::CallLemmas::ran_with))]
 impl Table for StaffRow {
     ghost use Rattle.std.proofs.Common.{ap, refl};
 
@@ -112,6 +114,8 @@ impl Table for StaffRow {
     ghost fits = { fits };
 
     ghost ordered = { ordered };
+
+    ghost once = { staff_once };
 
     ghost keyed = { refl };
 

@@ -190,7 +190,6 @@ pub trait Table: Sized {
     // Each reads its texts last, so that none is to be dropped where a number is refused.
     fn read(row: &Row) -> Result<Self, Error>
         ensures row { IfOk result (λ x. stored x ≡ row.now) }
-        ensures only { IfOk result (λ x. (r : Self) → row.now ≡ stored r → x ≡ r) }
         ensures none { IfErr result (λ e. e ≢ Error.SqliteFailure OutOfMemory → ¬ HasFields columns.columns row.now) };
 
     /// Runs a text with the row's values for its parameters.
@@ -223,6 +222,8 @@ pub trait Table: Sized {
     ghost fits: { (x : Self) → AreKeepable columns.columns (stored x) };
 
     ghost ordered: { (a b : Self) → by a b ≡ first_cmp columns.key (stored a) (stored b) };
+
+    ghost once: { (x y : Self) → stored x ≡ stored y → x ≡ y };
 
     ghost keyed: { Self.Key.width ≡ columns.key };
 
