@@ -10,15 +10,15 @@ use Rattle.mf_base.specs.DayText.{day_text}
 use Rattle.mf_store_sound.specs.Schemas.{first_tables_of, without_accounts}
 use Rattle.mf_store_sound.specs.Sound.{AreOfSound, AreOfSoundFirst}
 use Rattle.mf_store_schema.specs.Upgrade.{HoldsFirst}
-use Rattle.mf_store_files.specs.Held.{CanBeHeld, DoRise, HoldsSound, HoldsSoundFirst}
-use Rattle.mf_store_files.proofs.HeldAccountLemmas.{held_instalments, held_shares}
-use Rattle.mf_store_files.proofs.TableLemmas.{◌also◌}
-use Rattle.mf_store_files.proofs.HeldLemmas.{is_number, is_text, entered_utf8, held_meta, held_offices, held_staff}
-use Rattle.mf_store_files.proofs.HeldLemmas.{held_clients, held_charges, held_products, held_loans, held_entries}
-use Rattle.mf_store_files.proofs.HeldLemmas.{held_receipts}
-use Rattle.mf_store_files.proofs.RiseLemmas.{meta_rises, offices_rise, staff_rise, clients_rise, charges_rise}
-use Rattle.mf_store_files.proofs.RiseLemmas.{products_rise, loans_rise, entries_rise, receipts_rise, instalments_rise}
-use Rattle.mf_store_files.proofs.RiseLemmas.{shares_rise}
+use Rattle.mf_store_sound.specs.Held.{CanBeHeld, DoRise, HoldsSound, HoldsSoundFirst}
+use Rattle.mf_store_sound.proofs.HeldAccountLemmas.{held_instalments, held_shares}
+use Rattle.mf_store_sound.proofs.NestedLemmas.{◌also◌}
+use Rattle.mf_store_sound.proofs.HeldLemmas.{is_number, is_text, entered_utf8, held_meta, held_offices, held_staff}
+use Rattle.mf_store_sound.proofs.HeldLemmas.{held_clients, held_charges, held_products, held_loans, held_entries}
+use Rattle.mf_store_sound.proofs.HeldLemmas.{held_receipts}
+use Rattle.mf_store_sound.proofs.RiseLemmas.{meta_rises, offices_rise, staff_rise, clients_rise, charges_rise}
+use Rattle.mf_store_sound.proofs.RiseLemmas.{products_rise, loans_rise, entries_rise, receipts_rise, instalments_rise}
+use Rattle.mf_store_sound.proofs.RiseLemmas.{shares_rise}
 
 pub can_be_held : (i : Institution) → IsSound i → CanBeHeld (tables_of i)
 can_be_held i sound = record {

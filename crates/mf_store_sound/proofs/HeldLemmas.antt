@@ -50,8 +50,7 @@ use Rattle.mf_account.specs.declared.entry.Kind.TheVariants as kind
 use Rattle.mf_alloc.specs.declared.row.Portion.{Portion}
 use Rattle.mf_alloc.specs.declared.row.Portion.TheVariants as portion
 use Rattle.mf_model.specs.Institution.{Institution, Catalogue, ListedCharge, Ledger, ListedProduct, Office, Rows, Staff}
-use Rattle.mf_model.specs.Institution.{office_at}
-use Rattle.mf_model.specs.Institution.{item_numbered, charge_def, charge_in, product_of, product_in}
+use Rattle.mf_model.specs.Institution.{office_at, item_numbered, charge_def, charge_in, product_of, product_in}
 use Rattle.mf_account.specs.Receipts.{IsReceipt}
 use Rattle.mf_account.proofs.ReceiptLemmas.{receipt_is_text}
 use Rattle.mf_model.specs.Receipts.{Use, uses_from, uses_in, use_by, use_of}
@@ -66,10 +65,8 @@ use Rattle.mf_store_sql.specs.Values.{or_null, or_text}
 use Rattle.mf_store_schema.specs.Tables as table
 use Rattle.mf_store_sql.specs.Columns.{Number, Amount, Text, MaybeNumber, MaybeText}
 use Rattle.mf_store_schema.specs.Fields.{CanHold, HasFields}
-use Rattle.mf_store_schema.specs.Rows.{by_receipt, meta_row, office_row}
-use Rattle.mf_store_schema.specs.Rows.{staff_row, client_row, charge_row}
-use Rattle.mf_store_schema.specs.Rows.{product_row, loan_row, entry_row}
-use Rattle.mf_store_schema.specs.Rows.{receipt_row}
+use Rattle.mf_store_schema.specs.Rows.{by_receipt, meta_row, office_row, staff_row, client_row, charge_row}
+use Rattle.mf_store_schema.specs.Rows.{product_row, loan_row, entry_row, receipt_row}
 use Rattle.mf_store_schema.specs.declared.offices.OfficeRow.{OfficeRow}
 use Rattle.mf_store_schema.specs.declared.staff.StaffRow.{StaffRow}
 use Rattle.mf_store_schema.specs.declared.clients.ClientRow.{ClientRow}
@@ -83,8 +80,8 @@ use Rattle.mf_store_values.specs.Flat.{staff_in, charge_as, product_as, loan_in,
 use Rattle.mf_store_values.specs.Flat.{portion_number, flag_number, approval_text, disbursal_text, loans_of}
 use Rattle.mf_store_values.specs.Flat.{rows_of_loans, rows_by_loan, own_entries}
 use Rattle.mf_store_values.specs.ReceiptRows.{receipt_in, receipts_carried}
-use Rattle.mf_store_files.specs.Held.{CanHoldRows}
-use Rattle.mf_store_files.proofs.TableLemmas.{◌also◌}
+use Rattle.mf_store_sound.specs.Held.{CanHoldRows}
+use Rattle.mf_store_sound.proofs.NestedLemmas.{◌also◌}
 use Rattle.mf_model.proofs.StaffLemmas.{staff_are_callers}
 use Rattle.mf_store_values.proofs.FlatLemmas.{numbered-suc}
 use Rattle.mf_store_values.proofs.SoundLemmas.{has_number}

@@ -3,8 +3,8 @@ use Rattle.sqlite.specs.Held.{state}
 use Rattle.sqlite_catalog.specs.Listing.{IsSound}
 use Rattle.mf_store_schema.specs.Schemas.{IsFirst}
 use Rattle.mf_store_schema.proofs.ReadLemmas.{at_none, at_some}
-use Rattle.mf_store_files.proofs.TableLemmas.{◌also◌, nested_first, same_lists, under_first, unchanged_fewer}
-use Rattle.mf_store_files.proofs.judged.read_first_tables.Goals as goal
+use Rattle.mf_store_sound.proofs.NestedLemmas.{◌also◌, nested_first, same_lists, under_first, unchanged_fewer}
+use Rattle.mf_store_sound.proofs.judged.read_first_tables.Goals as goal
 
 pub returns-in_err-found-clause-kept : goal.returns-in_err-found-clause-kept
 returns-in_err-found-clause-kept g c = unchanged_fewer _ IsFirst (state g.S.Store c.args.connection.now)

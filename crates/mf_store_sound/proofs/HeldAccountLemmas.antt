@@ -1,8 +1,7 @@
 -- The rows that the accounts of a sound institution leave, its instalments and its shares, are ones that records can
 -- hold.
 use Rattle.std.proofs.Common.{◌≡◌, ◌≤◌, ◌<◌, ◌+◌, ◌*◌, ◌^◌, ◌==◌, pos, ℕ, zero, suc, Bool, true, false, cond}
-use Rattle.std.proofs.Common.{List, [], ◌∷◌, map, filter, length, Option, Some, None, refl, sym, ap, ◌∙◌, subst}
-use Rattle.std.proofs.Common.{arith}
+use Rattle.std.proofs.Common.{List, [], ◌∷◌, map, filter, length, Option, Some, None, refl, sym, ap, ◌∙◌, subst, arith}
 use Rattle.std.specs.List.{AllByRecursion, range_with_len}
 use Rattle.std.proofs.lemmas.List.{length-map, length-append, map-append}
 use Rattle.std.proofs.lemmas.List.FromFn.{length-map-range_with_len}
@@ -26,8 +25,7 @@ use Rattle.mf_account.specs.Account.{Orders, first_state, row_of, parts_numbered
 use Rattle.mf_account.specs.Applicable.{HasInstalment}
 use Rattle.mf_account.specs.Change.{settled_in}
 use Rattle.mf_account.specs.Effect.{Part, State, after_entry, is_some_part, whole_part, parts_by, parts_cleared}
-use Rattle.mf_account.specs.Effect.{parts_of}
-use Rattle.mf_account.specs.Effect.{parts_paid, paid_at, own_share, later_share}
+use Rattle.mf_account.specs.Effect.{parts_of, parts_paid, paid_at, own_share, later_share}
 use Rattle.mf_account.specs.Loan.{DisbursedLoan, IsSoundDisbursed, schedule_of, orders_of, state_of_loan}
 use Rattle.mf_account.specs.Loan.{settled_of_loan}
 use Rattle.mf_account.specs.Standing.{standing_entries}
@@ -52,9 +50,9 @@ use Rattle.mf_store_schema.specs.declared.instalments.InstalmentRow.{InstalmentR
 use Rattle.mf_store_schema.specs.declared.shares.ShareRow.{ShareRow}
 use Rattle.mf_store_values.specs.Flat.{numbered_from, tables_of, instalment_in, share_in, how_number, portion_number}
 use Rattle.mf_store_values.specs.Flat.{instalments_kept, shares_kept, placed_parts, parts_from, kept_of}
-use Rattle.mf_store_files.specs.Held.{CanHoldRows}
-use Rattle.mf_store_files.proofs.TableLemmas.{◌also◌}
-use Rattle.mf_store_files.proofs.HeldLemmas.{is_number, is_amount, is_text, day_utf8, portion_low, by_loan_held}
+use Rattle.mf_store_sound.specs.Held.{CanHoldRows}
+use Rattle.mf_store_sound.proofs.NestedLemmas.{◌also◌}
+use Rattle.mf_store_sound.proofs.HeldLemmas.{is_number, is_amount, is_text, day_utf8, portion_low, by_loan_held}
 
 -- ---- instalments
 

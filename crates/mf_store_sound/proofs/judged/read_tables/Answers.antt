@@ -2,8 +2,8 @@ use Rattle.std.proofs.Common.{ap, subst, rules}
 use Rattle.sqlite.specs.Held.{state}
 use Rattle.sqlite_catalog.specs.Listing.{IsSound}
 use Rattle.mf_store_schema.proofs.ReadLemmas.{at_none, at_some}
-use Rattle.mf_store_files.proofs.TableLemmas.{◌also◌, nested, lists_of, under_present, unchanged_present}
-use Rattle.mf_store_files.proofs.judged.read_tables.Goals as goal
+use Rattle.mf_store_sound.proofs.NestedLemmas.{◌also◌, nested, lists_of, under_present, unchanged_present}
+use Rattle.mf_store_sound.proofs.judged.read_tables.Goals as goal
 
 pub returns-in_err-found-clause-kept : goal.returns-in_err-found-clause-kept
 returns-in_err-found-clause-kept g c = unchanged_present _ (state g.S.Store c.args.connection.now)

@@ -29,7 +29,7 @@ use Rattle.mf_store_values.specs.Flat.{rows_by_loan, own_entries}
 use Rattle.mf_store_values.specs.ReceiptRows.{receipts_carried}
 use Rattle.mf_store_values.proofs.ReceiptLemmas.{receipts_apart}
 use Rattle.mf_store_values.proofs.SortedLemmas.{first_less, rises_sorted}
-use Rattle.mf_store_files.proofs.HeldLemmas.{AreNumberedFrom, numbers_by_place}
+use Rattle.mf_store_sound.proofs.HeldLemmas.{AreNumberedFrom, numbers_by_place}
 use Rattle.mf_store_values.proofs.LoanRowLemmas.{all_loans, all_offices}
 use Rattle.mf_store_sound.proofs.ReceiptLemmas.{no_ties_of}
 use Rattle.mf_store_sound.proofs.StaffLemmas.{rows_rise}
