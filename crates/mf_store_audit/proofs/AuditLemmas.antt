@@ -4,16 +4,15 @@ use Rattle.std.specs.Prelude.{cond}
 use Rattle.sqlite.specs.Effect.{Database}
 use Rattle.mf_model.specs.Institution.{Institution}
 use Rattle.mf_store_schema.specs.Rows.{Lists}
-use Rattle.mf_store_schema.specs.Tables.{schema}
+use Rattle.mf_store_schema.specs.Tables.{schema, first_schema}
 use Rattle.mf_store_schema.specs.Writes.{Holds}
-use Rattle.mf_store_schema.specs.Tables.{first_schema}
 use Rattle.mf_store_values.specs.Flat.{tables_of}
 use Rattle.mf_store_sound.specs.Schemas.{first_tables_of, tables_under, without_accounts}
 use Rattle.mf_store_schema.specs.Upgrade.{HoldsFirst}
 use Rattle.mf_store_audit.specs.Findings.{AllBreak, AreOfNone}
-use Rattle.mf_store_files.specs.Held.{CanBeHeld, DoRise}
-use Rattle.mf_store_files.proofs.JudgedLemmas.{can_be_held, first_can_be_held, holds_sound, holds_sound_first}
-use Rattle.mf_store_files.proofs.TakenLemmas.{not_first}
+use Rattle.mf_store_sound.specs.Held.{CanBeHeld, DoRise}
+use Rattle.mf_store_sound.proofs.JudgedLemmas.{can_be_held, first_can_be_held, holds_sound, holds_sound_first}
+use Rattle.mf_store_sound.proofs.SchemaLemmas.{not_first}
 use Rattle.mf_store_audit.specs.Audits.{IsAuditOfRows, IsAuditOf, HoldsNone}
 use Rattle.mf_store_audit.specs.declared.audits.Audit.{Audit}
 use Rattle.mf_store_audit.specs.declared.audits.Audit.TheVariants.{NoTables, OtherTables, Sound, Unsound, Unreadable}

@@ -8,11 +8,10 @@ use Rattle.sqlite.specs.Tree.{Trees}
 use Rattle.sqlite_catalog.specs.Listing.{IsSound}
 use Rattle.sqlite_wal.specs.Recovery.{Image}
 use Rattle.mf_store_sql.specs.Tables.{no_schema}
-use Rattle.mf_store_schema.specs.Tables.{schema}
+use Rattle.mf_store_schema.specs.Tables.{schema, first_schema}
 use Rattle.mf_store_schema.specs.Schemas.{IsKnown}
-use Rattle.mf_store_schema.specs.Tables.{first_schema}
-use Rattle.mf_store_files.specs.Opened.{ShowsFile}
-use Rattle.mf_store_files.proofs.OpenedLemmas.{under, seen}
+use Rattle.mf_store_sound.specs.Files.{ShowsFile}
+use Rattle.mf_store_sound.proofs.FileLemmas.{under, seen}
 use Rattle.mf_store_audit.specs.Audits.{IsAuditOf, IsAuditOfFile}
 use Rattle.mf_store_audit.specs.declared.audits.Audit.{Audit}
 use Rattle.mf_store_audit.specs.declared.audits.Audit.TheVariants.{NoTables, OtherTables, Sound, Unsound, Unreadable}

@@ -5,7 +5,7 @@ use Rattle.sqlite.specs.State.{State}
 use Rattle.mf_store_schema.specs.Calls.{IsAsBefore}
 use Rattle.mf_store_schema.specs.Schemas.{IsFirst, IsKnown, IsPresent, IsUnchangedUnder}
 use Rattle.mf_store_schema.proofs.ReadLemmas.{unchanged_then}
-use Rattle.mf_store_files.proofs.TableLemmas.{unchanged_fewer}
+use Rattle.mf_store_sound.proofs.NestedLemmas.{unchanged_fewer}
 
 pub as_present : (old new : State) → IsAsBefore old new → IsUnchangedUnder IsPresent old new
 as_present old new u = record {

@@ -10,10 +10,9 @@ use Rattle.mf_model.specs.Institution.{Institution}
 use Rattle.mf_model.specs.Sound.{IsSound}
 use Rattle.mf_store_sql.specs.Tables.{no_schema}
 use Rattle.mf_store_schema.specs.Rows.{Lists}
-use Rattle.mf_store_schema.specs.Tables.{schema}
+use Rattle.mf_store_schema.specs.Tables.{schema, first_schema}
 use Rattle.mf_store_schema.specs.Writes.{Holds}
 use Rattle.mf_store_schema.specs.Schemas.{IsKnown}
-use Rattle.mf_store_schema.specs.Tables.{first_schema}
 use Rattle.mf_store_values.specs.Flat.{tables_of}
 use Rattle.mf_store_sound.specs.Schemas.{first_tables_of, without_accounts}
 use Rattle.mf_store_schema.specs.Upgrade.{HoldsFirst}

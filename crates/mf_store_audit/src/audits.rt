@@ -4,11 +4,10 @@ ghost use Rattle.std.specs.Prelude.{◌≡◌, ◌↔◌, IsTrue, [], false, IfO
 ghost use Rattle.mf_base.specs.declared.fault.Fault.TheVariants.{F20};
 ghost use Rattle.sqlite.specs.Held.{state};
 ghost use Rattle.sqlite.specs.State.{HasCleanDisk};
-ghost use Rattle.mf_store_schema.specs.Tables.{schema};
+ghost use Rattle.mf_store_schema.specs.Tables.{schema, first_schema};
 ghost use Rattle.mf_store_schema.specs.Schemas.{IsFirst, IsPresent, IsUnchangedUnder};
-ghost use Rattle.mf_store_schema.specs.Tables.{first_schema};
 ghost use Rattle.mf_store_schema.specs.Whole.{HaveRowids, HaveFirstRowids};
-ghost use Rattle.mf_store_files.specs.Told.{IsAny, HaveOwnRowids};
+ghost use Rattle.mf_store_sound.specs.Told.{IsAny, HaveOwnRowids};
 ghost use Rattle.mf_store_audit.specs.Audits.{IsAuditOfRows, IsAuditOf};
 
 use crate::find::findings;
@@ -18,9 +17,8 @@ use crate::sums_by_office::office_sums;
 use crate::totals::OfficeSums;
 use crate::unread::Unread;
 use mf_base::Fault;
-use mf_store_files::{has_no_tables, is_first, is_present, read_first_tables, read_tables};
-use mf_store_schema::{FIRST_SCHEMA, Progress, SCHEMA};
-use mf_store_sound::Tables;
+use mf_store_schema::{FIRST_SCHEMA, Progress, SCHEMA, has_no_tables, is_first, is_present};
+use mf_store_sound::{Tables, read_first_tables, read_tables};
 use sqlite::{Alter, Connection};
 use std::alloc::Global;
 

@@ -8,8 +8,7 @@ ghost use Rattle.mf_base.specs.DayText.{day_text, last_entered_day};
 ghost use Rattle.mf_office.specs.Texts.{caller_of};
 ghost use Rattle.mf_store_values.specs.Flat.{entry_in};
 ghost use Rattle.mf_store_values.specs.Ledgers.{IsReadable};
-ghost use Rattle.mf_store_audit.specs.Entries.{is_decided, is_own_loan, is_staff_named, BreaksEntryIn};
-ghost use Rattle.mf_store_audit.specs.Entries.{HasWrongColumns};
+ghost use Rattle.mf_store_audit.specs.Entries.{is_decided, is_own_loan, is_staff_named, BreaksEntryIn, HasWrongColumns};
 
 use crate::charges::is_none;
 use crate::finding::EntryFlaw;

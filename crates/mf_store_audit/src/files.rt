@@ -8,8 +8,8 @@ ghost use Rattle.sqlite_wal.specs.Files.{image_at};
 ghost use Rattle.mf_store_audit.specs.Audits.{IsAuditOfFile};
 
 use crate::audits::{Audit, audit_tables};
-use mf_store_files::{Finding as FileFinding, reach};
 use mf_store_schema::{Progress, remove_bare_log};
+use mf_store_sound::{Finding as FileFinding, reach};
 use sqlite::{Connection, FileFrom, FileStore, Start, Unknown};
 use std::rt::HostRuntime;
 

@@ -4,8 +4,7 @@ ghost use Rattle.std.specs.Prelude.{◌≡◌, IfSome, []};
 ghost use Rattle.std.specs.Option.{SomeIff};
 ghost use Rattle.std.specs.List.{AllByRecursion};
 ghost use Rattle.mf_store_audit.specs.Sums.{loans_added, entries_added, principal_added, money_added, added};
-ghost use Rattle.mf_store_audit.specs.Sums.{FitLoans, FitEntries, FitPrincipal, FitMoney, Fit};
-ghost use Rattle.mf_store_audit.specs.Sums.{sums_of_all, IsBalanced};
+ghost use Rattle.mf_store_audit.specs.Sums.{FitLoans, FitEntries, FitPrincipal, FitMoney, Fit, sums_of_all, IsBalanced};
 
 /// How many loans have each status.
 #[derive(Clone, Copy)]

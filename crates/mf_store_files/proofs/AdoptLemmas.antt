@@ -20,7 +20,7 @@ use Rattle.mf_store.specs.Facts.{KnownStore}
 use Rattle.mf_store_commits.specs.Tabled.{HasGoodDisk, IsTabled}
 use Rattle.mf_store.specs.Stands.{StandsFor, IsClean, IsOpen, Leaves}
 use Rattle.mf_store_files.specs.First.{IsTabledFirst, IsLeftFirst}
-use Rattle.mf_store_files.specs.Held.{HoldsSoundFirst}
+use Rattle.mf_store_sound.specs.Held.{HoldsSoundFirst}
 
 -- ---- tables of the first schema
 

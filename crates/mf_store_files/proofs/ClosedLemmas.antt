@@ -18,7 +18,7 @@ use Rattle.mf_store_schema.specs.Writes.{Holds}
 use Rattle.mf_store_values.specs.Flat.{tables_of}
 use Rattle.mf_store_commits.specs.Tabled.{HasGoodDisk, IsTabled, LeavesTables, HoldsOneOf}
 use Rattle.mf_store_files.specs.Closed.{HoldsInstitution, HoldsByItself}
-use Rattle.mf_store_files.specs.Held.{HoldsSound}
+use Rattle.mf_store_sound.specs.Held.{HoldsSound}
 
 module _ (trees : Trees) (held : HoldsSound trees) where
   holds_it : (image : Image) → ∥ HoldsDatabase image trees ∥₁ → HoldsInstitution image held.institution

@@ -1,15 +1,6 @@
-pub mod HeldLemmas
-pub mod HeldAccountLemmas
-pub mod RiseLemmas
-pub mod TableLemmas
-pub mod JudgedLemmas
-pub mod SchemaLemmas
-pub mod BlankLemmas
-pub mod FileLemmas
 pub mod AdoptLemmas
 pub mod OpenedLemmas
 pub mod UpgradedLemmas
 pub mod StopLemmas
 pub mod ClosedLemmas
 pub mod TakenLemmas
-pub mod ToldLemmas

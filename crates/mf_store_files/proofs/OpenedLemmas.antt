@@ -7,7 +7,7 @@ use Rattle.sqlite.specs.Effect.{Database}
 use Rattle.sqlite.specs.Files.{over_files, file_state, HoldsDatabase}
 use Rattle.sqlite.specs.Held.{Held, state}
 use Rattle.sqlite.specs.Schema.{Schema}
-use Rattle.sqlite.specs.State.{State, HasCleanDisk}
+use Rattle.sqlite.specs.State.{HasCleanDisk}
 use Rattle.sqlite.specs.Tree.{Trees}
 use Rattle.sqlite_catalog.specs.Listing.{IsSound}
 use Rattle.sqlite_disk.specs.declared.Disk.{Ghosts}
@@ -15,10 +15,9 @@ use Rattle.sqlite_store.specs.declared.store.FileStore.{FileStore}
 use Rattle.sqlite_trees.specs.declared.store.Store.{Ghosts as StoreGhosts}
 use Rattle.sqlite_wal.specs.Recovery.{Image}
 use Rattle.mf_store_sql.specs.Tables.{no_schema}
-use Rattle.mf_store_schema.specs.Tables.{schema}
+use Rattle.mf_store_schema.specs.Tables.{schema, first_schema}
 use Rattle.mf_store_schema.specs.Writes.{Holds}
 use Rattle.mf_store_schema.specs.Schemas.{IsKnown}
-use Rattle.mf_store_schema.specs.Tables.{first_schema}
 use Rattle.mf_store_values.specs.Flat.{tables_of}
 use Rattle.mf_store_sound.specs.Schemas.{first_tables_of}
 use Rattle.mf_store_schema.specs.Upgrade.{HoldsFirst}
@@ -27,12 +26,12 @@ use Rattle.mf_store.specs.Facts.{KnownStore}
 use Rattle.mf_store.specs.Stands.{IsClean}
 use Rattle.mf_store_files.specs.declared.adopted.Refused.{Refused}
 use Rattle.mf_store_files.specs.declared.adopted.Refused.TheVariants.{NoInstitution, Failed}
-use Rattle.mf_store_files.specs.Files.{HasNoTables}
+use Rattle.mf_store_sound.specs.Files.{HasNoTables, ShowsFile}
 use Rattle.mf_store_files.specs.First.{IsTabledFirst}
-use Rattle.mf_store_files.specs.Held.{HoldsSound, HoldsSoundFirst}
-use Rattle.mf_store_files.specs.Opened.{ShowsFile, HoldsNoneSound, OpensAsFound, StaysAsFound}
+use Rattle.mf_store_sound.specs.Held.{HoldsSound, HoldsSoundFirst}
+use Rattle.mf_store_files.specs.Opened.{HoldsNoneSound, OpensAsFound, StaysAsFound}
 use Rattle.mf_store_files.specs.Taken.{IsTaken, IsGivenBack}
-use Rattle.mf_store_files.proofs.SchemaLemmas.{one_schema}
+use Rattle.mf_store_sound.proofs.FileLemmas.{under, is_one, left_as_held}
 
 module _ {S : Type 0} (g : StoreGhosts S) (h : Held S) (trees : Trees) where
   module _ (own : Schema) (is : (state g h).now ≡ record { schema = own; trees = trees }) where
@@ -64,35 +63,6 @@ module _ {S : Type 0} (g : StoreGhosts S) (h : Held S) (trees : Trees) where
   }
 
 -- ---- the file shows what it held
-
-module _ (image : Image) (s : State) (shows : ShowsFile image s) where
-  -- the schema is the one that the trees list, which has no views
-  pub under : (own : Schema) → own.views ≡ [] → (trees : Trees) → HoldsDatabase image trees → IsSound own trees
-      → s.now ≡ record { schema = own; trees = trees }
-  under own bare trees held sound =
-      let are = shows.holds trees held in
-      let same = one_schema s.now.trees s.now.schema own bare shows.sound (subst (IsSound own) (sym are) sound) in
-      λ t. record { schema = same t; trees = are t }
-
-  -- where the schema has no views, the trees list no other
-  pub seen : (trees : Trees) (k : Schema) → HoldsDatabase image trees → IsSound k trees → s.now.schema.views ≡ []
-      → k ≡ s.now.schema
-  seen trees k held sound bare =
-      one_schema trees k s.now.schema bare sound (subst (IsSound s.now.schema) (shows.holds trees held) shows.sound)
-
-  own_views : (s.now.schema ≡ no_schema) ⊎ IsKnown s.now.schema → s.now.schema.views ≡ []
-  own_views (inl none) = ap (λ (k : Schema). k.views) none
-  own_views (inr (inl present)) = ap (λ (k : Schema). k.views) present
-  own_views (inr (inr first)) = ap (λ (k : Schema). k.views) first
-
-  is_one : (s.now.schema ≡ no_schema) ⊎ IsKnown s.now.schema → (trees : Trees) (k : Schema) → HoldsDatabase image trees
-      → IsSound k trees → (k ≡ no_schema) ⊎ IsKnown k
-  is_one known trees k held sound =
-      subst (λ (x : Schema). (x ≡ no_schema) ⊎ IsKnown x) (sym (seen trees k held sound (own_views known))) known
-
-  -- what was left as it is now is what the file held
-  pub left_as_held : (trees : Trees) → HoldsDatabase image trees → (left : Trees) → s.may_leave left → left ≡ trees
-  left_as_held trees held left may = shows.leaves left may ∙ shows.holds trees held
 
 module _ {D : Type 0} {g : Ghosts D} (image : Image) (h : Held (FileStore D g)) (shown : HasCleanDisk (file_state h)
     → ShowsFile image (file_state h)) where

@@ -19,7 +19,7 @@ use Rattle.mf_store_schema.specs.Tables.{schema}
 use Rattle.mf_store_schema.specs.Writes.{Holds}
 use Rattle.mf_store_values.specs.Flat.{tables_of}
 use Rattle.mf_store_commits.specs.Tabled.{HoldsOneOf}
-use Rattle.mf_store_files.specs.Held.{HoldsSound}
+use Rattle.mf_store_sound.specs.Held.{HoldsSound}
 use Rattle.mf_store_files.specs.Stops.{NoneChanges, IsLeftBy}
 
 unmoved : (run : List Line) (i : Institution) → NoneChanges run i → last run i ≡ i

@@ -1,40 +1,22 @@
 -- A store over tables of which one schema alone is the case.
-use Rattle.std.proofs.Common.{◌≡◌, ◌≢◌, ◌⊎◌, inl, inr, [], ◌∷◌, Result, Ok, Err, IfOk, IfErr, false, length, IsTrue}
-use Rattle.std.proofs.Common.{sym, ap, ◌∙◌, arith}
+use Rattle.std.proofs.Common.{◌≡◌, ◌≢◌, ◌⊎◌, inl, inr, [], ◌∷◌, Result, Ok, Err, IfOk, IfErr, false, IsTrue, sym, ◌∙◌}
 use Rattle.mf_base.specs.declared.fault.Fault.{Fault}
 use Rattle.mf_base.specs.declared.fault.Fault.TheVariants.{F19, F20}
 use Rattle.sqlite.specs.Held.{Held, state}
-use Rattle.sqlite.specs.Schema.{Schema}
 use Rattle.sqlite.specs.State.{HasCleanDisk}
 use Rattle.sqlite_trees.specs.declared.store.Store.{Ghosts}
 use Rattle.mf_model.specs.Institution.{Institution}
 use Rattle.mf_store_sql.specs.Tables.{no_schema}
 use Rattle.mf_store_schema.specs.Calls.{IsAsBefore}
-use Rattle.mf_store_schema.specs.Tables.{schema}
-use Rattle.mf_store_schema.specs.Schemas.{IsKnown}
-use Rattle.mf_store_schema.specs.Tables.{first_schema}
+use Rattle.mf_store_schema.specs.Tables.{schema, first_schema}
 use Rattle.mf_store_schema.specs.Whole.{HaveRowids, HaveFirstRowids}
 use Rattle.mf_store_commits.specs.Tabled.{IsTabled, IsUnfounded}
 use Rattle.mf_store.specs.Facts.{KnownStore}
 use Rattle.mf_store.specs.Stands.{StandsFor, IsClean, Leaves, IsOpen}
+use Rattle.mf_store_sound.proofs.SchemaLemmas.{not_first, not_present, none_first}
 use Rattle.mf_store_files.specs.First.{IsTabledFirst, IsLeftFirst}
-use Rattle.mf_store_files.specs.Held.{HoldsSound, HoldsSoundFirst}
+use Rattle.mf_store_sound.specs.Held.{HoldsSound, HoldsSoundFirst}
 use Rattle.mf_store_files.specs.Taken.{IsTaken, IsGivenBack}
-
--- ---- the three schemas differ
-
-pub not_first : schema ≡ first_schema → ⊥
-not_first is = let e : 11 ≡ 9 = ap (λ (k : Schema). length k.tables) is in omega (arith, e)
-
-pub not_present : no_schema ≡ schema → ⊥
-not_present is = let e : 0 ≡ 11 = ap (λ (k : Schema). length k.tables) is in omega (arith, e)
-
-pub none_first : no_schema ≡ first_schema → ⊥
-none_first is = let e : 0 ≡ 9 = ap (λ (k : Schema). length k.tables) is in omega (arith, e)
-
-pub known_some : (k : Schema) → IsKnown k → k ≢ no_schema
-known_some k (inl present) is = not_present (sym is ∙ present)
-known_some k (inr first) is = none_first (sym is ∙ first)
 
 module _ {S : Type 0} (g : Ghosts S) (h : Held S) where
   abbrev Made : Type 0

@@ -11,7 +11,7 @@ use Rattle.mf_store_schema.specs.declared.shares.ShareRow.{ShareRow}
 use Rattle.mf_store_schema.specs.Upgrade.{upgraded_lists, CanUpgrade}
 use Rattle.mf_store_values.specs.Flat.{tables_of, meta_on}
 use Rattle.mf_store_sound.specs.Schemas.{first_tables_of, meta_under}
-use Rattle.mf_store_files.proofs.RiseLemmas.{instalments_rise, shares_rise}
+use Rattle.mf_store_sound.proofs.RiseLemmas.{instalments_rise, shares_rise}
 
 head_is : (a b : MetaRow) (rest : List MetaRow) → a ∷ [] ≡ b ∷ rest → a ≡ b
 head_is a b rest e = cc

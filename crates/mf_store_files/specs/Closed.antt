@@ -11,7 +11,7 @@ use Rattle.sqlite_trees.specs.View.{IsClean}
 use Rattle.sqlite_wal.specs.Reads.{AreClean}
 use Rattle.sqlite_wal.specs.Recovery.{Image}
 use Rattle.mf_model.specs.Institution.{Institution}
-use Rattle.mf_store_files.specs.Held.{HoldsSound}
+use Rattle.mf_store_sound.specs.Held.{HoldsSound}
 
 -- the database file and its log hold a database with the rows of the institution and nothing else, and it is sound
 abbrev pub HoldsInstitution : Image → Institution → Type 0

@@ -12,7 +12,7 @@ use Rattle.mf_store_schema.specs.Writes.{Holds}
 use Rattle.mf_store_schema.specs.Whole.{HaveFirstRowids}
 use Rattle.mf_store_sound.specs.Schemas.{first_tables_of}
 use Rattle.mf_store_schema.specs.Upgraded.{IsKeepingFirst}
-use Rattle.mf_store_files.specs.Held.{HoldsSoundFirst}
+use Rattle.mf_store_sound.specs.Held.{HoldsSoundFirst}
 
 module _ {S : Type 0} (g : Ghosts S) where
   -- The tables are those of the first schema and hold the institution's rows and nothing else, and it is sound. Of a

@@ -1,38 +1,25 @@
 -- What becomes of a file that a store is opened over, by what the file held.
-use Rattle.std.specs.Prelude.{◌≡◌, ◌≢◌, ◌⊎◌, [], ◌∷◌, Some, None, IsTrue}
+use Rattle.std.specs.Prelude.{◌≡◌, ◌≢◌, ◌⊎◌, [], ◌∷◌, Some}
 use Rattle.mf_base.specs.declared.fault.Fault.{Fault}
 use Rattle.mf_base.specs.declared.fault.Fault.TheVariants.{F19}
 use Rattle.sqlite.specs.Files.{over_files, file_state, HoldsDatabase}
 use Rattle.sqlite.specs.Held.{Held}
 use Rattle.sqlite.specs.Schema.{Schema}
-use Rattle.sqlite.specs.State.{State, HasCleanDisk}
+use Rattle.sqlite.specs.State.{HasCleanDisk}
 use Rattle.sqlite.specs.Tree.{Trees}
 use Rattle.sqlite_catalog.specs.Listing.{IsSound}
 use Rattle.sqlite_disk.specs.declared.Disk.{Ghosts}
 use Rattle.sqlite_store.specs.declared.store.FileStore.{FileStore}
 use Rattle.sqlite_wal.specs.Recovery.{Image}
 use Rattle.mf_store_sql.specs.Tables.{no_schema}
-use Rattle.mf_store_sql.specs.Writes.{Serves}
-use Rattle.mf_store_schema.specs.Tables.{schema}
-use Rattle.mf_store_schema.specs.Writes.{schema_of, Holds}
+use Rattle.mf_store_schema.specs.Tables.{schema, first_schema}
+use Rattle.mf_store_schema.specs.Writes.{Holds}
 use Rattle.mf_store_schema.specs.Schemas.{IsKnown}
-use Rattle.mf_store_schema.specs.Tables.{first_schema}
-use Rattle.mf_store_schema.specs.Whole.{HaveRowids, HaveFirstRowids}
 use Rattle.mf_store_values.specs.Flat.{tables_of}
 use Rattle.mf_store.specs.Facts.{KnownStore}
 use Rattle.mf_store.specs.Stands.{StandsFor, IsClean, Leaves, IsOpen}
-use Rattle.mf_store_files.specs.Files.{HasNoTables}
-use Rattle.mf_store_files.specs.Held.{HoldsSound, HoldsSoundFirst}
-
--- the connection shows the database that the file held, and a stop leaves that
-pub record ShowsFile (image : Image) (s : State) : Type 0 where
-  pub is_open : IsTrue s.is_open
-  pub none : HasNoTables image → Serves schema_of Holds s.now None
-  pub holds : (trees : Trees) → HoldsDatabase image trees → s.now.trees ≡ trees
-  pub sound : IsSound s.now.schema s.now.trees
-  pub rowids : s.now.schema ≡ schema → HaveRowids s.now.trees
-  pub first_rowids : s.now.schema ≡ first_schema → HaveFirstRowids s.now.trees
-  pub leaves : (left : Trees) → s.may_leave left → left ≡ s.now.trees
+use Rattle.mf_store_sound.specs.Files.{HasNoTables}
+use Rattle.mf_store_sound.specs.Held.{HoldsSound, HoldsSoundFirst}
 
 -- the file had tables, and not those of a sound institution
 pub record HoldsNoneSound (image : Image) : Type 0 where

@@ -8,15 +8,14 @@ use Rattle.sqlite_trees.specs.declared.store.Store.{Ghosts}
 use Rattle.mf_model.specs.Institution.{Institution}
 use Rattle.mf_store_sql.specs.Tables.{no_schema}
 use Rattle.mf_store_schema.specs.Calls.{IsAsBefore}
-use Rattle.mf_store_schema.specs.Tables.{schema}
+use Rattle.mf_store_schema.specs.Tables.{schema, first_schema}
 use Rattle.mf_store_schema.specs.Schemas.{IsKnown}
-use Rattle.mf_store_schema.specs.Tables.{first_schema}
 use Rattle.mf_store_schema.specs.Whole.{HaveRowids, HaveFirstRowids}
 use Rattle.mf_store_commits.specs.Tabled.{IsTabled}
 use Rattle.mf_store.specs.Facts.{KnownStore}
 use Rattle.mf_store.specs.Stands.{StandsFor, IsClean, Leaves, IsOpen}
 use Rattle.mf_store_files.specs.First.{IsTabledFirst, IsLeftFirst}
-use Rattle.mf_store_files.specs.Held.{HoldsSound, HoldsSoundFirst}
+use Rattle.mf_store_sound.specs.Held.{HoldsSound, HoldsSoundFirst}
 
 module _ {S : Type 0} (g : Ghosts S) where
   -- Where the tables are those of today or of the first schema, whatever rows stand there, the store is that of the

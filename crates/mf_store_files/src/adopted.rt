@@ -10,22 +10,21 @@ ghost use Rattle.mf_store_sql.specs.Tables.{no_schema};
 ghost use Rattle.mf_store_sql.specs.Writes.{Serves};
 ghost use Rattle.mf_model.specs.Institution.{Institution, newly_made};
 ghost use Rattle.mf_store_schema.specs.Calls.{IsAsBefore};
-ghost use Rattle.mf_store_schema.specs.Tables.{schema};
+ghost use Rattle.mf_store_schema.specs.Tables.{schema, first_schema};
 ghost use Rattle.mf_store_schema.specs.Writes.{schema_of, Holds};
 ghost use Rattle.mf_store_schema.specs.Schemas.{IsKnown};
-ghost use Rattle.mf_store_schema.specs.Tables.{first_schema};
 ghost use Rattle.mf_store_schema.specs.Whole.{HaveRowids, HaveFirstRowids};
 ghost use Rattle.mf_store_commits.specs.Tabled.{IsTabled, IsUnfounded};
 ghost use Rattle.mf_store.specs.Stands.{StandsFor, IsClean, Leaves, IsOpen};
 ghost use Rattle.mf_store_files.specs.First.{IsTabledFirst, IsLeftFirst};
-ghost use Rattle.mf_store_files.specs.Held.{HoldsSound, HoldsSoundFirst};
+ghost use Rattle.mf_store_sound.specs.Held.{HoldsSound, HoldsSoundFirst};
 ghost use Rattle.mf_store_files.specs.Taken.{IsTaken, IsGivenBack};
 
-use crate::judged::{holds_sound, read_sound_first};
 use crate::upgraded::upgrade_tables;
 use mf_base::{Day, Fault};
 use mf_store::{Known, Store};
 use mf_store_schema::{Progress, has_no_tables, is_first, is_present};
+use mf_store_sound::{holds_sound, read_sound_first};
 use sqlite::{Alter, Connection};
 use std::alloc::Global;
 

@@ -1,12 +1,10 @@
 //! Stores over files, by what these held as they were opened.
 
-ghost use Rattle.std.specs.Prelude.{◌≡◌, ◌≤◌, ◌⊎◌, List, [], ◌∷◌, false, Some, None, IsTrue, IfOk, IfErr, IfSome};
-ghost use Rattle.std.specs.Prelude.{IsSomeAnd};
+ghost use Rattle.std.specs.Prelude.{◌≡◌, ◌≤◌, ◌⊎◌, List, [], ◌∷◌, Some, None, IfOk, IfErr, IfSome, IsSomeAnd};
 ghost use Rattle.mf_base.specs.declared.fault.Fault.{Fault};
 ghost use Rattle.mf_base.specs.declared.fault.Fault.TheVariants.{F19, F20};
 ghost use Rattle.mf_base.specs.DayText.{last_entered_day};
 ghost use Rattle.sqlite.specs.Files.{file_state, over_files, HoldsDatabase};
-ghost use Rattle.sqlite.specs.Held.{state};
 ghost use Rattle.sqlite.specs.State.{HasCleanDisk};
 ghost use Rattle.sqlite.specs.Tree.{Trees};
 ghost use Rattle.sqlite_wal.specs.Files.{image_at};
@@ -14,50 +12,21 @@ ghost use Rattle.mf_model.specs.Institution.{newly_made};
 ghost use Rattle.mf_store_values.specs.Flat.{tables_of};
 ghost use Rattle.mf_store_schema.specs.Writes.{Holds};
 ghost use Rattle.mf_store.specs.Stands.{StandsFor, IsClean, Leaves, IsOpen};
-ghost use Rattle.mf_store_files.specs.Files.{HasNoTables};
-ghost use Rattle.mf_store_files.specs.Opened.{ShowsFile, HoldsNoneSound, OpensAsFound, StaysAsFound};
+ghost use Rattle.mf_store_sound.specs.Files.{HasNoTables};
+ghost use Rattle.mf_store_files.specs.Opened.{HoldsNoneSound, OpensAsFound, StaysAsFound};
 
 use crate::adopted::{Refused, adopt, adopt_existing};
 use mf_base::{Day, Fault};
 use mf_store::Store;
-use mf_store_schema::{Progress, open_file, remove_bare_log};
-use sqlite::{Alter, Connection, Error, File, FileFrom, FileStore, Start, Unknown};
+use mf_store_schema::{Progress, remove_bare_log};
+use mf_store_sound::connect;
+use sqlite::{Connection, File, FileFrom, FileStore, Start, Unknown};
 use std::rt::HostRuntime;
-
-/// How many parts are told at most while a file is opened: its tables, each read whole.
-pub const PARTS: u32 = 11;
-
-/// A stop leaves the tables of a connection that has nothing to commit.
-fn nothing_waits<S: Alter>(connection: &Connection<S>)
-    requires alone { connection.now.in_transaction ≡ false }
-    ensures { IsTrue (state S.Store connection.now).is_open → (left : Trees) → (state S.Store connection.now).may_leave
-        left → left ≡ (state S.Store connection.now).now.trees }
-{
-    let _settled = connection.is_autocommit();
-}
-
-/// A connection to a file, which is made where it is missing. The error is SQLite's.
-pub(crate) fn connect<S: Start>(
-    rt: &HostRuntime,
-    path: &str,
-    start: S,
-) -> Result<Connection<FileStore<FileFrom<S>>>, Error>
-    ensures shows { IfOk result (λ c. HasCleanDisk (file_state c) → ShowsFile (image_at S.Start) (file_state c)) }
-    ensures alone { IfOk result (λ c. c.in_transaction ≡ false) }
-{
-    match open_file(rt, path, start) {
-        Ok(connection) => {
-            nothing_waits(&connection);
-            Ok(connection)
-        }
-        Err(error) => Err(error),
-    }
-}
 
 /// A store over the file at a path, where `start` stands for what the file held: where it had no tables, which is so
 /// too of one that is missing, those of a new institution on this day, made in one commit; else the institution that it
 /// holds, whatever the day. Tables of the first schema are brought to the second, in one commit. A file that is made
-/// has sums of its pages (`mf_store_rows`).
+/// has sums of its pages (`mf_store_schema`).
 ///
 /// The day is at most 2099-12-31. F19 tells that the tables are others than this program makes, or that no sound
 /// institution has the rows of the file, and F20 out of memory, a file that could not be opened, or a failure of the

@@ -11,7 +11,7 @@ ghost use Rattle.mf_model.specs.Run.{Line};
 ghost use Rattle.mf_model.specs.Sound.{IsSound, AreInRange};
 ghost use Rattle.mf_model.specs.Store.{left_after};
 ghost use Rattle.mf_store.specs.Stands.{IsClean, Leaves};
-ghost use Rattle.mf_store_files.specs.Held.{HoldsSound};
+ghost use Rattle.mf_store_sound.specs.Held.{HoldsSound};
 ghost use Rattle.mf_store_files.specs.Stops.{IsLeftBy};
 
 use mf_model::laws;

@@ -8,7 +8,8 @@ mod stops;
 ghost use Rattle.std.specs.Prelude.{◌≡◌, false};
 
 use mf_base::{Day, Fault};
-use mf_store_files::{Unfollowed, adopt};
+use mf_store_files::adopt;
+use mf_store_schema::Unfollowed;
 use mf_wire::run;
 use mf_wire_lines::{WatchedReader, WatchedWriter};
 use sqlite::{Alter, Connection, Files, Options};

@@ -15,3 +15,12 @@ pub mod ReceiptLemmas
 pub mod AllLoanLemmas
 pub mod SoundLemmas
 pub mod WholeLemmas
+pub mod NestedLemmas
+pub mod HeldLemmas
+pub mod HeldAccountLemmas
+pub mod RiseLemmas
+pub mod JudgedLemmas
+pub mod SchemaLemmas
+pub mod BlankLemmas
+pub mod FileLemmas
+pub mod ToldLemmas

@@ -1,8 +1,7 @@
 -- The receipts that entries carry, and their rows in the order of their key, where no key comes twice.
 use Rattle.std.proofs.Common.{◌≡◌, ◌↔◌, ◌<◌, ◌≤◌, ◌+◌, ◌-◌, ◌∙◌, ◌&&◌, ℕ, suc, true, false, List, [], ◌∷◌}
 use Rattle.std.proofs.Common.{◌++◌, map, length, get_or, Option, Some, None, refl, sym, ap, subst, arith, Ordering}
-use Rattle.std.proofs.Common.{Less}
-use Rattle.std.proofs.Common.{Equal, Greater, is_eq, is_lt, true≢false, IsPermutation, IsSorted}
+use Rattle.std.proofs.Common.{Less, Equal, Greater, is_eq, is_lt, true≢false, IsPermutation, IsSorted}
 use Rattle.std.specs.Cmp.{IsTotalOrder}
 use Rattle.std.specs.Ordering.{ordering_reverse}
 use Rattle.std.proofs.lemmas.Bool.{eq-eqb}

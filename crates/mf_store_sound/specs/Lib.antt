@@ -6,3 +6,6 @@ pub mod Stages
 pub mod Callers
 pub mod Schemas
 pub mod Sound
+pub mod Held
+pub mod Files
+pub mod Told

@@ -1,15 +1,18 @@
-//! Whether the rows of the tables are those of a sound institution, and what is missing of them under the first schema.
-//! It knows rows and no database.
+//! Whether rows, the tables of a connection, or a file hold a sound institution, told without changing them.
 #![tactic(auto)]
 
 mod amounts;
 mod callers;
 mod charges;
 mod clients;
+mod connecting;
 mod entered;
 mod entries;
+mod judged;
+mod judging;
 mod loan_parts;
 mod loans;
+mod looking;
 mod meta;
 mod numbered;
 mod office_parts;
@@ -24,8 +27,12 @@ mod tables;
 
 pub use amounts::is_amount;
 pub use charges::is_value;
+pub use connecting::connect;
 pub use entries::{has_columns, has_right_receipt, is_readable};
+pub use judged::{PARTS, holds_sound, read_first_tables, read_sound_first, read_tables};
+pub use judging::{Contents, judge};
 pub use loans::{are_periods_allowed, is_principal_allowed, is_stage};
+pub use looking::{Finding, look, look_with, reach};
 pub use meta::business_day;
 pub use offices::{has_parents_text, is_within_depth};
 pub use owners::split_by_owner;

@@ -1,8 +1,8 @@
 //! How far a file is checked, told to the person at a terminal.
 
 use crate::telling::tell_person;
-use mf_store_files::PARTS;
 use mf_store_schema::Progress;
+use mf_store_sound::PARTS;
 use std::rt::HostRuntime;
 use std::time::{Duration, Instant};
 

@@ -4,8 +4,8 @@ ghost use Rattle.microloan.specs.Status.{IsPrintStatus};
 
 use crate::places::{Place, place_at};
 use crate::telling::{FAULT, print_line};
-use mf_store_files::{Finding, look};
 use mf_store_schema::has_log;
+use mf_store_sound::{Finding, look};
 
 /// Says in a line what opening a file would find, and gives the program's status: 0 where it is opened as the
 /// institution that it holds. Nothing is made and nothing is changed.

@@ -10,8 +10,8 @@ use Rattle.mf_store_schema.specs.Tables.{schema}
 use Rattle.mf_store_schema.specs.Writes.{Holds}
 use Rattle.mf_store_sound.specs.Schemas.{first_tables_of}
 use Rattle.mf_store_schema.specs.Upgrade.{HoldsFirst}
-use Rattle.mf_store_files.specs.Files.{HasNoTables}
-use Rattle.mf_store_files.specs.Held.{HoldsSound, HoldsSoundFirst}
+use Rattle.mf_store_sound.specs.Files.{HasNoTables}
+use Rattle.mf_store_sound.specs.Held.{HoldsSound, HoldsSoundFirst}
 use Rattle.microloan_files.specs.Opening.{HoldsInSchema, OpensAs}
 
 pub opened_so : (P : Institution → Type 0) (day : ℕ) (image : Image) → (HasNoTables image → P (newly_made day))

@@ -9,7 +9,7 @@ use Rattle.mf_store_values.specs.Flat.{tables_of}
 use Rattle.mf_store_schema.specs.Writes.{Holds}
 use Rattle.mf_store_sound.specs.Schemas.{first_tables_of}
 use Rattle.mf_store_schema.specs.Upgrade.{HoldsFirst}
-use Rattle.mf_store_files.specs.Files.{HasNoTables}
+use Rattle.mf_store_sound.specs.Files.{HasNoTables}
 
 -- the file is a database that has this sound institution's rows and nothing else
 pub record IsFileOf (image : Image) (i : Institution) : Type 0 where

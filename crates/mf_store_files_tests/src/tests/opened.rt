@@ -2,7 +2,8 @@
 
 use mf_base::Day;
 use mf_store::Store;
-use mf_store_files::{Unfollowed, open};
+use mf_store_files::open;
+use mf_store_schema::Unfollowed;
 use mf_wire::run;
 use mf_wire_lines::{WatchedReader, WatchedWriter};
 use sqlite::Alter;

@@ -1,6 +1,6 @@
 use Rattle.sqlite.specs.Files.{file_state}
 use Rattle.sqlite_wal.specs.Files.{image_at}
-use Rattle.mf_store_files.proofs.OpenedLemmas.{left_as_held}
+use Rattle.mf_store_sound.proofs.FileLemmas.{left_as_held}
 use Rattle.mf_store_audit.proofs.FileLemmas.{audit_of_file}
 use Rattle.mf_store_audit.proofs.files.audit_file_with.Goals as goal
 

@@ -3,7 +3,7 @@ use Rattle.sqlite.specs.Files.{file_state}
 use Rattle.sqlite_wal.specs.Files.{image_at}
 use Rattle.mf_store_files.proofs.OpenedLemmas.{opens_as_found, stays_as_found, told_none, left_none, existing_errors}
 use Rattle.mf_store_files.proofs.OpenedLemmas.{existing_none_sound}
-use Rattle.mf_store_files.proofs.TakenLemmas.{known_some}
+use Rattle.mf_store_sound.proofs.SchemaLemmas.{known_some}
 use Rattle.mf_store_files.proofs.files.open_existing_with.Goals as goal
 
 pub returns-in-Ok-adopt_existing-clause-some : goal.returns-in-Ok-adopt_existing-clause-some

@@ -6,23 +6,26 @@ ghost use Rattle.sqlite.specs.Held.{state};
 ghost use Rattle.sqlite.specs.State.{HasCleanDisk};
 ghost use Rattle.mf_store_schema.specs.Calls.{IsAsBefore};
 ghost use Rattle.mf_store_schema.specs.Rows.{Lists};
-ghost use Rattle.mf_store_schema.specs.Tables.{schema};
+ghost use Rattle.mf_store_schema.specs.Tables.{schema, first_schema};
 ghost use Rattle.mf_store_schema.specs.Writes.{Holds};
 ghost use Rattle.mf_store_schema.specs.Schemas.{IsFirst, IsUnchangedUnder};
-ghost use Rattle.mf_store_schema.specs.Tables.{first_schema};
 ghost use Rattle.mf_store_schema.specs.Whole.{HaveFirstRowids, HaveRowids};
 ghost use Rattle.mf_store_sound.specs.Schemas.{first_tables_of, without_accounts};
 ghost use Rattle.mf_store_schema.specs.Upgrade.{HoldsFirst};
-ghost use Rattle.mf_store_files.specs.Held.{CanBeHeld, DoRise, HoldsSound, HoldsSoundFirst};
+ghost use Rattle.mf_store_sound.specs.Held.{CanBeHeld, DoRise, HoldsSound, HoldsSoundFirst};
 
+use crate::sound::{is_sound, is_sound_first};
+use crate::tables::Tables;
 use mf_base::Fault;
 use mf_store_schema::{
     ChargeRow, ClientRow, EntryRow, Group, InstalmentRow, Last, LoanRow, MetaRow, OfficeRow,
     ProductRow, Progress, ReceiptRow, ShareRow, StaffRow,
 };
-use mf_store_sound::{Tables, is_sound, is_sound_first};
 use sqlite::{Alter, Connection};
 use std::alloc::Global;
+
+/// How many parts are told at most while a file is checked: its tables, each read whole.
+pub const PARTS: u32 = 11;
 
 /// The tables of loans, of what was entered for them, and of what is kept of their accounts.
 type Books = (
@@ -113,7 +116,7 @@ pub fn read_tables<S: Alter, P: Progress>(
 /// Whether the tables hold the rows of a sound institution. It changes nothing. The error is F20.
 ///
 /// The answer speaks of a connection whose tables are this program's, whatever rows stand there.
-pub(crate) fn holds_sound<S: Alter, P: Progress>(
+pub fn holds_sound<S: Alter, P: Progress>(
     alloc: Global,
     connection: &mut Connection<S>,
     progress: &mut P,
@@ -191,7 +194,7 @@ pub fn read_first_tables<S: Alter, P: Progress>(
 /// has them. It changes nothing. The error is F20.
 ///
 /// The answer speaks of a connection whose tables are those of the first schema, whatever rows stand there.
-pub(crate) fn read_sound_first<S: Alter, P: Progress>(
+pub fn read_sound_first<S: Alter, P: Progress>(
     alloc: Global,
     connection: &mut Connection<S>,
     progress: &mut P,

@@ -1,5 +1,5 @@
 -- All tables as nested pairs, in the order of the schema, and as a record of lists.
-use Rattle.std.proofs.Common.{◌≡◌, inl, inr, List, []}
+use Rattle.std.proofs.Common.{◌≡◌, ℕ, zero, suc, inl, inr, List, [], ◌∷◌, take}
 use Rattle.sqlite.specs.Schema.{Schema}
 use Rattle.sqlite.specs.State.{State}
 use Rattle.mf_store_schema.specs.Calls.{IsAsBefore}
@@ -16,6 +16,7 @@ use Rattle.mf_store_schema.specs.declared.products.ProductRow.{ProductRow}
 use Rattle.mf_store_schema.specs.declared.receipts.ReceiptRow.{ReceiptRow}
 use Rattle.mf_store_schema.specs.declared.shares.ShareRow.{ShareRow}
 use Rattle.mf_store_schema.specs.declared.staff.StaffRow.{StaffRow}
+use Rattle.mf_store_sound.specs.Held.{AllTrue, Saying, said_of_each}
 
 infixr 4 ◌also◌
 -- one, and then the others
@@ -72,6 +73,16 @@ lists_of_first t instalments shares = record {
 pub same_lists : (a b : NestedFirst) (instalments : List InstalmentRow) (shares : List ShareRow) → a ≡ b
     → instalments ≡ [] → shares ≡ [] → lists_of_first a instalments shares ≡ lists_of_first b [] []
 same_lists a b instalments shares same none empty = λ t. lists_of_first (same t) (none t) (empty t)
+
+first_true : (n : ℕ) (Ps : List (Type 0)) → AllTrue Ps → AllTrue (take n Ps)
+first_true zero Ps all = tt
+first_true (suc n) [] all = tt
+first_true (suc n) (P ∷ Ps) all = (all.0, first_true n Ps all.1)
+
+-- what is said of all tables is said of those of the first schema
+pub first_nine : (Says : Saying) (lists : Lists) → AllTrue (said_of_each Says lists)
+    → AllTrue (take 9 (said_of_each Says lists))
+first_nine Says lists = first_true 9 (said_of_each Says lists)
 
 -- ---- the schemas that have all tables read
 

@@ -1,8 +1,8 @@
 use Rattle.std.proofs.Common.{sym, ◌∙◌, true≢false}
 use Rattle.sqlite.specs.Held.{state}
 use Rattle.mf_store_schema.proofs.ReadLemmas.{at_none, at_some}
-use Rattle.mf_store_files.proofs.JudgedLemmas.{first_can_be_held, holds_sound_first, first_rows_are, are_of_sound_first}
-use Rattle.mf_store_files.proofs.judged.read_sound_first.Goals as goal
+use Rattle.mf_store_sound.proofs.JudgedLemmas.{first_can_be_held, holds_sound_first, first_rows_are, are_of_sound_first}
+use Rattle.mf_store_sound.proofs.judged.read_sound_first.Goals as goal
 
 pub returns-in_default-clause-none : goal.returns-in_default-clause-none
 returns-in_default-clause-none g c clean ours h =

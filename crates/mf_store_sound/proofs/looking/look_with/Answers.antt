@@ -1,8 +1,8 @@
 use Rattle.sqlite.specs.Files.{file_state}
 use Rattle.sqlite_wal.specs.Files.{image_at}
-use Rattle.mf_store_files.proofs.OpenedLemmas.{left_as_held}
-use Rattle.mf_store_files.proofs.ToldLemmas.{told_of_file}
-use Rattle.mf_store_files.proofs.looking.look_with.Goals as goal
+use Rattle.mf_store_sound.proofs.FileLemmas.{left_as_held}
+use Rattle.mf_store_sound.proofs.ToldLemmas.{told_of_file}
+use Rattle.mf_store_sound.proofs.looking.look_with.Goals as goal
 
 pub returns-in-Ok-judge-clause-exact : goal.returns-in-Ok-judge-clause-exact
 returns-in-Ok-judge-clause-exact g c clean =

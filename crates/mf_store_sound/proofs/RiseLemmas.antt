@@ -29,10 +29,11 @@ use Rattle.mf_store_values.specs.Flat.{rows_by_loan, own_entries}
 use Rattle.mf_store_values.specs.ReceiptRows.{receipts_carried}
 use Rattle.mf_store_values.proofs.ReceiptLemmas.{receipts_apart}
 use Rattle.mf_store_values.proofs.SortedLemmas.{first_less, rises_sorted}
-use Rattle.mf_store_files.proofs.HeldLemmas.{AreNumberedFrom, numbers_by_place}
+use Rattle.mf_store_sound.proofs.HeldLemmas.{AreNumberedFrom, numbers_by_place}
 use Rattle.mf_store_values.proofs.LoanRowLemmas.{all_loans, all_offices}
 use Rattle.mf_store_sound.proofs.ReceiptLemmas.{no_ties_of}
 use Rattle.mf_store_sound.proofs.StaffLemmas.{rows_rise}
+use Rattle.mf_store_sound.proofs.StoredLemmas.{numbered_each}
 
 -- ---- orders of keys
 
@@ -49,14 +50,13 @@ same_number x n o = grind (arith, nat_tests)
 
 module _ {A R : Type 0} (make : ℕ → A → R) (cmp : R → R → Ordering) (ranks : (n m : ℕ) (a b : A)
     → cmp (make n a) (make m b) ≡ nat_cmp n m) where
-  numbered_after : (n : ℕ) (a : A) (m : ℕ) (xs : List A) → n < m → AllByRecursion (λ r. cmp (make n a) r ≡ Less)
-      (numbered_from make m xs)
-  numbered_after n a m [] h = tt
-  numbered_after n a m (x ∷ xs) h = (ranks n m a x ∙ lower n m h, numbered_after n a (m + 1) xs (omega (arith, h)))
-
   numbered_rise : (n : ℕ) (xs : List A) → IsAscending (λ a b. cmp a b ≡ Less) (numbered_from make n xs)
   numbered_rise n [] = tt
-  numbered_rise n (x ∷ xs) = (numbered_after n x (n + 1) xs (omega arith), numbered_rise (n + 1) xs)
+  numbered_rise n (x ∷ xs) = (
+    numbered_each make (λ r. cmp (make n x) r ≡ Less) (n + 1) xs (λ m a later. ranks n m x a
+        ∙ lower n m (omega (arith, later))),
+    numbered_rise (n + 1) xs,
+  )
 
 module _ (parents : ℕ → Option ℕ) where
   office_after : (f : Office) (fs : List Office) → Above f.number fs
@@ -158,19 +158,14 @@ placed_cmp a b = ordering_then (nat_cmp a.0 b.0) (nat_cmp a.1.0 b.1.0)
 same_entry : (seq : ℕ) (o : Ordering) → ordering_then (nat_cmp seq seq) o ≡ o
 same_entry seq o = grind (arith, nat_tests)
 
-all_placed : (Q : ℕ × (ℕ × SettledPart) → Type 0) (seq place : ℕ) (parts : List SettledPart)
-    → ((p : ℕ × SettledPart) → Q (seq, p))
-    → AllByRecursion Q (numbered_from (λ at part. (seq, (at, part))) place parts)
-all_placed Q seq place [] h = tt
-all_placed Q seq place (part ∷ parts) h = (h (place, part), all_placed Q seq (place + 1) parts h)
-
 all_parts : (Q : ℕ × (ℕ × SettledPart) → Type 0) (parts : ℕ → List SettledPart) (seq count : ℕ)
     → ((s : ℕ) (p : ℕ × SettledPart)
     → seq ≤ s → Q (s, p)) → AllByRecursion Q (parts_from parts seq count)
 all_parts Q parts seq zero h = tt
 all_parts Q parts seq (suc count) h =
-    all-append Q (placed_parts seq (parts seq)) (parts_from parts (seq + 1) count) (all_placed Q seq 1 (parts seq)
-    (λ p. h seq p (omega arith))) (all_parts Q parts (seq + 1) count (λ s p low. h s p (omega (arith, low))))
+    all-append Q (placed_parts seq (parts seq)) (parts_from parts (seq + 1) count)
+    (numbered_each (λ at part. (seq, (at, part))) Q 1 (parts seq) (λ at part later. h seq (at, part) (omega arith)))
+    (all_parts Q parts (seq + 1) count (λ s p low. h s p (omega (arith, low))))
 
 parts_rise : (parts : ℕ → List SettledPart) (seq count : ℕ) → IsAscending (λ x y. placed_cmp x y ≡ Less)
     (parts_from parts seq count)
@@ -180,9 +175,9 @@ parts_rise parts seq (suc count) =
     ascending-append (λ x y. placed_cmp x y ≡ Less) (placed_parts seq (parts seq)) rest
     (numbered_rise (λ at part. (seq, (at, part))) placed_cmp (λ n m x y. same_entry seq (nat_cmp n m)) 1 (parts seq))
     (parts_rise parts (seq + 1) count)
-    (all_placed (λ x. AllByRecursion (λ y. placed_cmp x y ≡ Less) rest) seq 1 (parts seq)
-    (λ p. all_parts (λ y. placed_cmp (seq, p) y ≡ Less) parts (seq + 1) count (λ s q low.
-    first_less seq s (nat_cmp p.0 q.0) (omega (arith, low)))))
+    (numbered_each (λ at part. (seq, (at, part))) (λ x. AllByRecursion (λ y. placed_cmp x y ≡ Less) rest) 1 (parts seq)
+    (λ at part later. all_parts (λ y. placed_cmp (seq, (at, part)) y ≡ Less) parts (seq + 1) count (λ s q low.
+    first_less seq s (nat_cmp at q.0) (omega (arith, low)))))
 
 kept_shares_rise : (a : DisbursedLoan) → IsAscending (λ x y. placed_cmp x y ≡ Less) (shares_kept a)
 kept_shares_rise a = parts_rise (λ seq. settled_in seq (settled_of_loan a)) 1 (length a.entries)

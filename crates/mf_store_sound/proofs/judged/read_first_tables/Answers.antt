@@ -3,8 +3,9 @@ use Rattle.sqlite.specs.Held.{state}
 use Rattle.sqlite_catalog.specs.Listing.{IsSound}
 use Rattle.mf_store_schema.specs.Schemas.{IsFirst}
 use Rattle.mf_store_schema.proofs.ReadLemmas.{at_none, at_some}
-use Rattle.mf_store_files.proofs.TableLemmas.{◌also◌, nested_first, same_lists, under_first, unchanged_fewer}
-use Rattle.mf_store_files.proofs.judged.read_first_tables.Goals as goal
+use Rattle.mf_store_sound.specs.Held.{CanHoldRows, Rises}
+use Rattle.mf_store_sound.proofs.NestedLemmas.{nested_first, same_lists, under_first, unchanged_fewer, first_nine}
+use Rattle.mf_store_sound.proofs.judged.read_first_tables.Goals as goal
 
 pub returns-in_err-found-clause-kept : goal.returns-in_err-found-clause-kept
 returns-in_err-found-clause-kept g c = unchanged_fewer _ IsFirst (state g.S.Store c.args.connection.now)
@@ -21,8 +22,7 @@ returns-clause-kept g c = unchanged_fewer _ IsFirst (state g.S.Store c.args.conn
 pub returns-in_default-clause-none : goal.returns-in_default-clause-none
 returns-in_default-clause-none g c clean ours lists held h =
     at_none c.in_ok-found.found _ c.in_default.is (c.in_ok-found.ensures.none clean (under_first _ ours))
-    (nested_first lists) (held.meta also held.offices also held.staff also held.clients also held.charges
-    also held.products also held.loans also held.entries also held.receipts also tt) h.all
+    (nested_first lists) (first_nine (λ A columns row cmp items. CanHoldRows columns row items) lists held.all) h.all
 
 pub returns-clause-only : goal.returns-clause-only
 returns-clause-only g c clean ours lists h =
@@ -38,7 +38,5 @@ returns-clause-keeps g c clean ours rowids rise =
     record {
       sound = subst (λ its. IsSound its db.trees) ours sound;
       all = at_some c.in_ok-found.found _ _ c.in-Some.is (c.in_ok-found.ensures.keeps clean (under_first _ ours) rowids)
-          (rise.meta also rise.offices also rise.staff also rise.clients also rise.charges also rise.products also
-          rise.loans
-          also rise.entries also rise.receipts also tt);
+          (first_nine (λ A columns row cmp items. Rises cmp items) _ rise.all);
     }

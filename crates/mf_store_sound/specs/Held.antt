@@ -1,5 +1,5 @@
 -- What tables hold whatever rows stand there: rows of records, and those of a sound institution.
-use Rattle.std.specs.Prelude.{◌≡◌, List, map, Some}
+use Rattle.std.specs.Prelude.{◌≡◌, List, [], ◌∷◌, map, Some}
 use Rattle.std.specs.List.{AllByRecursion}
 use Rattle.std.specs.declared.cmp.Ordering.{Ordering}
 use Rattle.std.specs.declared.cmp.Ordering.TheVariants.{Less}
@@ -24,37 +24,40 @@ use Rattle.mf_store_schema.specs.Upgrade.{HoldsFirst}
 abbrev pub Rises : {A : Type 0} → (A → A → Ordering) → List A → Type 0
 Rises cmp items = IsAscending (λ a b. cmp a b ≡ Less) items
 
--- each list rises by the key of its table
-pub record DoRise (lists : Lists) : Type 0 where
-  pub meta : Rises by_meta lists.meta
-  pub offices : Rises by_office lists.offices
-  pub staff : Rises by_staff lists.staff
-  pub clients : Rises by_client lists.clients
-  pub charges : Rises by_charge lists.charges
-  pub products : Rises by_product lists.products
-  pub loans : Rises by_loan lists.loans
-  pub entries : Rises by_entry lists.entries
-  pub receipts : Rises by_receipt lists.receipts
-  pub instalments : Rises by_instalment lists.instalments
-  pub shares : Rises by_share lists.shares
-
 -- these columns can hold the rows of the items
 abbrev pub CanHoldRows : {A : Type 0} → List Named → (A → Row) → List A → Type 0
 CanHoldRows columns row items = AllByRecursion (HasFields columns) (map row items)
 
+-- what is said of items by the columns of their table, their rows in it and the order of its key
+abbrev pub Saying : Type 1
+Saying = (A : Type 0) → List Named → (A → Row) → (A → A → Ordering) → List A → Type 0
+
+-- what is said of the list of each table, in the order of the tables
+abbrev pub said_of_each : Saying → Lists → List (Type 0)
+said_of_each Says lists = Says _ (table.meta).columns meta_row by_meta lists.meta
+    ∷ Says _ (table.offices).columns office_row by_office lists.offices
+    ∷ Says _ (table.staff).columns staff_row by_staff lists.staff
+    ∷ Says _ (table.clients).columns client_row by_client lists.clients
+    ∷ Says _ (table.charges).columns charge_row by_charge lists.charges
+    ∷ Says _ (table.products).columns product_row by_product lists.products
+    ∷ Says _ (table.loans).columns loan_row by_loan lists.loans
+    ∷ Says _ (table.entries).columns entry_row by_entry lists.entries
+    ∷ Says _ (table.receipts).columns receipt_row by_receipt lists.receipts
+    ∷ Says _ (table.instalments).columns instalment_row by_instalment lists.instalments
+    ∷ Says _ (table.shares).columns share_row by_share lists.shares ∷ []
+
+-- each of these holds
+abbrev pub AllTrue : List (Type 0) → Type 0
+AllTrue [] = Unit {0}
+AllTrue (P ∷ Ps) = P × AllTrue Ps
+
+-- each list rises by the key of its table
+pub record DoRise (lists : Lists) : Type 0 where
+  pub all : AllTrue (said_of_each (λ A columns row cmp items. Rises cmp items) lists)
+
 -- the columns of tables can hold the rows of each list
 pub record CanBeHeld (lists : Lists) : Type 0 where
-  pub meta : CanHoldRows (table.meta).columns meta_row lists.meta
-  pub offices : CanHoldRows (table.offices).columns office_row lists.offices
-  pub staff : CanHoldRows (table.staff).columns staff_row lists.staff
-  pub clients : CanHoldRows (table.clients).columns client_row lists.clients
-  pub charges : CanHoldRows (table.charges).columns charge_row lists.charges
-  pub products : CanHoldRows (table.products).columns product_row lists.products
-  pub loans : CanHoldRows (table.loans).columns loan_row lists.loans
-  pub entries : CanHoldRows (table.entries).columns entry_row lists.entries
-  pub receipts : CanHoldRows (table.receipts).columns receipt_row lists.receipts
-  pub instalments : CanHoldRows (table.instalments).columns instalment_row lists.instalments
-  pub shares : CanHoldRows (table.shares).columns share_row lists.shares
+  pub all : AllTrue (said_of_each (λ A columns row cmp items. CanHoldRows columns row items) lists)
 
 -- the trees hold the rows of a sound institution and nothing else
 pub record HoldsSound (trees : Trees) : Type 0 where

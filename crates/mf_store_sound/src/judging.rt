@@ -7,8 +7,8 @@ ghost use Rattle.sqlite.specs.State.{HasCleanDisk};
 ghost use Rattle.mf_store_schema.specs.Schemas.{IsFirst, IsUnchangedUnder};
 ghost use Rattle.mf_store_schema.specs.Tables.{first_schema};
 ghost use Rattle.mf_store_schema.specs.Whole.{HaveFirstRowids};
-ghost use Rattle.mf_store_files.specs.Held.{HoldsSoundFirst};
-ghost use Rattle.mf_store_files.specs.Told.{IsAny, HaveOwnRowids, IsToldOf};
+ghost use Rattle.mf_store_sound.specs.Held.{HoldsSoundFirst};
+ghost use Rattle.mf_store_sound.specs.Told.{IsAny, HaveOwnRowids, IsToldOf};
 
 use crate::judged::{holds_sound, read_sound_first};
 use mf_base::Fault;

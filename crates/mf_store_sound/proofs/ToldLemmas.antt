@@ -9,16 +9,15 @@ use Rattle.sqlite.specs.Tree.{Trees}
 use Rattle.sqlite_catalog.specs.Listing.{IsSound}
 use Rattle.sqlite_wal.specs.Recovery.{Image}
 use Rattle.mf_store_sql.specs.Tables.{no_schema}
-use Rattle.mf_store_schema.specs.Tables.{schema}
+use Rattle.mf_store_schema.specs.Tables.{schema, first_schema}
 use Rattle.mf_store_schema.specs.Schemas.{IsKnown}
-use Rattle.mf_store_schema.specs.Tables.{first_schema}
-use Rattle.mf_store_files.specs.Held.{HoldsSound, HoldsSoundFirst}
-use Rattle.mf_store_files.specs.Opened.{ShowsFile}
-use Rattle.mf_store_files.specs.Told.{IsToldOf, IsToldOfFile}
-use Rattle.mf_store_files.specs.declared.judging.Contents.{Contents}
-use Rattle.mf_store_files.specs.declared.judging.Contents.TheVariants.{Nothing, Present, First, Others}
-use Rattle.mf_store_files.proofs.OpenedLemmas.{under, seen}
-use Rattle.mf_store_files.proofs.TakenLemmas.{not_present, none_first}
+use Rattle.mf_store_sound.specs.Held.{HoldsSound, HoldsSoundFirst}
+use Rattle.mf_store_sound.specs.Files.{ShowsFile}
+use Rattle.mf_store_sound.specs.Told.{IsToldOf, IsToldOfFile}
+use Rattle.mf_store_sound.specs.declared.judging.Contents.{Contents}
+use Rattle.mf_store_sound.specs.declared.judging.Contents.TheVariants.{Nothing, Present, First, Others}
+use Rattle.mf_store_sound.proofs.FileLemmas.{under, seen}
+use Rattle.mf_store_sound.proofs.SchemaLemmas.{not_present, none_first}
 
 -- ---- what is told of the connection is told of the file
 

@@ -1,14 +1,13 @@
 -- The rows that the accounts of a sound institution leave, its instalments and its shares, are ones that records can
 -- hold.
 use Rattle.std.proofs.Common.{◌≡◌, ◌≤◌, ◌<◌, ◌+◌, ◌*◌, ◌^◌, ◌==◌, pos, ℕ, zero, suc, Bool, true, false, cond}
-use Rattle.std.proofs.Common.{List, [], ◌∷◌, map, filter, length, Option, Some, None, refl, sym, ap, ◌∙◌, subst}
-use Rattle.std.proofs.Common.{arith}
+use Rattle.std.proofs.Common.{List, [], ◌∷◌, map, filter, length, Option, Some, None, refl, sym, ap, ◌∙◌, subst, arith}
 use Rattle.std.specs.List.{AllByRecursion, range_with_len}
 use Rattle.std.proofs.lemmas.List.{length-map, length-append, map-append}
 use Rattle.std.proofs.lemmas.List.FromFn.{length-map-range_with_len}
 use Rattle.std.proofs.lemmas.List.Elements.{recursion_from_All}
 use Rattle.std.proofs.lemmas.Nat.{mul-le}
-use Rattle.sqlite_keyed.proofs.ListLemmas.{all-append, all-filter, all_map, all_weaker}
+use Rattle.sqlite_keyed.proofs.ListLemmas.{all-append, all-filter, all_map, all_unmap, all_weaker}
 use Rattle.mf_base.specs.Calendar.{date_of, months_on, day_after}
 use Rattle.mf_base.specs.DayText.{day_text, last_day, last_entered_day}
 use Rattle.mf_base.specs.declared.day.Freq.{Freq}
@@ -26,8 +25,7 @@ use Rattle.mf_account.specs.Account.{Orders, first_state, row_of, parts_numbered
 use Rattle.mf_account.specs.Applicable.{HasInstalment}
 use Rattle.mf_account.specs.Change.{settled_in}
 use Rattle.mf_account.specs.Effect.{Part, State, after_entry, is_some_part, whole_part, parts_by, parts_cleared}
-use Rattle.mf_account.specs.Effect.{parts_of}
-use Rattle.mf_account.specs.Effect.{parts_paid, paid_at, own_share, later_share}
+use Rattle.mf_account.specs.Effect.{parts_of, parts_paid, paid_at, own_share, later_share}
 use Rattle.mf_account.specs.Loan.{DisbursedLoan, IsSoundDisbursed, schedule_of, orders_of, state_of_loan}
 use Rattle.mf_account.specs.Loan.{settled_of_loan}
 use Rattle.mf_account.specs.Standing.{standing_entries}
@@ -52,9 +50,10 @@ use Rattle.mf_store_schema.specs.declared.instalments.InstalmentRow.{InstalmentR
 use Rattle.mf_store_schema.specs.declared.shares.ShareRow.{ShareRow}
 use Rattle.mf_store_values.specs.Flat.{numbered_from, tables_of, instalment_in, share_in, how_number, portion_number}
 use Rattle.mf_store_values.specs.Flat.{instalments_kept, shares_kept, placed_parts, parts_from, kept_of}
-use Rattle.mf_store_files.specs.Held.{CanHoldRows}
-use Rattle.mf_store_files.proofs.TableLemmas.{◌also◌}
-use Rattle.mf_store_files.proofs.HeldLemmas.{is_number, is_amount, is_text, day_utf8, portion_low, by_loan_held}
+use Rattle.mf_store_sound.specs.Held.{CanHoldRows}
+use Rattle.mf_store_sound.proofs.NestedLemmas.{◌also◌}
+use Rattle.mf_store_sound.proofs.HeldLemmas.{is_number, is_amount, is_text, day_utf8, portion_low, numbered_held}
+use Rattle.mf_store_sound.proofs.HeldLemmas.{by_loan_held}
 
 -- ---- instalments
 
@@ -116,16 +115,6 @@ instalment_held x m n row low_x low_m low_n due =
           also is_amount _ also is_amount _ also is_amount _ also is_amount _ also tt;
     }
 
-instalments_held : (x m n : ℕ) (rows : List Instalment) → x ≤ 9999 → m ≤ 999999 → n + length rows ≤ 361
-    → AllByRecursion (λ (due : ℕ). due ≤ last_day) (dues_of rows)
-    → AllByRecursion HeldInstalment (map (instalment_in x m) (numbered_from (λ at row. (at, row)) n rows))
-instalments_held x m n [] low_x low_m few dues = tt
-instalments_held x m n (row ∷ rows) low_x low_m few dues = (
-  instalment_held x m n row low_x low_m (omega (arith, few)) dues.0,
-  instalments_held x m (n + 1) rows low_x low_m
-      (omega (arith, few)) dues.1,
-)
-
 -- what the account of a sound loan leaves, where that of each sound account is held
 kept_held : {A R : Type 0} (make : ℕ → ℕ → A → R) (read : DisbursedLoan → List A) (H : R → Type 0)
     → ((x m : ℕ) (a : DisbursedLoan)
@@ -140,8 +129,13 @@ kept_held make read H held k sound staffed x m clients l low_x low_m is = go (ac
 
 account_instalments : (x m : ℕ) (a : DisbursedLoan) → x ≤ 9999 → m ≤ 999999 → IsSoundDisbursed a
     → AllByRecursion HeldInstalment (map (instalment_in x m) (instalments_kept a))
-account_instalments x m a low_x low_m sound = let size = account_size a sound in instalments_held x m 1
-    (state_of_loan a).rows low_x low_m (omega (arith, size)) (account_dues a sound)
+account_instalments x m a low_x low_m sound =
+    let rows = (state_of_loan a).rows in
+    all_map HeldInstalment (instalment_in x m) (instalments_kept a)
+    (numbered_held (λ (row : Instalment). row.due ≤ last_day) (λ p. HeldInstalment (instalment_in x m p)) 360
+    (λ n row. (n, row)) (λ n row low due. instalment_held x m n row low_x low_m low due) 1 rows
+    (let size = account_size a sound in omega (arith, size)) (all_unmap (λ (due : ℕ). due ≤ last_day)
+    (λ (row : Instalment). row.due) rows (account_dues a sound)))
 
 pub held_instalments : (i : Institution) → IsSound i → CanHoldRows (table.instalments).columns instalment_row
     (tables_of i).instalments
@@ -301,14 +295,13 @@ account_settled a sound =
       omega (arith, few, standing_few, all_few),
     )
 
-placed_held : (x m seq place : ℕ) (parts : List SettledPart) → x ≤ 9999 → m ≤ 999999 → seq ≤ 9999 → place + length parts
-    < 2 ^ 32 → AllByRecursion (IsSettledOf 360) parts → AllByRecursion HeldShare (map (share_in x m)
-    (numbered_from (λ at part. (seq, (at, part))) place parts))
-placed_held x m seq place [] low_x low_m low_seq few all = tt
-placed_held x m seq place (s ∷ parts) low_x low_m low_seq few all = (
-  let low = all.0 in share_held x m seq place s low_x low_m low_seq (omega (arith, few)) (omega (arith, low)),
-  placed_held x m seq (place + 1) parts low_x low_m low_seq (omega (arith, few)) all.1,
-)
+placed_held : (x m seq : ℕ) (parts : List SettledPart) → x ≤ 9999 → m ≤ 999999 → seq ≤ 9999 → length parts < 2 ^ 31
+    → AllByRecursion (IsSettledOf 360) parts → AllByRecursion HeldShare (map (share_in x m) (placed_parts seq parts))
+placed_held x m seq parts low_x low_m low_seq few all =
+    all_map HeldShare (share_in x m) (placed_parts seq parts)
+    (numbered_held (IsSettledOf 360) (λ p. HeldShare (share_in x m p)) 2_147_483_648 (λ at part. (seq, (at, part)))
+    (λ place s low is. share_held x m seq place s low_x low_m low_seq (omega (arith, low)) (omega (arith, is))) 1 parts
+    (omega (arith, few)) all)
 
 shares_held : (x m : ℕ) (settled : List SettledPart) (seq count : ℕ) → x ≤ 9999 → m ≤ 999999 → seq + count ≤ 10000
     → length settled < 2 ^ 31 → AllByRecursion (IsSettledOf 360) settled
@@ -321,7 +314,7 @@ shares_held x m settled seq (suc count) low_x low_m most few all =
     (parts_from (λ s. settled_in s settled) (seq + 1) count)))
     (all-append HeldShare (map (share_in x m) (placed_parts seq own))
     (map (share_in x m) (parts_from (λ s. settled_in s settled) (seq + 1) count))
-    (placed_held x m seq 1 own low_x low_m (omega (arith, most)) (omega (arith, fewer, few))
+    (placed_held x m seq own low_x low_m (omega (arith, most)) (omega (arith, fewer, few))
     (all-filter (IsSettledOf 360) (λ (s : SettledPart). s.seq == seq) settled all))
     (shares_held x m settled (seq + 1) count low_x low_m (omega (arith, most)) few all))
 

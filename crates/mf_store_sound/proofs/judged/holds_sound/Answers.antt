@@ -1,10 +1,10 @@
 use Rattle.std.proofs.Common.{IsTrue}
 use Rattle.std.proofs.lemmas.Result.{IfOk-weaker}
 use Rattle.sqlite.specs.Held.{state}
-use Rattle.mf_store_files.specs.Held.{HoldsSound}
+use Rattle.mf_store_sound.specs.Held.{HoldsSound}
 use Rattle.mf_store_schema.proofs.ReadLemmas.{at_none, at_some}
-use Rattle.mf_store_files.proofs.JudgedLemmas.{can_be_held, holds_sound, are_of_sound}
-use Rattle.mf_store_files.proofs.judged.holds_sound.Goals as goal
+use Rattle.mf_store_sound.proofs.JudgedLemmas.{can_be_held, holds_sound, are_of_sound}
+use Rattle.mf_store_sound.proofs.judged.holds_sound.Goals as goal
 
 pub returns-in_default-clause-only : goal.returns-in_default-clause-only
 returns-in_default-clause-only g c clean ours h =

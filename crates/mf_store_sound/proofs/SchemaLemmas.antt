@@ -1,6 +1,6 @@
--- Trees list one schema at most.
-use Rattle.std.proofs.Common.{◌≡◌, ◌+◌, ◌<◌, ℕ, List, [], ◌∷◌, ◌++◌, Ok, false, codes, pos, map, filter, slice_get}
-use Rattle.std.proofs.Common.{refl, sym, ap, ◌∙◌, subst, arith}
+-- Trees list one schema at most, and the schemas of the program differ.
+use Rattle.std.proofs.Common.{◌≡◌, ◌≢◌, ◌+◌, ◌<◌, inl, inr, ℕ, List, [], ◌∷◌, ◌++◌, Ok, false, codes, pos, map, filter}
+use Rattle.std.proofs.Common.{slice_get, length, refl, sym, ap, ◌∙◌, subst, arith}
 use Rattle.std.specs.List.{AllZip}
 use Rattle.std.specs.Char.{to_ascii_lowercase}
 use Rattle.std.specs.Fmt.{decimal}
@@ -21,6 +21,8 @@ use Rattle.sqlite_catalog.specs.Listing.{automatic, is_table_row, is_index_row, 
 use Rattle.sqlite_catalog.proofs.SoundLemmas.{lowered}
 use Rattle.sqlite_catalog.proofs.StepLemmas.{named_once}
 use Rattle.mf_store_sql.specs.Tables.{no_schema}
+use Rattle.mf_store_schema.specs.Schemas.{IsKnown}
+use Rattle.mf_store_schema.specs.Tables.{first_schema, schema}
 
 same_zipped : {A B : Type 0} (R : A → B → Type 0) → ((x : A) (y z : B) → R x y → R x z → y ≡ z)
     → (xs : List A) (ys zs : List B) → AllZip R xs ys → AllZip R xs zs → ys ≡ zs
@@ -114,3 +116,18 @@ nothing_listed trees s none sound =
     let indexes = none_either (IsIndexRow s.tables) [] s.indexes tt listed.indexes in
     let views = none_either IsViewRow [] s.views tt listed.views in
     λ i. record { tables = tables i; indexes = indexes i; views = views i }
+
+-- ---- the three schemas differ
+
+pub not_first : schema ≡ first_schema → ⊥
+not_first is = let e : 11 ≡ 9 = ap (λ (k : Schema). length k.tables) is in omega (arith, e)
+
+pub not_present : no_schema ≡ schema → ⊥
+not_present is = let e : 0 ≡ 11 = ap (λ (k : Schema). length k.tables) is in omega (arith, e)
+
+pub none_first : no_schema ≡ first_schema → ⊥
+none_first is = let e : 0 ≡ 9 = ap (λ (k : Schema). length k.tables) is in omega (arith, e)
+
+pub known_some : (k : Schema) → IsKnown k → k ≢ no_schema
+known_some k (inl present) is = not_present (sym is ∙ present)
+known_some k (inr first) is = none_first (sym is ∙ first)

@@ -1,7 +1,7 @@
 use Rattle.sqlite.specs.Files.{file_state}
 use Rattle.sqlite_wal.specs.Files.{image_at}
-use Rattle.mf_store_files.proofs.FileLemmas.{shows}
-use Rattle.mf_store_files.proofs.files.connect.Goals as goal
+use Rattle.mf_store_sound.proofs.FileLemmas.{shows}
+use Rattle.mf_store_sound.proofs.connecting.connect.Goals as goal
 
 pub returns-in-Ok-clause-shows : goal.returns-in-Ok-clause-shows
 returns-in-Ok-clause-shows g c clean =

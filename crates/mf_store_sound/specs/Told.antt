@@ -7,16 +7,15 @@ use Rattle.sqlite.specs.Tree.{Trees}
 use Rattle.sqlite_catalog.specs.Listing.{IsSound}
 use Rattle.sqlite_wal.specs.Recovery.{Image}
 use Rattle.mf_store_sql.specs.Tables.{no_schema}
-use Rattle.mf_store_schema.specs.Tables.{schema}
+use Rattle.mf_store_schema.specs.Tables.{schema, first_schema}
 use Rattle.mf_store_schema.specs.Schemas.{IsKnown}
-use Rattle.mf_store_schema.specs.Tables.{first_schema}
 use Rattle.mf_store_schema.specs.Whole.{HaveRowids, HaveFirstRowids}
-use Rattle.mf_store_files.specs.Files.{HasNoTables}
-use Rattle.mf_store_files.specs.Held.{HoldsSound, HoldsSoundFirst}
-use Rattle.mf_store_files.specs.declared.judging.Contents.{Contents}
-use Rattle.mf_store_files.specs.declared.judging.Contents.TheVariants.{Nothing, Present, First, Others}
-use Rattle.mf_store_files.specs.declared.looking.Finding.{Finding}
-use Rattle.mf_store_files.specs.declared.looking.Finding.TheVariants.{NoTables, PresentSchema, FirstSchema, OtherTables}
+use Rattle.mf_store_sound.specs.Files.{HasNoTables}
+use Rattle.mf_store_sound.specs.Held.{HoldsSound, HoldsSoundFirst}
+use Rattle.mf_store_sound.specs.declared.judging.Contents.{Contents}
+use Rattle.mf_store_sound.specs.declared.judging.Contents.TheVariants.{Nothing, Present, First, Others}
+use Rattle.mf_store_sound.specs.declared.looking.Finding.{Finding}
+use Rattle.mf_store_sound.specs.declared.looking.Finding.TheVariants.{NoTables, PresentSchema, FirstSchema, OtherTables}
 
 -- whatever the schema
 abbrev pub IsAny : Schema → Type 0

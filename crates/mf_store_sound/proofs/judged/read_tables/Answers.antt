@@ -2,8 +2,8 @@ use Rattle.std.proofs.Common.{ap, subst, rules}
 use Rattle.sqlite.specs.Held.{state}
 use Rattle.sqlite_catalog.specs.Listing.{IsSound}
 use Rattle.mf_store_schema.proofs.ReadLemmas.{at_none, at_some}
-use Rattle.mf_store_files.proofs.TableLemmas.{◌also◌, nested, lists_of, under_present, unchanged_present}
-use Rattle.mf_store_files.proofs.judged.read_tables.Goals as goal
+use Rattle.mf_store_sound.proofs.NestedLemmas.{nested, lists_of, under_present, unchanged_present}
+use Rattle.mf_store_sound.proofs.judged.read_tables.Goals as goal
 
 pub returns-in_err-found-clause-kept : goal.returns-in_err-found-clause-kept
 returns-in_err-found-clause-kept g c = unchanged_present _ (state g.S.Store c.args.connection.now)
@@ -20,8 +20,7 @@ returns-clause-kept g c = unchanged_present _ (state g.S.Store c.args.connection
 pub returns-in_default-clause-none : goal.returns-in_default-clause-none
 returns-in_default-clause-none g c clean ours lists held h =
     at_none c.in_ok-found.found _ c.in_default.is (c.in_ok-found.ensures.none clean (under_present _ ours))
-    (nested lists) (held.meta also held.offices also held.staff also held.clients also held.charges also held.products
-    also held.loans also held.entries also held.receipts also held.instalments also held.shares also tt) h.all
+    (nested lists) held.all h.all
 
 pub returns-clause-only : goal.returns-clause-only
 returns-clause-only g c clean ours lists h =
@@ -36,7 +35,5 @@ returns-clause-keeps g c clean ours rowids rise =
       sound = subst (λ its. IsSound its db.trees) ours sound;
       all = at_some c.in_ok-found.found _ _ c.in-Some.is (c.in_ok-found.ensures.keeps clean
           (under_present _ ours) rowids)
-          (rise.meta also rise.offices also rise.staff also rise.clients also rise.charges also rise.products also
-          rise.loans
-          also rise.entries also rise.receipts also rise.instalments also rise.shares also tt);
+          rise.all;
     }

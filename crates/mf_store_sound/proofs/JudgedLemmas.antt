@@ -1,53 +1,36 @@
 -- The rows of a sound institution: what reading the tables asks of them, and what it shows.
-use Rattle.std.proofs.Common.{◌≡◌, Some, refl, sym, subst, arith}
+use Rattle.std.proofs.Common.{◌≡◌, Some, sym, subst, arith}
 use Rattle.sqlite.specs.Tree.{Trees}
 use Rattle.mf_model.specs.Institution.{Institution}
 use Rattle.mf_model.specs.Sound.{IsSound}
 use Rattle.mf_store_schema.specs.Rows.{Lists}
 use Rattle.mf_store_schema.specs.Writes.{Holds}
 use Rattle.mf_store_values.specs.Flat.{tables_of}
-use Rattle.mf_base.specs.DayText.{day_text}
 use Rattle.mf_store_sound.specs.Schemas.{first_tables_of, without_accounts}
 use Rattle.mf_store_sound.specs.Sound.{AreOfSound, AreOfSoundFirst}
 use Rattle.mf_store_schema.specs.Upgrade.{HoldsFirst}
-use Rattle.mf_store_files.specs.Held.{CanBeHeld, DoRise, HoldsSound, HoldsSoundFirst}
-use Rattle.mf_store_files.proofs.HeldAccountLemmas.{held_instalments, held_shares}
-use Rattle.mf_store_files.proofs.TableLemmas.{◌also◌}
-use Rattle.mf_store_files.proofs.HeldLemmas.{is_number, is_text, entered_utf8, held_meta, held_offices, held_staff}
-use Rattle.mf_store_files.proofs.HeldLemmas.{held_clients, held_charges, held_products, held_loans, held_entries}
-use Rattle.mf_store_files.proofs.HeldLemmas.{held_receipts}
-use Rattle.mf_store_files.proofs.RiseLemmas.{meta_rises, offices_rise, staff_rise, clients_rise, charges_rise}
-use Rattle.mf_store_files.proofs.RiseLemmas.{products_rise, loans_rise, entries_rise, receipts_rise, instalments_rise}
-use Rattle.mf_store_files.proofs.RiseLemmas.{shares_rise}
+use Rattle.mf_store_sound.specs.Held.{CanBeHeld, DoRise, HoldsSound, HoldsSoundFirst}
+use Rattle.mf_store_sound.proofs.HeldAccountLemmas.{held_instalments, held_shares}
+use Rattle.mf_store_sound.proofs.NestedLemmas.{◌also◌}
+use Rattle.mf_store_sound.proofs.HeldLemmas.{held_meta, held_meta_under, held_offices, held_staff}
+use Rattle.mf_store_sound.proofs.HeldLemmas.{held_clients, held_charges, held_products, held_loans, held_entries}
+use Rattle.mf_store_sound.proofs.HeldLemmas.{held_receipts}
+use Rattle.mf_store_sound.proofs.RiseLemmas.{meta_rises, offices_rise, staff_rise, clients_rise, charges_rise}
+use Rattle.mf_store_sound.proofs.RiseLemmas.{products_rise, loans_rise, entries_rise, receipts_rise, instalments_rise}
+use Rattle.mf_store_sound.proofs.RiseLemmas.{shares_rise}
 
 pub can_be_held : (i : Institution) → IsSound i → CanBeHeld (tables_of i)
 can_be_held i sound = record {
-  meta = held_meta i sound;
-  offices = held_offices i sound;
-  staff = held_staff i sound;
-  clients = held_clients i sound;
-  charges = held_charges i sound;
-  products = held_products i sound;
-  loans = held_loans i sound;
-  entries = held_entries i sound;
-  receipts = held_receipts i sound;
-  instalments = held_instalments i sound;
-  shares = held_shares i sound;
+  all = held_meta i sound also held_offices i sound also held_staff i sound also held_clients i sound
+      also held_charges i sound also held_products i sound also held_loans i sound also held_entries i sound
+      also held_receipts i sound also held_instalments i sound also held_shares i sound also tt;
 }
 
 do_rise : (i : Institution) → IsSound i → DoRise (tables_of i)
 do_rise i sound = record {
-  meta = meta_rises i sound;
-  offices = offices_rise i sound;
-  staff = staff_rise i sound;
-  clients = clients_rise i sound;
-  charges = charges_rise i sound;
-  products = products_rise i sound;
-  loans = loans_rise i sound;
-  entries = entries_rise i sound;
-  receipts = receipts_rise i sound;
-  instalments = instalments_rise i sound;
-  shares = shares_rise i sound;
+  all = meta_rises i sound also offices_rise i sound also staff_rise i sound also clients_rise i sound
+      also charges_rise i sound also products_rise i sound also loans_rise i sound also entries_rise i sound
+      also receipts_rise i sound also instalments_rise i sound also shares_rise i sound also tt;
 }
 
 module _ (trees : Trees) (lists : Lists) where
@@ -70,46 +53,20 @@ module _ (trees : Trees) (lists : Lists) where
 
 -- ---- under the first schema
 
+-- all but the row of meta is the same, and there are no rows of accounts
 pub first_can_be_held : (i : Institution) → IsSound i → CanBeHeld (first_tables_of i)
-first_can_be_held i sound =
-    let held = can_be_held i sound in
-    record {
-      meta = (
-        record {
-          width = refl;
-          values = is_number 1 (omega arith) also is_number 1 (omega arith)
-              also is_text (day_text i.catalogue.day) (entered_utf8 i.catalogue.day sound.catalogue.day) also tt;
-        },
-        tt,
-      );
-      offices = held.offices;
-      staff = held.staff;
-      clients = held.clients;
-      charges = held.charges;
-      products = held.products;
-      loans = held.loans;
-      entries = held.entries;
-      receipts = held.receipts;
-      instalments = tt;
-      shares = tt;
-    }
+first_can_be_held i sound = record {
+  all = held_meta_under 1 (omega arith) i sound also held_offices i sound also held_staff i sound
+      also held_clients i sound also held_charges i sound also held_products i sound also held_loans i sound
+      also held_entries i sound also held_receipts i sound also tt also tt also tt;
+}
 
 first_do_rise : (i : Institution) → IsSound i → DoRise (first_tables_of i)
-first_do_rise i sound =
-    let rise = do_rise i sound in
-    record {
-      meta = (tt, tt);
-      offices = rise.offices;
-      staff = rise.staff;
-      clients = rise.clients;
-      charges = rise.charges;
-      products = rise.products;
-      loans = rise.loans;
-      entries = rise.entries;
-      receipts = rise.receipts;
-      instalments = tt;
-      shares = tt;
-    }
+first_do_rise i sound = record {
+  all = meta_rises i sound also offices_rise i sound also staff_rise i sound also clients_rise i sound
+      also charges_rise i sound also products_rise i sound also loans_rise i sound also entries_rise i sound
+      also receipts_rise i sound also tt also tt also tt;
+}
 
 module _ (trees : Trees) (lists : Lists) where
   pub holds_sound_first : (DoRise lists → HoldsFirst trees lists) → AreOfSoundFirst lists → HoldsSoundFirst trees

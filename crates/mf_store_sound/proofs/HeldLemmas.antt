@@ -50,11 +50,10 @@ use Rattle.mf_account.specs.declared.entry.Kind.TheVariants as kind
 use Rattle.mf_alloc.specs.declared.row.Portion.{Portion}
 use Rattle.mf_alloc.specs.declared.row.Portion.TheVariants as portion
 use Rattle.mf_model.specs.Institution.{Institution, Catalogue, ListedCharge, Ledger, ListedProduct, Office, Rows, Staff}
-use Rattle.mf_model.specs.Institution.{office_at}
-use Rattle.mf_model.specs.Institution.{item_numbered, charge_def, charge_in, product_of, product_in}
+use Rattle.mf_model.specs.Institution.{office_at, item_numbered, charge_def, charge_in, product_of, product_in}
 use Rattle.mf_account.specs.Receipts.{IsReceipt}
 use Rattle.mf_account.proofs.ReceiptLemmas.{receipt_is_text}
-use Rattle.mf_model.specs.Receipts.{Use, uses_from, uses_in, use_by, use_of}
+use Rattle.mf_model.specs.Receipts.{uses_from, uses_in, use_of}
 use Rattle.mf_model.specs.Sound.{IsSound, IsSoundOffice, IsSoundCatalogue, IsSoundCharge, IsSoundOffer, IsSoundLoan}
 use Rattle.mf_model.specs.Sound.{IsStageBy, IsName, IsEntryBy, AreEntriesBy, lends, is_staff}
 use Rattle.mf_model.specs.Stages.{stage_number, disbursed_on}
@@ -66,10 +65,8 @@ use Rattle.mf_store_sql.specs.Values.{or_null, or_text}
 use Rattle.mf_store_schema.specs.Tables as table
 use Rattle.mf_store_sql.specs.Columns.{Number, Amount, Text, MaybeNumber, MaybeText}
 use Rattle.mf_store_schema.specs.Fields.{CanHold, HasFields}
-use Rattle.mf_store_schema.specs.Rows.{by_receipt, meta_row, office_row}
-use Rattle.mf_store_schema.specs.Rows.{staff_row, client_row, charge_row}
-use Rattle.mf_store_schema.specs.Rows.{product_row, loan_row, entry_row}
-use Rattle.mf_store_schema.specs.Rows.{receipt_row}
+use Rattle.mf_store_schema.specs.Rows.{by_receipt, meta_row, office_row, staff_row, client_row, charge_row}
+use Rattle.mf_store_schema.specs.Rows.{product_row, loan_row, entry_row, receipt_row}
 use Rattle.mf_store_schema.specs.declared.offices.OfficeRow.{OfficeRow}
 use Rattle.mf_store_schema.specs.declared.staff.StaffRow.{StaffRow}
 use Rattle.mf_store_schema.specs.declared.clients.ClientRow.{ClientRow}
@@ -81,10 +78,12 @@ use Rattle.mf_store_schema.specs.declared.receipts.ReceiptRow.{ReceiptRow}
 use Rattle.mf_store_values.specs.Flat.{numbered_from, all_rows, schema_number, tables_of, office_under, client_in}
 use Rattle.mf_store_values.specs.Flat.{staff_in, charge_as, product_as, loan_in, entry_in, entry_kind_number}
 use Rattle.mf_store_values.specs.Flat.{portion_number, flag_number, approval_text, disbursal_text, loans_of}
-use Rattle.mf_store_values.specs.Flat.{rows_of_loans, rows_by_loan, own_entries}
+use Rattle.mf_store_values.specs.Flat.{rows_of_loans, rows_by_loan, own_entries, entry_rows}
 use Rattle.mf_store_values.specs.ReceiptRows.{receipt_in, receipts_carried}
-use Rattle.mf_store_files.specs.Held.{CanHoldRows}
-use Rattle.mf_store_files.proofs.TableLemmas.{◌also◌}
+use Rattle.mf_store_sound.specs.Held.{CanHoldRows}
+use Rattle.mf_store_sound.specs.Schemas.{tables_under}
+use Rattle.mf_store_sound.proofs.NestedLemmas.{◌also◌}
+use Rattle.mf_store_sound.proofs.StoredLemmas.{all_parts}
 use Rattle.mf_model.proofs.StaffLemmas.{staff_are_callers}
 use Rattle.mf_store_values.proofs.FlatLemmas.{numbered-suc}
 use Rattle.mf_store_values.proofs.SoundLemmas.{has_number}
@@ -113,7 +112,7 @@ may_be_text (Some t) utf8 = inr (t, refl, utf8)
 
 module _ {A R : Type 0} (P : A → Type 0) (H : R → Type 0) where
   -- values that are numbered up to a limit
-  numbered_held : (limit : ℕ) (make : ℕ → A → R) → ((n : ℕ) (a : A) → n ≤ limit → P a → H (make n a)) → (n : ℕ)
+  pub numbered_held : (limit : ℕ) (make : ℕ → A → R) → ((n : ℕ) (a : A) → n ≤ limit → P a → H (make n a)) → (n : ℕ)
       (xs : List A) → n + length xs ≤ limit + 1 → AllByRecursion P xs → AllByRecursion H (numbered_from make n xs)
   numbered_held limit make held n [] most all = tt
   numbered_held limit make held n (x ∷ xs) most all =
@@ -241,15 +240,19 @@ own_parents (f ∷ fs) up = (
 
 -- ---- the other tables
 
-pub held_meta : (i : Institution) → IsSound i → CanHoldRows (table.meta).columns meta_row (tables_of i).meta
-held_meta i sound = (
+pub held_meta_under : (schema : ℕ) → schema < 2 ^ 32 → (i : Institution) → IsSound i → CanHoldRows (table.meta).columns
+    meta_row (tables_under schema i).meta
+held_meta_under schema low i sound = (
   record {
     width = refl;
-    values = is_number 1 (omega arith) also is_number schema_number (omega arith)
+    values = is_number 1 (omega arith) also is_number schema low
         also is_text (day_text i.catalogue.day) (entered_utf8 i.catalogue.day sound.catalogue.day) also tt;
   },
   tt,
 )
+
+pub held_meta : (i : Institution) → IsSound i → CanHoldRows (table.meta).columns meta_row (tables_of i).meta
+held_meta = held_meta_under schema_number (omega arith)
 
 abbrev HeldStaff : StaffRow → Type 0
 HeldStaff x = HasFields (table.staff).columns (staff_row x)
@@ -579,77 +582,68 @@ module _ (today : ℕ) (last : today ≤ last_entered_day) (staffed : Caller →
       (numbers_by_place 1 es are.lawful.numbers) (recursion_from_All (IsEntry periods day) es are.lawful.each)
       are.each
 
-pub held_entries : (i : Institution) → IsSound i → CanHoldRows (table.entries).columns entry_row (tables_of i).entries
-held_entries i sound =
+-- the rows of all entries
+entry_rows_held : (i : Institution) → IsSound i → AllByRecursion HeldEntry (tables_of i).entries
+entry_rows_held i sound =
     let k = i.catalogue in
     let staffed = is_staff i.offices in
-    all_map (HasFields (table.entries).columns) entry_row (tables_of i).entries
-    (by_loan_held entry_in own_entries HeldEntry k staffed (λ x m clients l low_x low_m is.
+    by_loan_held entry_in own_entries HeldEntry k staffed (λ x m clients l low_x low_m is.
     of_loan_held k.day sound.catalogue.day staffed (staff_are_callers k staffed i.offices sound.each) x m l.loan.periods
     (disbursed_on l.loan.stage) l.entries low_x low_m (lends_low k sound.catalogue l.loan.product l.loan.principal
-    l.loan.periods is.product).1 is.entries) i.offices sound.each)
+    l.loan.periods is.product).1 is.entries) i.offices sound.each
 
--- ---- receipts
+pub held_entries : (i : Institution) → IsSound i → CanHoldRows (table.entries).columns entry_row (tables_of i).entries
+held_entries i sound =
+    all_map (HasFields (table.entries).columns) entry_row (tables_of i).entries (entry_rows_held i sound)
+
+-- ---- receipts, held where the rows of their entries are
 
 abbrev HeldReceipt : ReceiptRow → Type 0
 HeldReceipt x = HasFields (table.receipts).columns (receipt_row x)
 
-receipt_held : (x : ℕ) (u : Use) → x ≤ 9999 → u.by.loan ≤ 999999 → u.by.seq ≤ 9999 → IsUtf8 u.receipt
-    → HeldReceipt (receipt_in x u)
-receipt_held x u low_x low_loan low_seq utf8 =
-    record {
-      width = refl;
-      values = is_number x (omega arith) also is_text u.receipt utf8 also is_number u.by.loan (omega arith)
-          also is_number u.by.seq (omega arith) also tt;
-    }
+receipt_held : (x m : ℕ) (e : Entry) → HeldEntry (entry_in x m e)
+    → AllByRecursion (λ u. HeldReceipt (receipt_in x u)) (use_of e.receipt m e)
+receipt_held x m e held = go e.receipt held.values.1.1.1.1.1.1.1.1.0
+  where
+    go : (o : Option (List ℕ)) → CanHold MaybeText (or_text o)
+        → AllByRecursion (λ u. HeldReceipt (receipt_in x u)) (use_of o m e)
+    go None may = tt
+    go (Some t) (inl none) = absurd (cc)
+    go (Some t) (inr text) = (
+      record {
+        width = refl;
+        values = held.values.0 also text also held.values.1.0 also held.values.1.1.0 also tt;
+      },
+      tt,
+    )
 
-module _ (today : ℕ) (staffed : Caller → Bool) where
-  uses_of_entries : (x m n : ℕ) (es : List Entry) → x ≤ 9999 → m ≤ 999999 → n + length es ≤ 10000 → AreNumberedFrom n es
-      → AllByRecursion (IsEntryBy today staffed) es → AllByRecursion (λ u. HeldReceipt (receipt_in x u)) (uses_in m es)
-  uses_of_entries x m n [] low_x low_m few own by = tt
-  uses_of_entries x m n (e ∷ es) low_x low_m few own by =
-      all-append (λ u. HeldReceipt (receipt_in x u)) (use_of e.receipt m e) (uses_in m es)
-      (one e.receipt (receipt_utf8 e.receipt by.0.receipt))
-      (uses_of_entries x m (n + 1) es low_x low_m (omega (arith, few)) own.1 by.1)
-    where
-      one : (o : Option (List ℕ)) → IfSome o IsUtf8 → AllByRecursion (λ u. HeldReceipt (receipt_in x u)) (use_of o m e)
-      one None utf8 = tt
-      one (Some t) utf8 = (
-        receipt_held x (record { receipt = t; by = use_by m e }) low_x low_m (let number = own.0 in
-            omega (arith, number, few)) utf8,
-        tt,
-      )
+uses_held : (x m : ℕ) (es : List Entry) → AllByRecursion HeldEntry (map (entry_in x m) es)
+    → AllByRecursion (λ u. HeldReceipt (receipt_in x u)) (uses_in m es)
+uses_held x m [] held = tt
+uses_held x m (e ∷ es) held = all-append (λ u. HeldReceipt (receipt_in x u)) (use_of e.receipt m e) (uses_in m es)
+    (receipt_held x m e held.0) (uses_held x m es held.1)
 
-  uses_of_loan : (x m periods : ℕ) (o : Option ℕ) (es : List Entry) → x ≤ 9999 → m ≤ 999999
-      → AreEntriesBy today staffed periods o es → AllByRecursion (λ u. HeldReceipt (receipt_in x u)) (uses_in m es)
-  uses_of_loan x m periods None es low_x low_m none =
-      subst (λ l. AllByRecursion (λ u. HeldReceipt (receipt_in x u)) (uses_in m l)) (sym none) tt
-  uses_of_loan x m periods (Some day) es low_x low_m are = uses_of_entries x m 1 es low_x low_m
-      (let few = are.lawful.few in omega (arith, few)) (numbers_by_place 1 es are.lawful.numbers) are.each
-
-uses_of_loans : (k : Catalogue) (staffed : Caller → Bool) (clients : List (List ℕ)) (x n : ℕ) (ls : List Ledger)
-    → x ≤ 9999 → n + length ls ≤ 1000000 → AllByRecursion (IsSoundLoan k staffed clients) ls
+uses_of_loans : (x n : ℕ) (ls : List Ledger) → AllByRecursion HeldEntry (rows_of_loans entry_in own_entries x n ls)
     → AllByRecursion (λ u. HeldReceipt (receipt_in x u)) (uses_from n ls)
-uses_of_loans k staffed clients x n [] low_x few all = tt
-uses_of_loans k staffed clients x n (l ∷ ls) low_x few all =
+uses_of_loans x n [] held = tt
+uses_of_loans x n (l ∷ ls) held =
+    let parts = all_parts HeldEntry (map (entry_in x n) l.entries) (rows_of_loans entry_in own_entries x (n + 1) ls)
+    held in
     all-append (λ u. HeldReceipt (receipt_in x u)) (uses_in n l.entries) (uses_from (n + 1) ls)
-    (uses_of_loan k.day staffed x n l.loan.periods (disbursed_on l.loan.stage) l.entries low_x (omega (arith, few))
-    all.0.entries)
-    (uses_of_loans k staffed clients x (n + 1) ls low_x (omega (arith, few)) all.1)
+    (uses_held x n l.entries parts.0) (uses_of_loans x (n + 1) ls parts.1)
 
-carried_held : (k : Catalogue) (staffed : Caller → Bool) (fs : List Office) → AllByRecursion (IsSoundOffice k staffed)
-    fs → AllByRecursion HeldReceipt (receipts_carried fs)
-carried_held k staffed [] all = tt
-carried_held k staffed (f ∷ fs) all =
+carried_held : (fs : List Office) → AllByRecursion HeldEntry (entry_rows fs)
+    → AllByRecursion HeldReceipt (receipts_carried fs)
+carried_held [] held = tt
+carried_held (f ∷ fs) held =
+    let parts = all_parts HeldEntry (rows_of_loans entry_in own_entries f.number 1 f.rows.loans) (entry_rows fs)
+    held in
     all-append HeldReceipt (map (receipt_in f.number) (uses_from 1 f.rows.loans)) (receipts_carried fs)
     (all_map HeldReceipt (receipt_in f.number) (uses_from 1 f.rows.loans)
-    (uses_of_loans k staffed f.rows.clients f.number 1 f.rows.loans all.0.number.1
-    (let most = all.0.rows.loan_limit in omega (arith, most)) all.0.rows.loans))
-    (carried_held k staffed fs all.1)
+    (uses_of_loans f.number 1 f.rows.loans parts.0)) (carried_held fs parts.1)
 
 pub held_receipts : (i : Institution) → IsSound i → CanHoldRows (table.receipts).columns receipt_row
     (tables_of i).receipts
-held_receipts i sound =
-    all_map (HasFields (table.receipts).columns) receipt_row (tables_of i).receipts
+held_receipts i sound = all_map (HasFields (table.receipts).columns) receipt_row (tables_of i).receipts
     (all_sorted by_receipt HeldReceipt (receipts_carried i.offices)
-    (carried_held i.catalogue (is_staff i.offices) i.offices sound.each))
+    (carried_held i.offices (entry_rows_held i sound)))

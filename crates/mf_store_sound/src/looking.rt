@@ -5,10 +5,10 @@ ghost use Rattle.sqlite.specs.Files.{file_state, HoldsDatabase};
 ghost use Rattle.sqlite.specs.State.{HasCleanDisk};
 ghost use Rattle.sqlite.specs.Tree.{Trees};
 ghost use Rattle.sqlite_wal.specs.Files.{image_at};
-ghost use Rattle.mf_store_files.specs.Opened.{ShowsFile};
-ghost use Rattle.mf_store_files.specs.Told.{IsToldOfFile, finding_of};
+ghost use Rattle.mf_store_sound.specs.Files.{ShowsFile};
+ghost use Rattle.mf_store_sound.specs.Told.{IsToldOfFile, finding_of};
 
-use crate::files::connect;
+use crate::connecting::connect;
 use crate::judging::{Contents, judge};
 use mf_store_schema::remove_bare_log;
 use sqlite::{Connection, Error, ErrorCode, FileFrom, FileStore, Start, Unknown};
