@@ -21,16 +21,17 @@ use Rattle.mf_store_schema.specs.Rows.{Lists, by_instalment}
 use Rattle.mf_store_schema.specs.Writes.{after_write}
 use Rattle.mf_store_commits.specs.ChangeWrites.{change_writes, instalments_put, schedule_put, shares_put}
 use Rattle.mf_store_values.specs.Flat.{instalment_in, share_in, parts_from, instalments_kept, shares_kept, kept_of}
-use Rattle.mf_store_values.specs.Flat.{instalment_rows, share_rows}
+use Rattle.mf_store_values.specs.Flat.{instalment_rows, share_rows, rows_by_loan}
+use Rattle.std.proofs.Common.{Ordering, nat_cmp}
+use Rattle.std.specs.Ordering.{ordering_then}
 use Rattle.mf_store_commits.proofs.AccountRowLemmas.{none_before}
 use Rattle.mf_store_values.proofs.BlockLemmas.{AroundAt, around_same}
-use Rattle.mf_store_commits.proofs.BroughtLemmas.{all_steps}
 use Rattle.mf_store_commits.proofs.ChangedRowLemmas.{instalments_changed, shares_changed, after_both}
 use Rattle.mf_store_commits.proofs.ChangedRowLemmas.{instalments_written, shares_written, schedule_written}
-use Rattle.mf_store_commits.proofs.InstalmentRowLemmas.{loan_place, instalment_step, fresh_put_around}
+use Rattle.mf_store_commits.proofs.StepLemmas.{all_steps, loan_place, instalment_step, fresh_put_around, share_place}
+use Rattle.mf_store_commits.proofs.StepLemmas.{share_step}
 use Rattle.mf_store_values.proofs.LoanRowLemmas.{rows_around}
 use Rattle.mf_store_values.proofs.PutLemmas.{put_all}
-use Rattle.mf_store_commits.proofs.ShareRowLemmas.{share_place, share_step}
 
 -- ---- entries
 
@@ -55,51 +56,36 @@ pub record IsChanged (k : Catalogue) (l : Ledger) (account : KeptAccount) : Type
   pub kept : IsReplayed account
   pub change : IsChange before account.loan account.change
 
--- what is kept of an account that is there
-kept_where : {A : Type 0} (read : DisbursedLoan → List A) (k : Catalogue) (l : Ledger) (a : DisbursedLoan)
-    → account_in k l ≡ Some a
-    → kept_of read k l ≡ read a
-kept_where read k l a is = ap (of_account [] read) is
-
 module _ (k : Catalogue) (x n : ℕ) (l : Ledger) (account : KeptAccount) (changed : IsChanged k l account) (new : Rows)
     (fs : List Office) (up : Ascending fs) (at : item_numbered (rows_of (office_at x fs)).loans n ≡ Some l)
     (is : new.loans ≡ with_numbered n (with_entries account.loan.entries) (rows_of (office_at x fs)).loans) where
-  abbrev later : Ledger
-  later = with_entries account.loan.entries l
-
   abbrev rows : List Instalment
   rows = (state_of_loan account.loan).rows
 
   abbrev settled : ℕ → List SettledPart
   settled s = settled_in s (settled_of_loan account.loan)
 
+  -- other rows stand round those that are read off its account
+  read_around : {A R : Type 0} (make : ℕ → ℕ → A → R) (read : DisbursedLoan → List A) (place : ℕ → ℕ → R → Ordering)
+      → ((x n y m : ℕ) (a : A) → place x n (make y m a) ≡ ordering_then (nat_cmp x y) (nat_cmp n m))
+      → AroundAt (place x n) (rows_by_loan make (kept_of read k) fs) (rows_by_loan make (kept_of read k)
+      (with_rows x new fs)) (map (make x n) (read changed.before)) (map (make x n) (read account.loan))
+  read_around {A} make read place keyed =
+      subst (λ (b : List A × List A). AroundAt (place x n) (rows_by_loan make (kept_of read k) fs)
+      (rows_by_loan make (kept_of read k) (with_rows x new fs)) (map (make x n) b.0) (map (make x n) b.1))
+      (λ t. (of_account [] read (changed.was t), of_account [] read (changed.now t)))
+      (rows_around make (kept_of read k) place keyed x n (with_entries account.loan.entries) l new fs up at is)
+
   instalments_brought : all_steps (instalment_step x n rows) account.change.rows (instalment_rows k fs)
       ≡ instalment_rows k (with_rows x new fs)
   instalments_brought =
       instalments_changed x n changed.before account.loan account.change changed.sound changed.then changed.same
-      changed.change (subst (λ (b : List (ℕ × Instalment) × List (ℕ × Instalment)). AroundAt (loan_place x n)
-      (instalment_rows k fs)
-      (instalment_rows k (with_rows x new fs)) (map (instalment_in x n) b.0) (map (instalment_in x n) b.1))
-      (λ t. (
-        kept_where instalments_kept k l changed.before changed.was t,
-        kept_where instalments_kept k later
-            account.loan changed.now t,
-      )) (rows_around instalment_in (kept_of instalments_kept k) loan_place (λ x n y m a. refl) x n
-      (with_entries account.loan.entries) l new fs up at is))
+      changed.change (read_around instalment_in instalments_kept loan_place (λ x n y m a. refl))
 
   shares_brought : all_steps (share_step x n settled) account.change.seqs (share_rows k fs)
       ≡ share_rows k (with_rows x new fs)
-  shares_brought =
-      shares_changed x n changed.before account.loan account.change changed.sound changed.more changed.change
-      (subst (λ (b : List (ℕ × (ℕ × SettledPart)) × List (ℕ × (ℕ × SettledPart))). AroundAt (share_place x n)
-      (share_rows k fs)
-      (share_rows k (with_rows x new fs)) (map (share_in x n) b.0) (map (share_in x n) b.1))
-      (λ t. (
-        kept_where shares_kept k l changed.before changed.was t,
-        kept_where shares_kept k later account.loan
-            changed.now t,
-      )) (rows_around share_in (kept_of shares_kept k) share_place
-      (λ x n y m a. refl) x n (with_entries account.loan.entries) l new fs up at is))
+  shares_brought = shares_changed x n changed.before account.loan account.change changed.sound changed.more
+      changed.change (read_around share_in shares_kept share_place (λ x n y m a. refl))
 
   -- the writes of the change bring all rows to what the replay has
   pub change_written : (lists : Lists) → lists.instalments ≡ instalment_rows k fs → lists.shares ≡ share_rows k fs

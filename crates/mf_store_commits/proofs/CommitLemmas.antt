@@ -3,6 +3,8 @@ use Rattle.std.proofs.Common.{◌≡◌, ◌<◌, ◌+◌, ℕ, zero, suc, Bool,
 use Rattle.std.proofs.Common.{None, Some, refl, sym, ap, ◌∙◌, arith, ◌==◌, nat_lt, true≢false, Less, Greater, nat_cmp}
 use Rattle.std.specs.Option.{is_some, option_map}
 use Rattle.std.specs.List.{AllByRecursion}
+use Rattle.std.proofs.Common.{inl, inr}
+use Rattle.std.proofs.lemmas.Bool.{cases_Bool, eqb-true, ltb-true, false_from_ne_true}
 use Rattle.std.proofs.lemmas.Bool.Decides.{nat_tests}
 use Rattle.mf_office.specs.declared.staff.Role.{Role}
 use Rattle.mf_office.specs.Keys.{key_of, key_within, key_under, child_key}
@@ -140,15 +142,13 @@ key_kept : (n : ℕ) (ps qs : ℕ → Option ℕ) (there : ℕ → Bool) → ((x
     ≡ key_within n ps x
 unfolding key_within
 key_kept zero ps qs there closed alike x h = refl
-key_kept (suc n) ps qs there closed alike x h =
-    go (ps x) refl (λ p e. key_kept n ps qs there closed alike p (closed x p h e))
+key_kept (suc n) ps qs there closed alike x h = ap (λ o. key_under o (λ p. key_within n qs p) x) (alike x h)
+    ∙ go (ps x) (λ p e. key_kept n ps qs there closed alike p (closed x p h e))
   where
-    go : (o : Option ℕ) → ps x ≡ o → ((p : ℕ) → ps x ≡ Some p → key_within n qs p ≡ key_within n ps p)
-        → key_within (suc n) qs x ≡ key_within (suc n) ps x
-    go None e more = ap (λ o. key_under o (λ p. key_within n qs p) x) (alike x h ∙ e)
-        ∙ sym (ap (λ o. key_under o (λ p. key_within n ps p) x) e)
-    go (Some p) e more = ap (λ o. key_under o (λ p. key_within n qs p) x) (alike x h ∙ e) ∙ ap (λ k. child_key k x)
-        (more p e) ∙ sym (ap (λ o. key_under o (λ p. key_within n ps p) x) e)
+    go : (o : Option ℕ) → ((p : ℕ) → o ≡ Some p → key_within n qs p ≡ key_within n ps p)
+        → key_under o (λ p. key_within n qs p) x ≡ key_under o (λ p. key_within n ps p) x
+    go None more = refl
+    go (Some p) more = ap (λ k. child_key k x) (more p refl)
 
 -- what stands of a new office, and of the others
 module _ (new : Office) (fs : List Office) (free : office_at new.number fs ≡ None) where
@@ -169,12 +169,8 @@ module _ (new : Office) (fs : List Office) (free : office_at new.number fs ≡ N
 
 -- an office that is there is another than one that isn't
 apart : (x y : ℕ) (fs : List Office) → office_at x fs ≡ None → is_there fs y ≡ true → (x == y) ≡ false
-apart x y fs none there = go (x == y) refl
-  where
-    go : (b : Bool) → (x == y) ≡ b → b ≡ false
-    go false e = refl
-    go true e = let same : x ≡ y = grind (arith, nat_tests) in
-        absurd (true≢false (sym there ∙ ap (λ z. is_some (office_at z fs)) (sym same) ∙ ap is_some none))
+apart x y fs none there = false_from_ne_true (x == y) (λ e. true≢false (sym there
+    ∙ ap (λ z. is_some (office_at z fs)) (sym (eqb-true x y e)) ∙ ap is_some none))
 
 -- offices whose keys are the same under both
 under_alike : (ps qs : ℕ → Option ℕ) (fs : List Office) → AllByRecursion (λ (f : Office). key_of qs f.number
@@ -186,34 +182,31 @@ under_alike ps qs (f ∷ fs) all = ap (λ k. record { number = f.number; parent 
 office_put : (ps : ℕ → Option ℕ) (new : Office) (fs : List Office) → Ascending fs → office_at new.number fs ≡ None
     → put_item by_office (office_under ps new) (map (office_under ps) fs) ≡ map (office_under ps) (with_office new fs)
 office_put ps new [] up none = refl
-office_put ps new (f ∷ fs) up none =
-    go (f.number == new.number) refl none (nat_lt new.number f.number) refl (office_put ps new fs up.1)
-  where
-    all_above : (n : ℕ) (gs : List Office) → new.number < n → Above n gs
-        → AllByRecursion (λ y. by_office (office_under ps new) y ≡ Less) (map (office_under ps) gs)
-    all_above n [] low h = tt
-    all_above n (h ∷ hs) low up = (
-      (let high : n < h.number = up.0 in let less : nat_cmp new.number h.number
-          ≡ Less = grind (arith, nat_tests) in less),
-      all_above n hs low up.1,
-    )
-
-    go : (d : Bool) → (f.number == new.number) ≡ d → cond d (Some f) (office_at new.number fs) ≡ None → (b : Bool)
-        → nat_lt new.number f.number ≡ b
-        → (office_at new.number fs ≡ None → put_item by_office (office_under ps new) (map (office_under ps) fs)
-        ≡ map (office_under ps) (with_office new fs))
-        → put_item by_office (office_under ps new) (map (office_under ps) (f ∷ fs)) ≡ map (office_under ps)
-        (cond b (new ∷ f ∷ fs) (f ∷ with_office new fs))
-    go true e none b l more = absurd (let k : Some f ≡ None = none in cc)
-    go false e none true l more =
-        let low : new.number < f.number = grind (arith, nat_tests) in
+office_put ps new (f ∷ fs) up none = elim (cases_Bool (f.number == new.number)) [
+  | inl e ↦ absurd (let k = rw e at none in cc)
+  | inr e ↦ elim (cases_Bool (nat_lt new.number f.number)) [
+    | inl l ↦
+        let low : new.number < f.number = ltb-true new.number f.number l in
         let less : nat_cmp new.number f.number ≡ Less = grind (arith, nat_tests) in
-        put_first by_office (office_under ps new) (map (office_under ps) (f ∷ fs))
-        (less, all_above f.number fs low up.0)
-    go false e none false l more =
+        put_first by_office (office_under ps new) (map (office_under ps) (f ∷ fs)) (less, above f.number fs low up.0)
+        ∙ ap placed (sym l)
+    | inr l ↦
         let high : nat_cmp new.number f.number ≡ Greater = grind (arith, nat_tests) in
         put_past by_office (office_under ps new) (office_under ps f) (map (office_under ps) fs) high
-        ∙ ap (λ l. office_under ps f ∷ l) (more none)
+        ∙ ap (λ l. office_under ps f ∷ l) (office_put ps new fs up.1 (rw e at none)) ∙ ap placed (sym l)
+  ]
+]
+  where
+    placed : Bool → List OfficeRow
+    placed b = map (office_under ps) (cond b (new ∷ f ∷ fs) (f ∷ with_office new fs))
+
+    above : (n : ℕ) (gs : List Office) → new.number < n → Above n gs
+        → AllByRecursion (λ y. by_office (office_under ps new) y ≡ Less) (map (office_under ps) gs)
+    above n [] low h = tt
+    above n (h ∷ hs) low up = (
+      (let high : n < h.number = up.0 in let less : nat_cmp new.number h.number ≡ Less = grind (arith, nat_tests) in less),
+      above n hs low up.1,
+    )
 
 pub all_there : (fs gs : List Office) (P : Office → Type 0) → Ascending gs → ((f : Office) → is_there gs f.number ≡ true
     → P f) → AllByRecursion P gs
@@ -221,16 +214,11 @@ all_there fs [] P up each = tt
 all_there fs (f ∷ gs) P up each = (
   each f (let same : (f.number == f.number) ≡ true = grind (arith, nat_tests) in
       rw same),
-  all_there fs gs P up.1 (λ h there. each h (seen f h there)),
+  all_there fs gs P up.1 (λ h there. each h (elim (cases_Bool (f.number == h.number)) [
+    | inl e ↦ rw e
+    | inr e ↦ rw e there
+  ])),
 )
-  where
-    seen : (f h : Office) → is_there gs h.number ≡ true → is_some (cond (f.number == h.number) (Some f)
-        (office_at h.number gs)) ≡ true
-    seen f h there = go (f.number == h.number)
-      where
-        go : (b : Bool) → is_some (cond b (Some f) (office_at h.number gs)) ≡ true
-        go true = refl
-        go false = there
 
 -- an office that was there keeps its key when another is added
 pub office_key_kept : (x parent : ℕ) (name : List ℕ) (i : Institution) → IsSound i → office_at x i.offices ≡ None
@@ -314,13 +302,11 @@ none_there (Some x) h = absurd (true≢false h)
 
 pub number_at : (x : ℕ) (fs : List Office) → (f : Office) → office_at x fs ≡ Some f → f.number ≡ x
 number_at x [] f h = absurd (let k : None ≡ Some f = h in cc)
-number_at x (e ∷ fs) f h = go (e.number == x) refl h (number_at x fs f)
-  where
-    go : (b : Bool) → (e.number == x) ≡ b → cond b (Some e) (office_at x fs) ≡ Some f → (office_at x fs ≡ Some f
-        → f.number ≡ x) → f.number ≡ x
-    go true same h more = let k : Some e ≡ Some f = h in let is : e ≡ f =
-        cc in ap (λ (o : Office). o.number) (sym is) ∙ (let n : e.number ≡ x = grind (arith, nat_tests) in n)
-    go false same h more = more h
+number_at x (e ∷ fs) f h = elim (cases_Bool (e.number == x)) [
+  | inl same ↦ let k : Some e ≡ Some f = rw same at h in let is : e ≡ f = cc in
+      ap (λ (o : Office). o.number) (sym is) ∙ eqb-true e.number x same
+  | inr other ↦ number_at x fs f (rw other at h)
+]
 
 pub office_known : (found : Option (List ℕ)) (key : List ℕ) (x : ℕ) (i : Institution) → found ≡ Some key
     → found ≡ key_at x i → (is_there i.offices x ≡ true) × (key ≡ key_of (parent_of i.offices) x)

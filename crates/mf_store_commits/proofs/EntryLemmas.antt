@@ -13,9 +13,11 @@ use Rattle.mf_model.specs.Loans.{with_entries}
 use Rattle.mf_model.specs.Store.{rows_of}
 use Rattle.mf_model.specs.Tree.{Ascending}
 use Rattle.mf_store_schema.specs.Rows.{by_entry, is_entry_of}
+use Rattle.mf_store_schema.specs.declared.entries.EntryRow.{EntryRow}
+use Rattle.sqlite_keyed.proofs.ListLemmas.{all_map, all_weaker}
 use Rattle.mf_store_values.specs.Flat.{entry_in, own_entries, entry_rows, ledger_entries, reversed_entry}
 use Rattle.mf_store_values.proofs.PutLemmas.{put_past, put_over}
-use Rattle.mf_store_commits.proofs.InstalmentRowLemmas.{decided, own_key}
+use Rattle.mf_store_commits.proofs.StepLemmas.{then_assoc, own_key}
 use Rattle.mf_store_values.proofs.LoanRowLemmas.{loan_shown, rows_around}
 use Rattle.mf_store_values.proofs.PutLemmas.{put_past_all, put_around}
 
@@ -36,10 +38,9 @@ AreEarlier seq entries = AllByRecursion (λ (e : Entry). e.seq < seq) entries
 
 earlier_rows : (x n : ℕ) (e : Entry) (es : List Entry) → AreEarlier e.seq es
     → AllByRecursion (λ r. by_entry (entry_in x n e) r ≡ Greater) (map (entry_in x n) es)
-earlier_rows x n e [] a = tt
-earlier_rows x n e (d ∷ es) a =
-    let low : d.seq < e.seq = a.0 in
-    (own_key x n e.seq d.seq Greater (grind (arith, nat_tests, low)), earlier_rows x n e es a.1)
+earlier_rows x n e es early = all_map (λ r. by_entry (entry_in x n e) r ≡ Greater) (entry_in x n) es
+    (all_weaker (λ (d : Entry). d.seq < e.seq) (λ d. by_entry (entry_in x n e) (entry_in x n d) ≡ Greater)
+    (λ d low. own_key x n (nat_cmp e.seq d.seq) ∙ grind (arith, nat_tests, low)) es early)
 
 -- one more entry
 pub puts_last : (x n : ℕ) (e : Entry) (es : List Entry) → AreEarlier e.seq es → PutsEntry x n e es (es ++ e ∷ [])
@@ -59,7 +60,7 @@ later_rows : (x n m : ℕ) (e : Entry) (es : List Entry) → e.seq ≤ m → Are
     → AllByRecursion (λ r. by_entry (entry_in x n e) r ≡ Less) (map (entry_in x n) es)
 later_rows x n m e [] low are = tt
 later_rows x n m e (d ∷ es) low are = let first = are 0 (omega arith) in (
-  own_key x n e.seq d.seq Less (grind (arith, nat_tests, first, low)),
+  own_key x n (nat_cmp e.seq d.seq) ∙ grind (arith, nat_tests, first, low),
   later_rows x n (m + 1) e es (omega (arith, low)) (later_numbered m d es are),
 )
 
@@ -70,13 +71,13 @@ puts_reversed x n m k [] are low = absurd (omega (arith, low))
 puts_reversed x n m zero (e ∷ es) are low =
     let first = are 0 (omega arith) in
     put_over by_entry (entry_in x n (reversed_entry e)) (entry_in x n e) (map (entry_in x n) es)
-    (own_key x n e.seq e.seq Equal (grind (arith, nat_tests)))
+    (own_key x n (nat_cmp e.seq e.seq) ∙ grind (arith, nat_tests))
     (later_rows x n (m + 1) (reversed_entry e) es (omega (arith, first)) (later_numbered m e es are))
 puts_reversed x n m (suc k) (e ∷ es) are low =
     let first = are 0 (omega arith) in
     let this = are (suc k) low in
     put_past by_entry (entry_in x n (reversed_entry (entry_at es k))) (entry_in x n e) (map (entry_in x n) es)
-    (own_key x n (entry_at es k).seq e.seq Greater (grind (arith, nat_tests, first, this)))
+    (own_key x n (nat_cmp (entry_at es k).seq e.seq) ∙ grind (arith, nat_tests, first, this))
     ∙ ap (λ rows. entry_in x n e ∷ rows) (puts_reversed x n (m + 1) k es (later_numbered m e es are)
     (omega (arith, low)))
 
@@ -101,8 +102,10 @@ pub entry_put : (x n : ℕ) (e : Entry) (es : List Entry) (l : Ledger) (new : Ro
     (rows_of (office_at x fs)).loans → PutsEntry x n e l.entries es
     → put_item by_entry (entry_in x n e) (entry_rows fs) ≡ entry_rows (with_rows x new fs)
 entry_put x n e es l new fs up at is puts =
-    put_around by_entry (entry_in x n e) (λ s h. decided Greater (nat_cmp x s.office) (nat_cmp n s.loan)
-    (nat_cmp e.seq s.seq) refl h) (λ s h. decided Less (nat_cmp x s.office) (nat_cmp n s.loan)
-    (nat_cmp e.seq s.seq) refl
-    h) (rows_around entry_in own_entries (λ x n s. ordering_then (nat_cmp x s.office) (nat_cmp n s.loan))
+    put_around by_entry (entry_in x n e) (λ s h. cut s ∙ ap (λ o. ordering_then o (nat_cmp e.seq s.seq)) h)
+    (λ s h. cut s ∙ ap (λ o. ordering_then o (nat_cmp e.seq s.seq)) h) (rows_around entry_in own_entries (λ x n s. ordering_then (nat_cmp x s.office) (nat_cmp n s.loan))
     (λ x n y m a. refl) x n (with_entries es) l new fs up at is) puts
+  where
+    cut : (s : EntryRow) → by_entry (entry_in x n e) s
+        ≡ ordering_then (ordering_then (nat_cmp x s.office) (nat_cmp n s.loan)) (nat_cmp e.seq s.seq)
+    cut s = then_assoc (nat_cmp x s.office) (nat_cmp n s.loan) (nat_cmp e.seq s.seq)

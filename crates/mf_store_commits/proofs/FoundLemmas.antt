@@ -1,8 +1,9 @@
 -- The row of an entry by its number, among the rows of all entries.
 use Rattle.std.proofs.Common.{◌≡◌, ◌<◌, ◌+◌, ℕ, zero, suc, Bool, true, false, cond, ◌&&◌, List, [], ◌∷◌, map, filter}
 use Rattle.std.proofs.Common.{find, length, None, Some, IsSome, refl, sym, ap, ◌∙◌, subst, arith, Ordering, Less, Equal}
-use Rattle.std.proofs.Common.{Greater, is_eq, nat_cmp}
+use Rattle.std.proofs.Common.{Greater, is_eq, nat_cmp, inl, inr}
 use Rattle.std.specs.Ordering.{ordering_then}
+use Rattle.std.proofs.lemmas.Bool.{cases_Bool}
 use Rattle.std.proofs.lemmas.Bool.Decides.{nat_tests}
 use Rattle.mf_account.specs.declared.entry.Entry.{Entry}
 use Rattle.mf_model.specs.Institution.{Institution, Ledger, item_numbered}
@@ -16,12 +17,10 @@ use Rattle.mf_store_commits.proofs.EntryLemmas.{AreEarlier, AreNumbered, later_n
 find_filtered : {A : Type 0} (p q r : A → Bool) → ((x : A) → r x ≡ (p x && q x)) → (xs : List A)
     → find r xs ≡ find q (filter p xs)
 find_filtered p q r is [] = refl
-find_filtered p q r is (x ∷ xs) = ap (λ b. cond b (Some x) (find r xs)) (is x) ∙ go (p x) (find_filtered p q r is xs)
-  where
-    go : (b : Bool) → find r xs ≡ find q (filter p xs) → cond (b && q x) (Some x) (find r xs)
-        ≡ find q (cond b (x ∷ filter p xs) (filter p xs))
-    go true more = ap (λ o. cond (q x) (Some x) o) more
-    go false more = more
+find_filtered p q r is (x ∷ xs) = elim (cases_Bool (p x)) [
+  | inl e ↦ rw (is x, e) (ap (λ o. cond (q x) (Some x) o) (find_filtered p q r is xs))
+  | inr e ↦ rw (is x, e) (find_filtered p q r is xs)
+]
 
 three : (a b c : Ordering) → is_eq (ordering_then a (ordering_then b c)) ≡ (is_eq (ordering_then a b) && is_eq c)
 three Less b c = refl
@@ -52,8 +51,7 @@ entry_by_number x n s l i sound there =
 -- a number that is greater than all is free
 pub number_free : (x n s : ℕ) (es : List Entry) → AreEarlier s es → find (has_seq s) (map (entry_in x n) es) ≡ None
 number_free x n s [] early = refl
-number_free x n s (d ∷ es) early = ap (λ b. cond b (Some (entry_in x n d)) (find (has_seq s) (map (entry_in x n) es)))
-    (other_number s d.seq early.0) ∙ number_free x n s es early.1
+number_free x n s (d ∷ es) early = rw (other_number s d.seq early.0) (number_free x n s es early.1)
 
 -- one of those that there are is not
 pub number_there : (x n m k s : ℕ) (es : List Entry) → AreNumbered m es → k < length es → s ≡ m + k + 1
@@ -61,10 +59,8 @@ pub number_there : (x n m k s : ℕ) (es : List Entry) → AreNumbered m es → 
 number_there x n m k s [] are low is = absurd (omega (arith, low))
 number_there x n m zero s (d ∷ es) are low is =
     let first = are 0 (omega arith) in
-    subst (λ o. IsSome o) (sym (ap (λ b. cond b (Some (entry_in x n d)) (find (has_seq s) (map (entry_in x n) es)))
-    (same_number s d.seq (omega (arith, first, is))))) refl
+    rw (same_number s d.seq (omega (arith, first, is)))
 number_there x n m (suc k) s (d ∷ es) are low is =
     let first = are 0 (omega arith) in
-    subst (λ o. IsSome o) (sym (ap (λ b. cond b (Some (entry_in x n d)) (find (has_seq s) (map (entry_in x n) es)))
-    (other_number s d.seq (omega (arith, first, is)))))
+    rw (other_number s d.seq (omega (arith, first, is)))
     (number_there x n (m + 1) k s es (later_numbered m d es are) (omega (arith, low)) (omega (arith, is)))

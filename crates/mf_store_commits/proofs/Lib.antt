@@ -1,11 +1,8 @@
 pub mod PushLemmas
-pub mod BroughtLemmas
-pub mod InstalmentRowLemmas
-pub mod ShareRowLemmas
+pub mod StepLemmas
 pub mod AccountRowLemmas
 pub mod EntryLemmas
 pub mod FoundLemmas
-pub mod SortedLemmas
 pub mod ReceiptRowLemmas
 pub mod ChangedRowLemmas
 pub mod AccountCommitLemmas
@@ -14,6 +11,5 @@ pub mod CatalogueLemmas
 pub mod EnteredLemmas
 pub mod LoanLemmas
 pub mod SuitLemmas
-pub mod FirstLemmas
 pub mod StandLemmas
 pub mod EnteringLemmas

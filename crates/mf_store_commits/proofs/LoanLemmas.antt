@@ -2,6 +2,8 @@
 use Rattle.std.proofs.Common.{◌≡◌, ◌≤◌, ◌+◌, ◌-◌, ℕ, Bool, true, false, cond, ◌==◌, List, [], ◌∷◌, ◌++◌, map, length}
 use Rattle.std.proofs.Common.{slice_get, Option, None, Some, refl, sym, ap, ◌∙◌, subst, arith}
 use Rattle.std.specs.Option.{option_map}
+use Rattle.std.proofs.Common.{inl, inr}
+use Rattle.std.proofs.lemmas.Bool.{cases_Bool}
 use Rattle.std.proofs.lemmas.List.{map-append, length-map}
 use Rattle.std.proofs.lemmas.Option.{slice_get-map}
 use Rattle.mf_account.specs.declared.entry.Entry.{Entry}
@@ -53,34 +55,24 @@ loan_of l = l.loan
 
 pub numbered_loan : (ls : List Ledger) (n : ℕ) → item_numbered (map loan_of ls) n
     ≡ option_map loan_of (item_numbered ls n)
-numbered_loan ls n = go (n == 0)
-  where
-    go : (b : Bool) → cond b None (slice_get (map loan_of ls) (n - 1))
-        ≡ option_map loan_of (cond b None (slice_get ls (n - 1)))
-    go true = refl
-    go false = slice_get-map loan_of ls (n - 1)
+numbered_loan ls n = elim (cases_Bool (n == 0)) [ inl e ↦ rw e | inr e ↦ rw e (slice_get-map loan_of ls (n - 1)) ]
 
 -- what is read off each thing, where one of them is changed
 map_changed : {A B : Type 0} (g : A → B) (f : A → A) (h : B → B) → ((a : A) → g (f a) ≡ h (g a)) → (n : ℕ) (xs : List A)
     → map g (with_numbered n f xs) ≡ with_numbered n h (map g xs)
 map_changed g f h is n [] = refl
-map_changed g f h is n (x ∷ xs) = go (n == 1) (map_changed g f h is (n - 1) xs)
-  where
-    go : (b : Bool) → map g (with_numbered (n - 1) f xs) ≡ with_numbered (n - 1) h (map g xs)
-        → map g (cond b (f x ∷ xs) (x ∷ with_numbered (n - 1) f xs))
-        ≡ cond b (h (g x) ∷ map g xs) (g x ∷ with_numbered (n - 1) h (map g xs))
-    go true more = ap (λ b. b ∷ map g xs) (is x)
-    go false more = ap (λ rest. g x ∷ rest) more
+map_changed g f h is n (x ∷ xs) = elim (cases_Bool (n == 1)) [
+  | inl e ↦ rw e (ap (λ b. b ∷ map g xs) (is x))
+  | inr e ↦ rw e (ap (λ rest. g x ∷ rest) (map_changed g f h is (n - 1) xs))
+]
 
 -- a change that changes nothing
 none_changed : {A : Type 0} (n : ℕ) (xs : List A) → with_numbered n (λ x. x) xs ≡ xs
 none_changed n [] = refl
-none_changed n (x ∷ xs) = go (n == 1) (none_changed (n - 1) xs)
-  where
-    go : (b : Bool) → with_numbered (n - 1) (λ x. x) xs ≡ xs
-        → cond b (x ∷ xs) (x ∷ with_numbered (n - 1) (λ x. x) xs) ≡ x ∷ xs
-    go true more = refl
-    go false more = ap (λ rest. x ∷ rest) more
+none_changed n (x ∷ xs) = elim (cases_Bool (n == 1)) [
+  | inl e ↦ rw e
+  | inr e ↦ rw e (ap (λ rest. x ∷ rest) (none_changed (n - 1) xs))
+]
 
 -- ---- the commits
 

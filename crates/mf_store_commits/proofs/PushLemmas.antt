@@ -1,10 +1,7 @@
 -- Writes that are added to a list in turn.
 use Rattle.std.proofs.Common.{◌≡◌, ◌<◌, ◌+◌, ℕ, zero, suc, List, [], ◌∷◌, ◌++◌, map, length, take, get_or, sym, ap}
 use Rattle.std.proofs.Common.{ap₂, ◌∙◌, arith}
-use Rattle.std.proofs.lemmas.List.{take_more, map-append, append_assoc, append-nil}
-use Rattle.mf_account.specs.declared.settled.SettledPart.{SettledPart}
-use Rattle.mf_store_schema.specs.declared.writes.StoreWrite.{StoreWrite}
-use Rattle.mf_store_commits.specs.ChangeWrites.{shares_put, shares_replaced}
+use Rattle.std.proofs.lemmas.List.{map-append, append_assoc}
 use Rattle.mf_store_values.specs.Flat.{numbered_from}
 
 numbered_more : {A R : Type 0} (make : ℕ → A → R) (m n : ℕ) (xs : List A) (x : A) → n < length xs
@@ -28,21 +25,3 @@ numbered_pushed f make xs n x first old new low is more before =
     ∙ sym (ap (λ k. map f (numbered_from make 1 (take k xs))) (let next : n + 1 ≡ suc n = omega arith in next)
     ∙ ap (map f) (numbered_more make 1 n xs x low) ∙ map-append f (numbered_from make 1 (take n xs))
     (make (1 + n) (get_or xs n x) ∷ [])))
-
-shares_more : (x n : ℕ) (settled : List SettledPart) (seqs : List ℕ) (seq : ℕ)
-    → shares_put x n settled (seqs ++ seq ∷ [])
-    ≡ shares_put x n settled seqs ++ shares_replaced x n settled seq
-shares_more x n settled [] seq = append-nil (shares_replaced x n settled seq)
-shares_more x n settled (s ∷ seqs) seq = ap (λ l. shares_replaced x n settled s ++ l) (shares_more x n settled seqs seq)
-    ∙ sym (append_assoc (shares_replaced x n settled s) (shares_put x n settled seqs) (shares_replaced x n settled seq))
-
--- the writes of one entry more
-pub shares_pushed : (x n : ℕ) (settled : List SettledPart) (seqs : List ℕ) (k seq : ℕ) (first old new : List StoreWrite)
-    → k < length seqs → seq ≡ get_or seqs k seq → new ≡ old ++ shares_replaced x n settled seq → old ≡ first
-    ++ shares_put x n settled (take k seqs) → new ≡ first ++ shares_put x n settled (take (k + 1) seqs)
-shares_pushed x n settled seqs k seq first old new low is more before =
-    more ∙ ap (λ l. l ++ shares_replaced x n settled seq) before
-    ∙ append_assoc first (shares_put x n settled (take k seqs)) (shares_replaced x n settled seq)
-    ∙ ap (λ l. first ++ l) (ap (λ s. shares_put x n settled (take k seqs) ++ shares_replaced x n settled s) is
-    ∙ sym (ap (shares_put x n settled) (take_more seqs k seq low) ∙ shares_more x n settled (take k seqs)
-    (get_or seqs k seq)))
