@@ -59,19 +59,3 @@ pub none_before : {A : Type 0} (read : DisbursedLoan → List A) (k : Catalogue)
     ≡ None
     → kept_of read k l ≡ []
 none_before read k l e = ap (λ d. of_account [] read (running_from l.loan l.entries d (terms_in k l.loan.product))) e
-
--- ---- both tables, where no account changes
-
--- the rows of instalments and of shares are the same
-pub record SameRows (k h : Catalogue) (fs gs : List Office) : Type 0 where
-  pub instalments : instalment_rows k fs ≡ instalment_rows h gs
-  pub shares : share_rows k fs ≡ share_rows h gs
-
--- as the catalogue grows
-pub catalogue_same : (k h : Catalogue) (staffed : Caller → Bool) (fs : List Office) → TermsStand k h
-    → AllByRecursion (IsSoundOffice k staffed) fs → SameRows k h fs fs
-catalogue_same k h staffed fs stand sound = record {
-  instalments = rows_stand instalment_in instalments_kept k h staffed
-      fs stand sound;
-  shares = rows_stand share_in shares_kept k h staffed fs stand sound;
-}

@@ -20,7 +20,8 @@ use Rattle.mf_store_schema.specs.Writes.{FitsLists, after_write}
 use Rattle.mf_store_schema.specs.declared.writes.StoreWrite.{StoreWrite}
 use Rattle.mf_store_commits.specs.Becoming.{Becomes}
 use Rattle.mf_model.proofs.Growing.{numbered_with, terms_charge, terms_push, terms_with}
-use Rattle.mf_store_commits.proofs.AccountRowLemmas.{TermsStand, SameRows, catalogue_same}
+use Rattle.mf_store_commits.proofs.AccountRowLemmas.{TermsStand, rows_stand}
+use Rattle.mf_store_values.specs.Flat.{instalment_in, share_in, instalments_kept, shares_kept}
 use Rattle.mf_store_values.proofs.FlatLemmas.{put_listed, put_listed_last}
 
 -- no account changes as the catalogue grows, where products give the terms that they gave
@@ -34,13 +35,11 @@ grown writes h i before sound stand fits is = record {
   sound = sound;
   fits = fits;
   is = is ∙ (λ t. Some (record (tables_of (record i { catalogue = h })) {
-    instalments = accounts.instalments t;
-    shares = accounts.shares t;
+    instalments = rows_stand instalment_in instalments_kept i.catalogue h (is_staff i.offices) i.offices stand
+        before.each t;
+    shares = rows_stand share_in shares_kept i.catalogue h (is_staff i.offices) i.offices stand before.each t;
   }));
 }
-  where
-    accounts : SameRows i.catalogue h i.offices i.offices
-    accounts = catalogue_same i.catalogue h (is_staff i.offices) i.offices stand before.each
 
 pub day_becomes : (day : ℕ) (i : Institution) (m : MetaRow) → IsSound i → IsSound (after_commit (SetDay day) i)
     → m.one ≡ 1 → m.schema ≡ 2 → m.day ≡ day_text day → Becomes (PutMeta m ∷ []) i (after_commit (SetDay day) i)

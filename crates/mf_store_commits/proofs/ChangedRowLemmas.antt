@@ -97,18 +97,15 @@ instalments_changed x n before after_write change sound then same is w =
 
 -- ---- what its entries settle
 
-parts_none : (f : ℕ → List SettledPart) (m c : ℕ) → ((k : ℕ) → m ≤ k → f k ≡ []) → parts_from f m c ≡ []
-parts_none f m zero none = refl
-parts_none f m (suc c) none = ap (λ ps. placed_parts m ps ++ parts_from f (m + 1) c) (none m (omega arith))
-    ∙ parts_none f (m + 1) c (λ k low. none k (omega (arith, low)))
-
-parts_longer : (f : ℕ → List SettledPart) (m a d : ℕ) → ((k : ℕ) → m + a ≤ k → f k ≡ []) → parts_from f m (a + d)
-    ≡ parts_from f m a
-parts_longer f m zero d none = ap (parts_from f m) (let same : 0 + d ≡ d = omega arith in same)
-    ∙ parts_none f m d (λ k low. none k (omega (arith, low)))
-parts_longer f m (suc a) d none =
-    ap (parts_from f m) (let same : suc a + d ≡ suc (a + d) = omega arith in same)
-    ∙ ap (λ rest. placed_parts m (f m) ++ rest) (parts_longer f (m + 1) a d (λ k low. none k (omega (arith, low))))
+-- entries that settle nothing make no difference
+parts_longer : (f : ℕ → List SettledPart) (m a c : ℕ) → a ≤ c → ((k : ℕ) → m + a ≤ k → f k ≡ [])
+    → parts_from f m a ≡ parts_from f m c
+parts_longer f m zero zero low none = refl
+parts_longer f m zero (suc c) low none = rw (none m (omega arith))
+    (parts_longer f (m + 1) zero c (omega arith) (λ k high. none k (omega (arith, high))))
+parts_longer f m (suc a) zero low none = absurd (omega (arith, low))
+parts_longer f m (suc a) (suc c) low none = ap (λ rest. placed_parts m (f m) ++ rest)
+    (parts_longer f (m + 1) a c (omega (arith, low)) (λ k high. none k (omega (arith, high))))
 
 -- no entry past the last settles anything
 none_settled : (a : DisbursedLoan) (k : ℕ) → IsSoundDisbursed a → length a.entries < k
@@ -124,24 +121,16 @@ pub shares_changed : (x n : ℕ) (before after_write : DisbursedLoan) (change : 
     → all_steps (share_step x n (λ s. settled_in s (settled_of_loan after_write))) change.seqs all ≡ other
 shares_changed x n before after_write change sound more is {all} {other} w =
     let c = length after_write.entries in
-    let a = length before.entries in
-    let whole : a + (c - a) ≡ c = omega (arith, more) in
-    let same = ap (parts_from old 1) (sym whole) ∙ parts_longer old 1 a (c - a)
-    (λ k low. none_settled before k sound (omega (arith, low))) in
+    let old : ℕ → List SettledPart = λ s. settled_in s (settled_of_loan before) in
+    let new : ℕ → List SettledPart = λ s. settled_in s (settled_of_loan after_write) in
     shares_replaced_around x n c old new change.seqs
     (λ s has. let all = All-contains (λ i. (1 ≤ i) × (i ≤ c) × HasOtherParts (settled_of_loan before)
     (settled_of_loan after_write) i) change.seqs s is.seqs.each has in (all.0, all.1))
     (λ k first last. dite (List-discrete decided_part (old k) (new k)) (λ alike. inl alike)
     (λ apart. inr (is.seqs.all k first last apart)))
     (subst (λ ps. AroundAt (share_place x n) all other (map (share_in x n) ps)
-    (map (share_in x n) (shares_kept after_write)))
-    (sym same) w)
-  where
-    old : ℕ → List SettledPart
-    old s = settled_in s (settled_of_loan before)
-
-    new : ℕ → List SettledPart
-    new s = settled_in s (settled_of_loan after_write)
+    (map (share_in x n) (shares_kept after_write))) (parts_longer old 1 (length before.entries) c more
+    (λ k low. none_settled before k sound (omega (arith, low)))) w)
 
 -- ---- the writes
 
@@ -198,6 +187,11 @@ all_plain Fit fit [] plain lists = tt
 all_plain Fit fit (w ∷ ws) plain lists =
     let is = plain.0 lists in
     (fit w lists is.2 is.3, subst (AllFit after_write Fit ws) (sym is.1) (all_plain Fit fit ws plain.1 is.0))
+
+-- so they fit
+pub all_fit : (ws : List StoreWrite) → AllByRecursion IsPlain ws → (lists : Lists)
+    → AllFit after_write FitsLists ws (Some lists)
+all_fit = all_plain FitsLists (λ w lists fits suits. fits)
 
 pub schedule_plain : (x n : ℕ) (numbered : List (ℕ × Instalment)) → AllByRecursion IsPlain (schedule_put x n numbered)
 schedule_plain x n numbered =

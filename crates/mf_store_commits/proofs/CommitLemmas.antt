@@ -238,47 +238,36 @@ pub office_becomes : (x parent : ℕ) (name key : List ℕ) (i : Institution) (o
     → o ≡ record { number = x; parent = Some parent; hkey = child_key key x; name = name }
     → Becomes (PutOffice o ∷ []) i (after_commit (AddOffice x parent name) i)
 unfolding key_of
-office_becomes x parent name key i o before sound trees free there key_is is = record {
-  sound = sound;
-  fits = (refl, tt);
-  is = λ t. Some (record (tables_of i) {
-    offices = offices t;
-    staff = no_rows_of staff_in (λ rows. rows.staff) refl new fs refl t;
-    clients = no_rows_of client_in (λ rows. rows.clients) refl new fs refl t;
-    loans = no_rows_of loan_in loans_of refl new fs refl t;
-    entries = none_in_office entry_in own_entries new fs refl t;
-    receipts = no_receipts_in new fs refl t;
-    instalments = none_in_office instalment_in (kept_of instalments_kept i.catalogue) new fs refl t;
-    shares = none_in_office share_in (kept_of shares_kept i.catalogue) new fs refl t;
-  });
-}
-  where
-    fs : List Office
-    fs = i.offices
-
-    new : Office
-    new = new_office x parent name
-
-    ps : ℕ → Option ℕ
-    ps = parent_of fs
-
-    qs : ℕ → Option ℕ
-    qs = parent_of (with_office new fs)
-
-    kept_key : (y : ℕ) → is_there fs y ≡ true → key_of qs y ≡ key_of ps y
-    kept_key y here = office_key_kept x parent name i before free y here
-
-    row_is : record { number = x; parent = Some parent; hkey = child_key key x; name = name } ≡ office_under qs new
-    row_is = ap (λ k. record { number = x; parent = Some parent; hkey = k; name = name })
-        (ap (λ k. child_key k x) (key_is ∙ sym (kept_key parent there))
-        ∙ sym (key_of-child (is_there (with_office new fs)) qs (trees (after_commit (AddOffice x parent name) i) sound)
-        x parent (new_there new fs free) (parent_of-new new fs free)))
-
-    offices : put_item by_office o (map (office_under ps) fs) ≡ map (office_under qs) (with_office new fs)
-    offices = ap (λ r. put_item by_office r (map (office_under ps) fs)) (is ∙ row_is)
-        ∙ ap (put_item by_office (office_under qs new)) (under_alike ps qs fs (all_there fs fs (λ f. key_of qs f.number
-        ≡ key_of ps f.number) before.tree.ascending (λ f here. kept_key f.number here)))
-        ∙ office_put qs new fs before.tree.ascending free
+office_becomes x parent name key i o before sound trees free there key_is is =
+    let fs = i.offices in
+    let new = new_office x parent name in
+    let ps = parent_of fs in
+    let qs = parent_of (with_office new fs) in
+    let kept : (y : ℕ) → is_there fs y ≡ true → key_of qs y ≡ key_of ps y =
+    office_key_kept x parent name i before free in
+    let key_new : child_key key x ≡ key_of qs x = ap (λ k. child_key k x) (key_is ∙ sym (kept parent there))
+    ∙ sym (key_of-child (is_there (with_office new fs)) qs (trees (after_commit (AddOffice x parent name) i) sound)
+    x parent (new_there new fs free) (parent_of-new new fs free)) in
+    let offices : put_item by_office o (map (office_under ps) fs) ≡ map (office_under qs) (with_office new fs) =
+    ap (λ r. put_item by_office r (map (office_under ps) fs)) (is
+    ∙ ap (λ k. record { number = x; parent = Some parent; hkey = k; name = name }) key_new)
+    ∙ ap (put_item by_office (office_under qs new)) (under_alike ps qs fs (all_there fs fs (λ f. key_of qs f.number
+    ≡ key_of ps f.number) before.tree.ascending (λ f here. kept f.number here)))
+    ∙ office_put qs new fs before.tree.ascending free in
+    record {
+      sound = sound;
+      fits = (refl, tt);
+      is = λ t. Some (record (tables_of i) {
+        offices = offices t;
+        staff = no_rows_of staff_in (λ rows. rows.staff) refl new fs refl t;
+        clients = no_rows_of client_in (λ rows. rows.clients) refl new fs refl t;
+        loans = no_rows_of loan_in loans_of refl new fs refl t;
+        entries = none_in_office entry_in own_entries new fs refl t;
+        receipts = no_receipts_in new fs refl t;
+        instalments = none_in_office instalment_in (kept_of instalments_kept i.catalogue) new fs refl t;
+        shares = none_in_office share_in (kept_of shares_kept i.catalogue) new fs refl t;
+      });
+    }
 
 -- ---- the rows that the code makes
 

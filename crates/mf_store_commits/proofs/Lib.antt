@@ -12,4 +12,3 @@ pub mod EnteredLemmas
 pub mod LoanLemmas
 pub mod SuitLemmas
 pub mod StandLemmas
-pub mod EnteringLemmas

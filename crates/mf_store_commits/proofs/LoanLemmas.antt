@@ -41,7 +41,7 @@ use Rattle.mf_store_values.specs.ReceiptRows.{receipt_rows, receipt_added, entry
 use Rattle.mf_store_commits.specs.Becoming.{Becomes}
 use Rattle.mf_store_commits.proofs.AccountCommitLemmas.{IsChanged, change_written, schedule_there, staged_shares}
 use Rattle.mf_store_commits.proofs.AccountRowLemmas.{none_before}
-use Rattle.mf_store_commits.proofs.ChangedRowLemmas.{after_both, fit_both, all_plain, change_plain, schedule_plain}
+use Rattle.mf_store_commits.proofs.ChangedRowLemmas.{after_both, fit_both, all_fit, change_plain, schedule_plain}
 use Rattle.mf_store_commits.proofs.CommitLemmas.{loans_become}
 use Rattle.mf_store_commits.proofs.EntryLemmas.{AreEarlier, AreNumbered, PutsEntry, puts_last, puts_reversed, entry_put}
 use Rattle.mf_store_values.proofs.LoanRowLemmas.{same_by_loan, one_more_loan, change_alone}
@@ -79,34 +79,27 @@ none_changed n (x ∷ xs) = elim (cases_Bool (n == 1)) [
 pub loan_becomes : (x : ℕ) (l : Loan) (i : Institution) (r : LoanRow) → IsSound i
     → IsSound (after_commit (AddLoan x l) i) → is_there i.offices x ≡ true → disbursed_on l.stage ≡ None → r
     ≡ loan_in x (length (rows_at x i).loans + 1) l → Becomes (write.AddLoan r ∷ []) i (after_commit (AddLoan x l) i)
-loan_becomes x l i r before sound there none is = record {
-  sound = sound;
-  fits = (refl, tt);
-  is = ap Some (loans_become x new i before refl refl (ap (λ r. put_item by_loan r (tables_of i).loans) (is
-      ∙ ap (λ n. loan_in x (n + 1) l) (sym (length-map loans loan_of)))
-      ∙ put_row_of loan_in loans_of refl by_loan (λ x n y m a b. refl) x l new i.offices up there
-      (map-append loan_of loans (added ∷ [])))
-      (same_by_loan entry_in own_entries x new i.offices up (one_more_loan entry_in own_entries added loans refl))
-      (same_receipts_of x new i.offices up (uses_push 1 l loans))
-      (unkept instalment_in instalments_kept) (unkept share_in shares_kept));
-}
-  where
-    loans : List Ledger
-    loans = (rows_at x i).loans
-
-    added : Ledger
-    added = record { loan = l; entries = [] }
-
-    new : Rows
-    new = loan_added l (rows_at x i)
-
-    up : Ascending i.offices
-    up = before.tree.ascending
-
-    unkept : {A R : Type 0} (make : ℕ → ℕ → A → R) (read : DisbursedLoan → List A) → rows_by_loan make
-        (kept_of read i.catalogue) i.offices ≡ rows_by_loan make (kept_of read i.catalogue) (with_rows x new i.offices)
-    unkept make read = same_by_loan make (kept_of read i.catalogue) x new i.offices up (one_more_loan make
-        (kept_of read i.catalogue) added loans (none_before read i.catalogue added none))
+loan_becomes x l i r before sound there none is =
+    let loans = (rows_at x i).loans in
+    let added : Ledger = record { loan = l; entries = [] } in
+    let new = loan_added l (rows_at x i) in
+    let up = before.tree.ascending in
+    record {
+      sound = sound;
+      fits = (refl, tt);
+      is = ap Some (loans_become x new i before refl refl (ap (λ r. put_item by_loan r (tables_of i).loans) (is
+          ∙ ap (λ n. loan_in x (n + 1) l) (sym (length-map loans loan_of)))
+          ∙ put_row_of loan_in loans_of refl by_loan (λ x n y m a b. refl) x l new i.offices up there
+          (map-append loan_of loans (added ∷ [])))
+          (same_by_loan entry_in own_entries x new i.offices up (one_more_loan entry_in own_entries added loans refl))
+          (same_receipts_of x new i.offices up (uses_push 1 l loans))
+          (same_by_loan instalment_in (kept_of instalments_kept i.catalogue) x new i.offices up
+          (one_more_loan instalment_in (kept_of instalments_kept i.catalogue) added loans
+          (none_before instalments_kept i.catalogue added none)))
+          (same_by_loan share_in (kept_of shares_kept i.catalogue) x new i.offices up
+          (one_more_loan share_in (kept_of shares_kept i.catalogue) added loans
+          (none_before shares_kept i.catalogue added none))));
+    }
 
 -- where a loan that was not disbursed comes to a stage, its row is put, and those of its instalments
 module _ (account : Account) (stage : Stage) (l : Ledger) (i : Institution) (before : IsSound i)
@@ -145,11 +138,7 @@ module _ (account : Account) (stage : Stage) (l : Ledger) (i : Institution) (bef
       (after_commit (SetStage account stage) i)
   staged_becomes sound = record {
     sound = sound;
-    fits = (
-      refl,
-      all_plain FitsLists (λ w ls fits suits. fits) schedule (schedule_plain account.office account.number
-          (kept_of instalments_kept i.catalogue (with_stage stage l))) _,
-    );
+    fits = (refl, all_fit schedule (schedule_plain account.office account.number _) _);
     is = schedule_there i.catalogue account.office account.number l stage staged_rows i.offices before.tree.ascending
         there refl none without _ refl ∙ ap Some row_staged;
   }
@@ -196,7 +185,7 @@ module _ (loan : Account) (account : KeptAccount) (l : Ledger) (i : Institution)
   with_change writes lists sound fits first instalments shares is = record {
     sound = sound;
     fits = fit_both writes change (Some (tables_of i)) fits (subst (AllFit after_write FitsLists change) (sym first)
-        (all_plain FitsLists (λ w ls fits suits. fits) change (change_plain x loan.number account) lists));
+        (all_fit change (change_plain x loan.number account) lists));
     is = after_both writes change (Some (tables_of i)) ∙ ap (after_all after_write change) first
         ∙ change_written i.catalogue x loan.number l account changed new i.offices before.tree.ascending there refl
         lists instalments shares ∙ ap Some is;

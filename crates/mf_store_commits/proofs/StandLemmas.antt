@@ -1,4 +1,4 @@
--- What tables stand for after a query and after a commit.
+-- What tables stand for after a query and after a commit, and the commit that writes make.
 use Rattle.std.proofs.Common.{◌≡◌, inl, inr, List, [], ◌∷◌, Some, Result, Ok, Err, IfOk, OnOk, OnErr, IsTrue}
 use Rattle.std.proofs.Common.{refl, sym, ap, ◌∙◌, subst, arith}
 use Rattle.sqlite.specs.Tree.{Trees}
@@ -18,25 +18,12 @@ use Rattle.mf_store_schema.specs.Writes.{schema_of, Holds, after_write, FitsList
 use Rattle.mf_store_schema.specs.declared.writes.StoreWrite.{StoreWrite}
 use Rattle.mf_store_commits.specs.Tabled.{IsTabled, HasGoodDisk, LeavesTables, StayTabled}
 use Rattle.mf_store_commits.specs.Becoming.{Becomes}
-
--- ---- F20 in place of the store's own error
-
-module _ {A : Type 0} (answer : Result A Error) (r : Result A Fault) where
-  cases : {P : Type 0} → IfOk answer (λ x. r ≡ Ok x) → OnErr answer (r ≡ Err F20) → ((x : A) → answer ≡ Ok x → r ≡ Ok x
-      → P) → ((e : Error) → answer ≡ Err e → r ≡ Err F20 → P) → P
-  cases {P} ok err on_ok on_err = go answer refl ok err
-    where
-      go : (a : Result A Error) → answer ≡ a → IfOk a (λ x. r ≡ Ok x) → OnErr a (r ≡ Err F20) → P
-      go (Ok x) is ok err = on_ok x is ok
-      go (Err e) is ok err = on_err e is err
-
-  pub on_ok : (P : Type 0) → IfOk answer (λ x. r ≡ Ok x) → OnErr answer (r ≡ Err F20) → OnOk answer P → OnOk r P
-  on_ok P ok err h = cases ok err (λ x a b. subst (λ o. OnOk o P) (sym b) (subst (λ o. OnOk o P) a h))
-      (λ e a b. subst (λ o. OnOk o P) (sym b) tt)
-
-  pub on_err : (P : Type 0) → IfOk answer (λ x. r ≡ Ok x) → OnErr answer (r ≡ Err F20) → OnErr answer P → OnErr r P
-  on_err P ok err h = cases ok err (λ x a b. subst (λ o. OnErr o P) (sym b) tt) (λ e a b. subst (λ o. OnErr o P) (sym b)
-      (subst (λ o. OnErr o P) a h))
+use Rattle.std.proofs.Common.{◌≡◌, List, [], ◌∷◌, Result, IfErr, OnOk, OnErr}
+use Rattle.std.proofs.lemmas.Result.{on_ok_weaker, on_err_weaker}
+use Rattle.sqlite.specs.Held.{Held}
+use Rattle.mf_model.specs.declared.commit.Commit.{Commit}
+use Rattle.mf_model.specs.Store.{Commits, IsAdmitted, after_commit}
+use Rattle.mf_store_commits.specs.Tabled.{IsTabled, HasGoodDisk, LeavesTables}
 
 module _ {S : Type 0} (g : Ghosts S) where
   module _ (old new : Held S) where
@@ -115,3 +102,24 @@ module _ {S : Type 0} (g : Ghosts S) where
               (s.serves wrote.was_open) b.fits))
         ];
       }
+
+-- writes that make the change of each institution that admits it commit it
+pub made_by : {S : Type 0} (g : Ghosts S) (commit : Commit) (old new : Held S) (writes : List StoreWrite)
+    (r : Result (Unit {0}) Fault)
+    → ((i : Institution) → IsTabled g old i → IsAdmitted commit i → Becomes writes i (after_commit commit i))
+    → (HasGoodDisk g new → HasGoodDisk g old) → IfErr r (λ fault. fault ≡ F20)
+    → (HasGoodDisk g new → OnOk r ((i j : Institution) → IsTabled g old i → Becomes writes i j → IsTabled g new j))
+    → (HasGoodDisk g new → OnOk r ((i j : Institution) → IsTabled g old i → Becomes writes i j
+    → LeavesTables g new (j ∷ [])))
+    → (HasGoodDisk g new → OnErr r ((i : Institution) → IsTabled g old i → IsTabled g new i))
+    → (HasGoodDisk g new → (i j : Institution) (is : List Institution) → IsTabled g old i → Becomes writes i j
+    → LeavesTables g old is → LeavesTables g new (j ∷ is))
+    → Commits (IsTabled g) (HasGoodDisk g) (LeavesTables g) commit old new r
+made_by g commit old new writes r becomes premise gives_up made left same stop = record {
+  premise = premise;
+  made = λ clean i s admitted. on_ok_weaker r (λ m. m i (after_commit commit i) s (becomes i s admitted)) (made clean);
+  kept = λ clean i s admitted. on_ok_weaker r (λ m. m i (after_commit commit i) s (becomes i s admitted)) (left clean);
+  same = λ clean i s. on_err_weaker r (λ m. m i s) (same clean);
+  gives_up = gives_up;
+  stop = λ clean i is s admitted l. stop clean i (after_commit commit i) is s (becomes i s admitted) l;
+}
