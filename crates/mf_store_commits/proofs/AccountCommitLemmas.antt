@@ -88,25 +88,22 @@ module _ (k : Catalogue) (x n : ℕ) (l : Ledger) (account : KeptAccount) (chang
       changed.change (read_around share_in shares_kept share_place (λ x n y m a. refl))
 
   -- the writes of the change bring all rows to what the replay has
-  pub change_written : (lists : Lists) → lists.instalments ≡ instalment_rows k fs → lists.shares ≡ share_rows k fs
-      → after_all after_write (change_writes x n account) (Some lists)
+  pub change_written : (lists : Lists) → after_all after_write (change_writes x n account)
+      (Some (record lists { instalments = instalment_rows k fs; shares = share_rows k fs }))
       ≡ Some (record lists {
         instalments = instalment_rows k (with_rows x new fs);
         shares = share_rows k (with_rows x new fs);
       })
-  change_written lists instalments shares =
-      ap (λ ws. after_all after_write ws (Some lists)) (ap₂ (λ r s. instalments_put x n r account.change.rows
+  change_written lists =
+      let old : Lists = record lists { instalments = instalment_rows k fs; shares = share_rows k fs } in
+      ap (λ ws. after_all after_write ws (Some old)) (ap₂ (λ r s. instalments_put x n r account.change.rows
       ++ shares_put x n s account.change.seqs) (ap (λ (s : State). s.rows) changed.kept.state) changed.kept.settled)
       ∙ after_both (instalments_put x n rows account.change.rows) (shares_put x n (settled_of_loan account.loan)
-      account.change.seqs) (Some lists)
+      account.change.seqs) (Some old)
       ∙ ap (after_all after_write (shares_put x n (settled_of_loan account.loan) account.change.seqs))
-      (instalments_written x n rows account.change.rows lists)
+      (instalments_written x n rows account.change.rows old)
       ∙ shares_written x n (settled_of_loan account.loan) account.change.seqs _
-      ∙ (λ t. Some (record lists {
-        instalments = (ap (all_steps (instalment_step x n rows) account.change.rows) instalments
-            ∙ instalments_brought) t;
-        shares = (ap (all_steps (share_step x n settled) account.change.seqs) shares ∙ shares_brought) t;
-      }))
+      ∙ (λ t. Some (record lists { instalments = instalments_brought t; shares = shares_brought t }))
 
 -- ---- stages
 
@@ -147,13 +144,9 @@ module _ (k : Catalogue) (x n : ℕ) (l : Ledger) (stage : Stage) (new : Rows) (
       (ap (map (share_in x n)) (none_before shares_kept k l before ∙ sym (unshared (account_in k then) refl)))
 
   -- the rows of the schedule bring all rows to what the replay has
-  pub schedule_there : (lists : Lists) → lists.instalments ≡ instalment_rows k fs
-      → after_all after_write (schedule_put x n (kept_of instalments_kept k then)) (Some lists)
+  pub schedule_there : (lists : Lists) → after_all after_write (schedule_put x n (kept_of instalments_kept k then))
+      (Some (record lists { instalments = instalment_rows k fs }))
       ≡ Some (record lists { instalments = instalment_rows k (with_rows x new fs) })
-  schedule_there lists instalments =
-      schedule_written x n (kept_of instalments_kept k then) lists
-      ∙ (λ t. Some
-      (record lists {
-        instalments = (ap (put_all by_instalment (map (instalment_in x n) (kept_of instalments_kept k then)))
-            instalments ∙ schedule_brought) t;
-      }))
+  schedule_there lists =
+      schedule_written x n (kept_of instalments_kept k then) (record lists { instalments = instalment_rows k fs })
+      ∙ (λ t. Some (record lists { instalments = schedule_brought t }))

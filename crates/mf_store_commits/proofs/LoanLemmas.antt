@@ -104,44 +104,34 @@ loan_becomes x l i r before sound there none is =
 -- where a loan that was not disbursed comes to a stage, its row is put, and those of its instalments
 module _ (account : Account) (stage : Stage) (l : Ledger) (i : Institution) (before : IsSound i)
     (there : ledger_at account i ≡ Some l) (none : disbursed_on l.loan.stage ≡ None) (without : l.entries ≡ []) where
-  abbrev staged_rows : Rows
-  staged_rows = loan_staged account.number stage (rows_at account.office i)
-
-  abbrev staged_offices : List Office
-  staged_offices = with_rows account.office staged_rows i.offices
-
   abbrev put_row : LoanRow
   put_row = loan_in account.office account.number (record l.loan { stage = stage })
-
-  row_staged : ◌≡◌ {A = Lists} (record (tables_of i) {
-    loans = put_item by_loan put_row (tables_of i).loans;
-    instalments = instalment_rows i.catalogue staged_offices;
-  }) (tables_of (after_commit (SetStage account stage) i))
-  row_staged =
-      let x = account.office in
-      let up = before.tree.ascending in
-      loans_become x staged_rows i before refl refl
-      (put_over_of loan_in loans_of refl by_loan (λ x n y m a b. refl) (λ l. record l { stage = stage }) l.loan x
-      account.number staged_rows i.offices up (numbered_loan (rows_at x i).loans account.number
-      ∙ ap (option_map loan_of) there) (map_changed loan_of (with_stage stage) (λ l. record l { stage = stage })
-      (λ l. refl) account.number (rows_at x i).loans))
-      (same_by_loan entry_in own_entries x staged_rows i.offices up
-      (change_alone entry_in own_entries account.number (with_stage stage) (rows_at x i).loans (λ k. refl)))
-      (same_receipts_of x staged_rows i.offices up (uses_with account.number 1 (with_stage stage)
-      (rows_at x i).loans (λ l k. refl))) refl
-      (staged_shares i.catalogue x account.number l stage staged_rows i.offices up there refl none without)
 
   abbrev pub schedule : List StoreWrite
   schedule = schedule_put account.office account.number (kept_of instalments_kept i.catalogue (with_stage stage l))
 
   pub staged_becomes : IsSound (after_commit (SetStage account stage) i) → Becomes (write.PutLoan put_row ∷ schedule) i
       (after_commit (SetStage account stage) i)
-  staged_becomes sound = record {
-    sound = sound;
-    fits = (refl, all_fit schedule (schedule_plain account.office account.number _) _);
-    is = schedule_there i.catalogue account.office account.number l stage staged_rows i.offices before.tree.ascending
-        there refl none without _ refl ∙ ap Some row_staged;
-  }
+  staged_becomes sound =
+      let x = account.office in
+      let n = account.number in
+      let loans = (rows_at x i).loans in
+      let new = loan_staged n stage (rows_at x i) in
+      let up = before.tree.ascending in
+      record {
+        sound = sound;
+        fits = (refl, all_fit schedule (schedule_plain x n _) _);
+        is = schedule_there i.catalogue x n l stage new i.offices up there refl none without
+            (record (tables_of i) { loans = put_item by_loan put_row (tables_of i).loans })
+            ∙ ap Some (loans_become x new i before refl refl
+            (put_over_of loan_in loans_of refl by_loan (λ x n y m a b. refl) (λ l. record l { stage = stage }) l.loan x n
+            new i.offices up (numbered_loan loans n ∙ ap (option_map loan_of) there)
+            (map_changed loan_of (with_stage stage) (λ l. record l { stage = stage }) (λ l. refl) n loans))
+            (same_by_loan entry_in own_entries x new i.offices up
+            (change_alone entry_in own_entries n (with_stage stage) loans (λ k. refl)))
+            (same_receipts_of x new i.offices up (uses_with n 1 (with_stage stage) loans (λ l k. refl))) refl
+            (staged_shares i.catalogue x n l stage new i.offices up there refl none without));
+      }
 
 -- what a change of a loan's entries leaves of the rows of its office
 module _ (loan : Account) (account : KeptAccount) (l : Ledger) (i : Institution) (before : IsSound i)
@@ -156,40 +146,28 @@ module _ (loan : Account) (account : KeptAccount) (l : Ledger) (i : Institution)
   abbrev now : List Office
   now = with_rows x new i.offices
 
-  entries_changed : {e : List EntryRow} {q : List ReceiptRow} → e ≡ entry_rows now → q ≡ receipt_rows now
-      → ◌≡◌ {A = Lists} (record (tables_of i) {
-        entries = e;
-        receipts = q;
-        instalments = instalment_rows i.catalogue
-            now;
-        shares = share_rows i.catalogue now;
-      }) (tables_of (after_commit (AddEntry loan account) i))
-  entries_changed entries receipts = loans_become x new i before refl refl (same_rows_of loan_in loans_of refl x new
-      i.offices before.tree.ascending (map_changed loan_of (with_entries account.loan.entries) (λ l. l) (λ l. refl)
-      loan.number (rows_at x i).loans ∙ none_changed loan.number (map loan_of (rows_at x i).loans))) entries
-      receipts refl refl
-
   abbrev change : List StoreWrite
   change = change_writes x loan.number account
 
-  -- these writes and then those of the change
-  with_change : (writes : List StoreWrite) (lists : Lists) → IsSound (after_commit (AddEntry loan account) i)
-      → AllFit after_write FitsLists writes (Some (tables_of i)) → after_all after_write writes (Some (tables_of i))
-      ≡ Some lists
-      → lists.instalments ≡ instalment_rows i.catalogue i.offices → lists.shares ≡ share_rows i.catalogue i.offices
-      → ◌≡◌ {A = Lists} (record lists {
-        instalments = instalment_rows i.catalogue now;
-        shares = share_rows i.catalogue now;
-      }) (tables_of (after_commit (AddEntry loan account) i))
-      → Becomes (writes ++ change) i (after_commit (AddEntry loan account) i)
-  with_change writes lists sound fits first instalments shares is = record {
-    sound = sound;
-    fits = fit_both writes change (Some (tables_of i)) fits (subst (AllFit after_write FitsLists change) (sym first)
-        (all_fit change (change_plain x loan.number account) lists));
-    is = after_both writes change (Some (tables_of i)) ∙ ap (after_all after_write change) first
-        ∙ change_written i.catalogue x loan.number l account changed new i.offices before.tree.ascending there refl
-        lists instalments shares ∙ ap Some is;
-  }
+  -- writes that make these rows of entries and receipts, and then those of the change
+  with_change : {e : List EntryRow} {q : List ReceiptRow} (writes : List StoreWrite)
+      → IsSound (after_commit (AddEntry loan account) i) → AllFit after_write FitsLists writes (Some (tables_of i))
+      → after_all after_write writes (Some (tables_of i)) ≡ Some (record (tables_of i) { entries = e; receipts = q })
+      → e ≡ entry_rows now → q ≡ receipt_rows now → Becomes (writes ++ change) i (after_commit (AddEntry loan account) i)
+  with_change {e} {q} writes sound fits first entries receipts =
+      let lists : Lists = record (tables_of i) { entries = e; receipts = q } in
+      let up = before.tree.ascending in
+      let loans = (rows_at x i).loans in
+      record {
+        sound = sound;
+        fits = fit_both writes change (Some (tables_of i)) fits (subst (AllFit after_write FitsLists change) (sym first)
+            (all_fit change (change_plain x loan.number account) lists));
+        is = after_both writes change (Some (tables_of i)) ∙ ap (after_all after_write change) first
+            ∙ change_written i.catalogue x loan.number l account changed new i.offices up there refl lists
+            ∙ ap Some (loans_become x new i before refl refl (same_rows_of loan_in loans_of refl x new i.offices up
+            (map_changed loan_of (with_entries account.loan.entries) (λ l. l) (λ l. refl) loan.number loans
+            ∙ none_changed loan.number (map loan_of loans))) entries receipts refl refl);
+      }
 
   -- ---- one entry more: its own row, and that of its receipt
 
@@ -205,12 +183,12 @@ module _ (loan : Account) (account : KeptAccount) (l : Ledger) (i : Institution)
     row_becomes : (o : Option (List ℕ)) → e.receipt ≡ o → Becomes ((write.AddEntry row ∷ receipt_added row o) ++ change)
         i (after_commit (AddEntry loan account) i)
     row_becomes None none =
-        with_change (write.AddEntry row ∷ []) _ sound (refl, tt) refl refl refl (entries_changed row_put (no_receipt_put
-        x loan.number e account.loan.entries l new i.offices before.tree.ascending there refl are none))
+        with_change (write.AddEntry row ∷ []) sound (refl, tt) refl row_put (no_receipt_put x loan.number e
+        account.loan.entries l new i.offices before.tree.ascending there refl are none)
     row_becomes (Some r) some =
-        with_change (write.AddEntry row ∷ receipt_added row (Some r)) _ sound (refl, (refl, tt)) refl refl refl
-        (entries_changed row_put (receipt_put x loan.number e account.loan.entries l new i.offices
-        before.tree.ascending there refl are r some apart))
+        with_change (write.AddEntry row ∷ receipt_added row (Some r)) sound (refl, (refl, tt)) refl row_put
+        (receipt_put x loan.number e account.loan.entries l new i.offices before.tree.ascending there refl are r some
+        apart)
 
     pub entry_becomes : (r : EntryRow) → r ≡ row → Becomes (entry_added r ++ change) i
         (after_commit (AddEntry loan account) i)
@@ -241,6 +219,6 @@ module _ (loan : Account) (account : KeptAccount) (l : Ledger) (i : Institution)
         (after_commit (ReverseEntry loan seq account) i)
     reversal_becomes r is =
         subst (λ s. Becomes (write.ChangeEntry s ∷ change) i (after_commit (ReverseEntry loan seq account) i)) (sym is)
-        (with_change (write.ChangeEntry (entry_in x loan.number entry) ∷ []) _ sound (refl, tt) refl refl refl
-        (entries_changed (entry_put x loan.number entry account.loan.entries l new i.offices before.tree.ascending there
-        refl puts) (same_receipts_of x new i.offices before.tree.ascending same_uses)))
+        (with_change (write.ChangeEntry (entry_in x loan.number entry) ∷ []) sound (refl, tt) refl
+        (entry_put x loan.number entry account.loan.entries l new i.offices before.tree.ascending there refl puts)
+        (same_receipts_of x new i.offices before.tree.ascending same_uses))

@@ -24,6 +24,19 @@ use Rattle.mf_store_values.proofs.BlockLemmas.{Around, AroundAt, around_same, bl
 use Rattle.mf_store_values.proofs.FlatLemmas.{blocks_mapped, all_mapped}
 use Rattle.mf_store_values.proofs.PutLemmas.{put_around, put_over, put_all, put_all_around, AreRising}
 
+-- what stands round one block stands round another
+round : {R : Type 0} {P Q S T : R → Type 0} {old new block changed : List R} → ((s : R) → P s → S s)
+    → ((s : R) → Q s → T s) → (w : Around P Q old new block changed) (b c : List R)
+    → Around S T (w.first ++ (b ++ w.last)) (w.first ++ (c ++ w.last)) b c
+round {P = P} {Q = Q} {S = S} {T = T} low high w b c = record {
+  first = w.first;
+  last = w.last;
+  old_is = refl;
+  new_is = refl;
+  before = all_weaker P S low w.first w.before;
+  after = all_weaker Q T high w.last w.after;
+}
+
 -- ---- steps that each bring the rows of one number
 
 -- the rows after the step of each of these numbers
@@ -51,18 +64,18 @@ module _ {B R : Type 0} (d : B) (new : List B) (block : ℕ → B → List R) (o
       (λ s h. ap₂ ordering_then h.0 (h.1 ∙ is)) (block m b) (own k m b)
 
   -- the steps bring all rows to those of the other list
-  pub steps_bring : {other : List R} (ks : List ℕ) (bs : List B) (all : List R) → length bs ≡ length new
+  pub steps_bring : (ks : List ℕ) (bs : List B) (all other : List R) → length bs ≡ length new
       → AreBut d new ks bs
       → ((k : ℕ) → Contains ks k → (1 ≤ k) × (k ≤ length new))
       → AroundAt outer all other (blocks_from block 1 bs) (blocks_from block 1 new) → all_steps step ks all ≡ other
-  steps_bring [] bs all long but there w =
+  steps_bring [] bs all other long but there w =
       around_same (λ s. outer s ≡ Greater) (λ s. outer s ≡ Less) w (ap (blocks_from block 1) (ext_get_or d bs new long
       (λ i low. elim (but (i + 1) (omega arith) (omega (arith, low))) [
         | inl same ↦ let place : i + 1 - 1 ≡ i = omega arith in
             ap (λ j. get_or bs j d) (sym place) ∙ same ∙ ap (λ j. get_or new j d) place
         | inr named ↦ absurd (Contains-nil (i + 1) named)
       ])))
-  steps_bring (k ∷ ks) bs all long but there w =
+  steps_bring (k ∷ ks) bs all other long but there w =
       let b = get_or new (k - 1) d in
       let is = there k (Contains-head k ks) in
       let least = is.0 in
@@ -72,17 +85,12 @@ module _ {B R : Type 0} (d : B) (new : List B) (block : ℕ → B → List R) (o
       let mid : List R = w.first ++ (blocks_from block 1 cs ++ w.last) in
       let P : R → Type 0 = λ s. key_by outer last k s ≡ Greater in
       let Q : R → Type 0 = λ s. key_by outer last k s ≡ Less in
-      ap (all_steps step ks) (does k (get_or bs (k - 1) d) all mid least most (within P Q (record {
-        first = w.first;
-        last = w.last;
-        old_is = w.old_is;
-        new_is = refl;
-        before = all_weaker (λ s. outer s ≡ Greater) P (λ s h. ap (λ o. ordering_then o (last k s)) h) w.first w.before;
-        after = all_weaker (λ s. outer s ≡ Less) Q (λ s h. ap (λ o. ordering_then o (last k s)) h) w.last w.after;
-      }) (set_around block P Q k (λ m c low. ranked k m Greater (grind (arith, nat_tests, low)) c)
+      ap (all_steps step ks) (ap (step k) w.old_is ∙ does k (get_or bs (k - 1) d) _ mid least most (within P Q
+      (round (λ s h. ap (λ o. ordering_then o (last k s)) h) (λ s h. ap (λ o. ordering_then o (last k s)) h) w
+      (blocks_from block 1 bs) (blocks_from block 1 cs)) (set_around block P Q k (λ m c low. ranked k m Greater (grind (arith, nat_tests, low)) c)
       (λ m c high. ranked k m Less (grind (arith, nat_tests, high)) c) 1 (k - 1) (get_or bs (k - 1) d) b bs
       (omega (arith, least)) (slice_get-get_or bs (k - 1) d (omega (arith, least, most, long))))))
-      ∙ steps_bring ks cs mid (size ∙ long) (λ j low high. elim (cases_eq j k) [
+      ∙ steps_bring ks cs mid (w.first ++ (blocks_from block 1 new ++ w.last)) (size ∙ long) (λ j low high. elim (cases_eq j k) [
         | inl here ↦ inl (ap (λ i. get_or cs (i - 1) d) here ∙ get_or-set_same bs (k - 1) b d
             (omega (arith, least, most, long)) ∙ ap (λ i. get_or new (i - 1) d) (sym here))
         | inr apart ↦ elim (but j low (omega (arith, high, size))) [
@@ -92,14 +100,8 @@ module _ {B R : Type 0} (d : B) (new : List B) (block : ℕ → B → List R) (o
             | inr later ↦ inr later
           ]
         ]
-      ]) (λ j has. there j (Contains-tail k ks j has)) (record {
-        first = w.first;
-        last = w.last;
-        old_is = refl;
-        new_is = w.new_is;
-        before = w.before;
-        after = w.after;
-      })
+      ]) (λ j has. there j (Contains-tail k ks j has)) (round (λ s h. h) (λ s h. h) w (blocks_from block 1 cs)
+      (blocks_from block 1 new)) ∙ sym w.new_is
 
 -- ---- keys of several parts
 
@@ -165,7 +167,7 @@ module _ (x n : ℕ) where
       (instalment_step new) (λ k b was now least most v. put_around by_instalment (instalment_in x n (k, row_at new k))
       (λ s h. in_loan k (row_at new k) s ∙ h) (λ s h. in_loan k (row_at new k) s ∙ h) v
       (put_over by_instalment (instalment_in x n (k, row_at new k)) (instalment_in x n (k, b)) []
-      (own_key x n (nat_cmp k k) ∙ grind (arith, nat_tests)) tt)) ks old all long but there
+      (own_key x n (nat_cmp k k) ∙ grind (arith, nat_tests)) tt)) ks old all other long but there
       (subst (λ (rows : List Instalment → List InstalmentRow). AroundAt (loan_place x n) all other (rows old) (rows new))
       (λ t rows. blocks_mapped (instalment_in x n) pair 1 rows t) w)
 
@@ -234,22 +236,18 @@ module _ (x n : ℕ) where
   replaced : {old new : List ShareRow} (seq : ℕ) (was is : List SettledPart) → AroundAt (key seq) old new
       (entry_parts seq was) (entry_parts seq is) → put_all by_share (entry_parts seq is) (filter (not_of seq) old) ≡ new
   replaced seq was is w =
-      put_fresh by_share (share_in x n) (λ k t. (seq, (k, t)))
+      ap (put_all by_share (entry_parts seq is)) (ap (filter (not_of seq)) w.old_is
+      ∙ filter-append (not_of seq) w.first (entry_parts seq was ++ w.last)
+      ∙ ap₂ ◌++◌ (filter_all (not_of seq) w.first (others Greater refl w.first w.before))
+      (filter-append (not_of seq) (entry_parts seq was) w.last
+      ∙ ap₂ ◌++◌ (filter_none (not_of seq) (entry_parts seq was) (all_mapped (λ s. not_of seq s ≡ false)
+      (share_in x n) (λ k t. (seq, (k, t))) 1 (λ k t low. own) was))
+      (filter_all (not_of seq) w.last (others Less refl w.last w.after))))
+      ∙ put_fresh by_share (share_in x n) (λ k t. (seq, (k, t)))
       (λ k m a b. own_key x n (ordering_then (nat_cmp seq seq) (nat_cmp k m)) ∙ grind (arith, nat_tests))
       (λ k t s h. in_entry seq k t s ∙ ap (λ o. ordering_then o (nat_cmp k s.place)) h)
-      (λ k t s h. in_entry seq k t s ∙ ap (λ o. ordering_then o (nat_cmp k s.place)) h) is (record {
-        first = w.first;
-        last = w.last;
-        old_is = ap (filter (not_of seq)) w.old_is ∙ filter-append (not_of seq) w.first (entry_parts seq was ++ w.last)
-            ∙ ap₂ ◌++◌ (filter_all (not_of seq) w.first (others Greater refl w.first w.before))
-            (filter-append (not_of seq) (entry_parts seq was) w.last
-            ∙ ap₂ ◌++◌ (filter_none (not_of seq) (entry_parts seq was) (all_mapped (λ s. not_of seq s ≡ false)
-            (share_in x n) (λ k t. (seq, (k, t))) 1 (λ k t low. own) was))
-            (filter_all (not_of seq) w.last (others Less refl w.last w.after)));
-        new_is = w.new_is;
-        before = w.before;
-        after = w.after;
-      })
+      (λ k t s h. in_entry seq k t s ∙ ap (λ o. ordering_then o (nat_cmp k s.place)) h) is
+      (round (λ s h. h) (λ s h. h) w [] (entry_parts seq is)) ∙ sym w.new_is
     where
       others : (o : Ordering) → not (is_eq o) ≡ true → (rows : List ShareRow)
           → AllByRecursion (λ s. key seq s ≡ o) rows → AllByRecursion (λ s. not_of seq s ≡ true) rows
@@ -273,7 +271,7 @@ module _ (x n : ℕ) where
       (share_step new) (λ s was before now least most v. replaced s was (new s)
       (subst (λ is. AroundAt (key s) before now (entry_parts s was) (entry_parts s is))
       (placed new s least (omega (arith, most, long))) v))
-      ss (listed old 1 c) all (size ∙ sym long)
+      ss (listed old 1 c) all other (size ∙ sym long)
       (λ s least most. elim (but s least (omega (arith, most, size))) [
         | inl same ↦ inl (placed old s least (omega (arith, most, size)) ∙ same
             ∙ sym (placed new s least (omega (arith, most, size))))
