@@ -24,7 +24,7 @@ use Rattle.mf_store_schema.specs.declared.writes.StoreWrite.{StoreWrite}
 use Rattle.mf_store_schema.specs.declared.writes.StoreWrite.TheVariants.{PutInstalment, PutShare}
 use Rattle.mf_store_commits.specs.ChangeWrites.{schedule_put, instalments_put, shares_replaced, shares_put}
 use Rattle.mf_store_commits.specs.ChangeWrites.{change_writes}
-use Rattle.mf_store_commits.specs.Suiting.{SuitsRows}
+use Rattle.mf_store_commits.specs.Suiting.{SuitsRows, Suits, AllSuit}
 use Rattle.sqlite_keyed.proofs.ListLemmas.{all-append, all-map, all-flat_map, all_of}
 use Rattle.mf_store_values.specs.Flat.{how_number, portion_number, instalment_in, share_in, placed_parts, parts_from}
 use Rattle.mf_store_values.specs.Flat.{instalments_kept, shares_kept}
@@ -170,10 +170,11 @@ schedule_written x n (item ∷ numbered) lists = schedule_written x n numbered _
 
 -- ---- they fit and suit any tables that are there
 
-pub fit_both : (us ws : List StoreWrite) (lists : _) → AllFit after_write FitsLists us lists
-    → AllFit after_write FitsLists ws (after_all after_write us lists) → AllFit after_write FitsLists (us ++ ws) lists
-fit_both [] ws lists first then = then
-fit_both (u ∷ us) ws lists first then = (first.0, fit_both us ws (after_write u lists) first.1 then)
+pub fit_both : (Fit : StoreWrite → Option Lists → Type 0) (us ws : List StoreWrite) (lists : _)
+    → AllFit after_write Fit us lists → AllFit after_write Fit ws (after_all after_write us lists)
+    → AllFit after_write Fit (us ++ ws) lists
+fit_both Fit [] ws lists first then = then
+fit_both Fit (u ∷ us) ws lists first then = (first.0, fit_both Fit us ws (after_write u lists) first.1 then)
 
 -- the write puts or removes rows in any tables, whatever they hold
 abbrev pub IsPlain : StoreWrite → Type 0
@@ -188,10 +189,13 @@ all_plain Fit fit (w ∷ ws) plain lists =
     let is = plain.0 lists in
     (fit w lists is.2 is.3, subst (AllFit after_write Fit ws) (sym is.1) (all_plain Fit fit ws plain.1 is.0))
 
--- so they fit
+-- so they fit, and suit
 pub all_fit : (ws : List StoreWrite) → AllByRecursion IsPlain ws → (lists : Lists)
     → AllFit after_write FitsLists ws (Some lists)
 all_fit = all_plain FitsLists (λ w lists fits suits. fits)
+
+pub all_suit : (ws : List StoreWrite) → AllByRecursion IsPlain ws → (lists : Lists) → AllSuit ws lists
+all_suit = all_plain Suits (λ w lists fits suits. suits)
 
 pub schedule_plain : (x n : ℕ) (numbered : List (ℕ × Instalment)) → AllByRecursion IsPlain (schedule_put x n numbered)
 schedule_plain x n numbered =

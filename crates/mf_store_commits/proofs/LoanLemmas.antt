@@ -39,9 +39,15 @@ use Rattle.mf_store_schema.specs.declared.writes.StoreWrite.{StoreWrite}
 use Rattle.mf_store_schema.specs.declared.writes.StoreWrite.TheVariants as write
 use Rattle.mf_store_values.specs.ReceiptRows.{receipt_rows, receipt_added, entry_added}
 use Rattle.mf_store_commits.specs.Becoming.{Becomes}
+use Rattle.mf_store_commits.specs.Suiting.{Carries, AllSuit, Suits}
+use Rattle.mf_store_schema.specs.Rows.{IsNew, IsThere}
+use Rattle.mf_store_values.specs.ReceiptRows.{receipt_in}
+use Rattle.mf_store_commits.proofs.FoundLemmas.{entry_by_number, number_free, number_there}
+use Rattle.mf_store_commits.proofs.ReceiptRowLemmas.{receipt_free, receipt_found}
+use Rattle.std.proofs.Common.{IsSome, ◌<◌}
 use Rattle.mf_store_commits.proofs.AccountCommitLemmas.{IsChanged, change_written, schedule_there, staged_shares}
 use Rattle.mf_store_commits.proofs.AccountRowLemmas.{none_before}
-use Rattle.mf_store_commits.proofs.ChangedRowLemmas.{after_both, fit_both, all_fit, change_plain, schedule_plain}
+use Rattle.mf_store_commits.proofs.ChangedRowLemmas.{after_both, fit_both, all_fit, all_suit, change_plain, schedule_plain}
 use Rattle.mf_store_commits.proofs.CommitLemmas.{loans_become}
 use Rattle.mf_store_commits.proofs.EntryLemmas.{AreEarlier, AreNumbered, PutsEntry, puts_last, puts_reversed, entry_put}
 use Rattle.mf_store_values.proofs.LoanRowLemmas.{same_by_loan, one_more_loan, change_alone}
@@ -152,21 +158,27 @@ module _ (loan : Account) (account : KeptAccount) (l : Ledger) (i : Institution)
   -- writes that make these rows of entries and receipts, and then those of the change
   with_change : {e : List EntryRow} {q : List ReceiptRow} (writes : List StoreWrite)
       → IsSound (after_commit (AddEntry loan account) i) → AllFit after_write FitsLists writes (Some (tables_of i))
+      → AllSuit writes (tables_of i)
       → after_all after_write writes (Some (tables_of i)) ≡ Some (record (tables_of i) { entries = e; receipts = q })
-      → e ≡ entry_rows now → q ≡ receipt_rows now → Becomes (writes ++ change) i (after_commit (AddEntry loan account) i)
-  with_change {e} {q} writes sound fits first entries receipts =
+      → e ≡ entry_rows now → q ≡ receipt_rows now → Carries (AddEntry loan account) (writes ++ change) i
+  with_change {e} {q} writes sound fits suits first entries receipts =
       let lists : Lists = record (tables_of i) { entries = e; receipts = q } in
+      let plain = change_plain x loan.number account in
       let up = before.tree.ascending in
       let loans = (rows_at x i).loans in
       record {
-        sound = sound;
-        fits = fit_both writes change (Some (tables_of i)) fits (subst (AllFit after_write FitsLists change) (sym first)
-            (all_fit change (change_plain x loan.number account) lists));
-        is = after_both writes change (Some (tables_of i)) ∙ ap (after_all after_write change) first
-            ∙ change_written i.catalogue x loan.number l account changed new i.offices up there refl lists
-            ∙ ap Some (loans_become x new i before refl refl (same_rows_of loan_in loans_of refl x new i.offices up
-            (map_changed loan_of (with_entries account.loan.entries) (λ l. l) (λ l. refl) loan.number loans
-            ∙ none_changed loan.number (map loan_of loans))) entries receipts refl refl);
+        becomes = record {
+          sound = sound;
+          fits = fit_both FitsLists writes change (Some (tables_of i)) fits
+              (subst (AllFit after_write FitsLists change) (sym first) (all_fit change plain lists));
+          is = after_both writes change (Some (tables_of i)) ∙ ap (after_all after_write change) first
+              ∙ change_written i.catalogue x loan.number l account changed new i.offices up there refl lists
+              ∙ ap Some (loans_become x new i before refl refl (same_rows_of loan_in loans_of refl x new i.offices up
+              (map_changed loan_of (with_entries account.loan.entries) (λ l. l) (λ l. refl) loan.number loans
+              ∙ none_changed loan.number (map loan_of loans))) entries receipts refl refl);
+        };
+        suits = fit_both Suits writes change (Some (tables_of i)) suits
+            (subst (AllFit after_write Suits change) (sym first) (all_suit change plain lists));
       }
 
   -- ---- one entry more: its own row, and that of its receipt
@@ -180,20 +192,28 @@ module _ (loan : Account) (account : KeptAccount) (l : Ledger) (i : Institution)
     row_put = entry_put x loan.number e account.loan.entries l new i.offices before.tree.ascending there refl
         (subst (PutsEntry x loan.number e l.entries) (sym are) (puts_last x loan.number e l.entries early))
 
-    row_becomes : (o : Option (List ℕ)) → e.receipt ≡ o → Becomes ((write.AddEntry row ∷ receipt_added row o) ++ change)
-        i (after_commit (AddEntry loan account) i)
-    row_becomes None none =
-        with_change (write.AddEntry row ∷ []) sound (refl, tt) refl row_put (no_receipt_put x loan.number e
-        account.loan.entries l new i.offices before.tree.ascending there refl are none)
-    row_becomes (Some r) some =
-        with_change (write.AddEntry row ∷ receipt_added row (Some r)) sound (refl, (refl, tt)) refl row_put
-        (receipt_put x loan.number e account.loan.entries l new i.offices before.tree.ascending there refl are r some
-        apart)
+    new_entry : IsNew by_entry row (tables_of i).entries
+    new_entry = entry_by_number x loan.number e.seq l i before there ∙ number_free x loan.number e.seq l.entries early
 
-    pub entry_becomes : (r : EntryRow) → r ≡ row → Becomes (entry_added r ++ change) i
-        (after_commit (AddEntry loan account) i)
-    entry_becomes r is = subst (λ s. Becomes (entry_added s ++ change) i (after_commit (AddEntry loan account) i))
-        (sym is) (row_becomes e.receipt refl)
+    row_carries : (o : Option (List ℕ)) → e.receipt ≡ o
+        → Carries (AddEntry loan account) ((write.AddEntry row ∷ receipt_added row o) ++ change) i
+    row_carries None none =
+        with_change (write.AddEntry row ∷ []) sound (refl, tt) (new_entry, tt) refl row_put (no_receipt_put x
+        loan.number e account.loan.entries l new i.offices before.tree.ascending there refl are none)
+    row_carries (Some r) some =
+        with_change (write.AddEntry row ∷ receipt_added row (Some r)) sound (refl, (refl, tt)) (
+          new_entry,
+          (
+            receipt_found x r i before ∙ ap (option_map (receipt_in x)) (receipt_free x loan.number e account.loan.entries
+                l new i.offices before.tree.ascending there refl are r some apart),
+            tt,
+          ),
+        ) refl row_put (receipt_put x loan.number e account.loan.entries l new i.offices before.tree.ascending there
+        refl are r some apart)
+
+    pub entry_carries : (r : EntryRow) → r ≡ row → Carries (AddEntry loan account) (entry_added r ++ change) i
+    entry_carries r is = subst (λ s. Carries (AddEntry loan account) (entry_added s ++ change) i) (sym is)
+        (row_carries e.receipt refl)
 
   -- ---- a reversal: one entry's own row
 
@@ -203,9 +223,16 @@ module _ (loan : Account) (account : KeptAccount) (l : Ledger) (i : Institution)
     abbrev entry : Entry
     entry = reversed_entry (entry_at l.entries (seq - 1))
 
+    low : seq - 1 < length l.entries
+    low = omega (arith, first, last)
+
     puts : PutsEntry x loan.number entry l.entries account.loan.entries
     puts = subst (PutsEntry x loan.number entry l.entries) (sym marked)
-        (puts_reversed x loan.number 0 (seq - 1) l.entries numbers (omega (arith, first, last)))
+        (puts_reversed x loan.number 0 (seq - 1) l.entries numbers low)
+
+    here : IsThere by_entry (entry_in x loan.number entry) (tables_of i).entries
+    here = subst (λ o. IsSome o) (sym (entry_by_number x loan.number entry.seq l i before there))
+        (number_there x loan.number 0 (seq - 1) entry.seq l.entries numbers low (numbers (seq - 1) low))
 
     -- the receipts are as they were
     same_uses : uses_from 1 new.loans ≡ uses_from 1 (rows_at x i).loans
@@ -215,10 +242,11 @@ module _ (loan : Account) (account : KeptAccount) (l : Ledger) (i : Institution)
         (ap (λ es. with_entries es l) marked)) ∙ uses_with loan.number 1 (with_reversal seq) ls
         (λ l k. uses_marked k (seq - 1) l.entries)
 
-    pub reversal_becomes : (r : EntryRow) → r ≡ entry_in x loan.number entry → Becomes (write.ChangeEntry r ∷ change) i
-        (after_commit (ReverseEntry loan seq account) i)
-    reversal_becomes r is =
-        subst (λ s. Becomes (write.ChangeEntry s ∷ change) i (after_commit (ReverseEntry loan seq account) i)) (sym is)
-        (with_change (write.ChangeEntry (entry_in x loan.number entry) ∷ []) sound (refl, tt) refl
+    pub reversal_carries : (r : EntryRow) → r ≡ entry_in x loan.number entry
+        → Carries (ReverseEntry loan seq account) (write.ChangeEntry r ∷ change) i
+    reversal_carries r is =
+        let made = with_change (write.ChangeEntry (entry_in x loan.number entry) ∷ []) sound (refl, tt) (here, tt) refl
         (entry_put x loan.number entry account.loan.entries l new i.offices before.tree.ascending there refl puts)
-        (same_receipts_of x new i.offices before.tree.ascending same_uses))
+        (same_receipts_of x new i.offices before.tree.ascending same_uses) in
+        subst (λ s. Carries (ReverseEntry loan seq account) (write.ChangeEntry s ∷ change) i) (sym is)
+        (record { becomes = made.becomes; suits = made.suits })

@@ -1,4 +1,4 @@
--- The writes of each commit suit the rows of the institution that admits it.
+-- The writes of loans and products suit the rows of the institution that admits them.
 use Rattle.std.proofs.Common.{◌≡◌, ◌≤◌, ◌+◌, ◌-◌, ℕ, List, [], ◌∷◌, ◌++◌, length, Option, None, Some, IsSome}
 use Rattle.std.proofs.Common.{sym, ap, ◌∙◌, subst, arith, refl}
 use Rattle.std.specs.List.{AllByRecursion}
@@ -30,69 +30,13 @@ use Rattle.mf_store_values.specs.ReceiptRows.{receipt_in, receipt_added, entry_a
 use Rattle.mf_store_commits.specs.ChangeWrites.{schedule_put}
 use Rattle.mf_store_commits.specs.ChangeWrites.{change_writes}
 use Rattle.mf_store_commits.specs.Suiting.{Suits, AllSuit}
-use Rattle.mf_store_commits.proofs.ChangedRowLemmas.{IsPlain, all_plain, change_plain, schedule_plain}
+use Rattle.mf_store_commits.proofs.ChangedRowLemmas.{all_suit, schedule_plain}
 use Rattle.mf_store_commits.proofs.EntryLemmas.{AreEarlier, AreNumbered}
 use Rattle.mf_store_values.proofs.FlatLemmas.{find_listed, find_row}
 use Rattle.mf_store_commits.proofs.FoundLemmas.{entry_by_number, number_free, number_there}
 use Rattle.mf_store_commits.proofs.LoanLemmas.{loan_of, numbered_loan}
 use Rattle.mf_store_commits.proofs.ReceiptRowLemmas.{receipt_free, receipt_found}
 use Rattle.mf_store_values.proofs.BlockLemmas.{numbered-suc}
-
--- writes of instalments and shares suit any rows
-all_suit : (writes : List StoreWrite) → AllByRecursion IsPlain writes → (lists : Lists) → AllSuit writes lists
-all_suit = all_plain Suits (λ w lists fits suits. suits)
-
--- ---- an entry and a reversal
-
-module _ (loan : Account) (account : KeptAccount) (l : Ledger) (i : Institution) (sound : IsSound i)
-    (there : ledger_at loan i
-    ≡ Some l) where
-  abbrev x : ℕ
-  x = loan.office
-
-  abbrev change : List StoreWrite
-  change = change_writes x loan.number account
-
-  pub reversal_suits : (seq : ℕ) → AreNumbered 0 l.entries → 1 ≤ seq → seq ≤ length l.entries → (r : EntryRow)
-      → r ≡ entry_in x loan.number (reversed_entry (entry_at l.entries (seq - 1))) → AllSuit (ChangeEntry r ∷ change)
-      (tables_of i)
-  reversal_suits seq numbers first last r is = (
-    subst (λ s. IsThere by_entry s (tables_of i).entries) (sym is) here,
-    all_suit change (change_plain x loan.number account) _,
-  )
-    where
-      entry : Entry
-      entry = entry_at l.entries (seq - 1)
-
-      here : IsThere by_entry (entry_in x loan.number (reversed_entry entry)) (tables_of i).entries
-      here =
-          let low : seq - 1 + 1 ≤ length l.entries = omega (arith, first, last) in
-          subst (λ o. IsSome o) (sym (entry_by_number x loan.number entry.seq l i sound there))
-          (number_there x loan.number 0 (seq - 1) entry.seq l.entries numbers (omega (arith, low))
-          (numbers (seq - 1) (omega (arith, low))))
-
-  module _ (e : Entry) (are : account.loan.entries ≡ l.entries ++ e ∷ []) (early : AreEarlier e.seq l.entries)
-      (apart : AreApart (uses_from 1 (loan_entered loan.number account.loan.entries (rows_at x i)).loans)) where
-    abbrev row : EntryRow
-    row = entry_in x loan.number e
-
-    new_entry : IsNew by_entry row (tables_of i).entries
-    new_entry = entry_by_number x loan.number e.seq l i sound there ∙ number_free x loan.number e.seq l.entries early
-
-    new_receipt : (r : List ℕ) → e.receipt ≡ Some r
-        → IsNew by_receipt (receipt_in x (record { receipt = r; by = use_by loan.number e })) (tables_of i).receipts
-    new_receipt r some =
-        receipt_found x r i sound
-        ∙ ap (option_map (receipt_in x)) (receipt_free x loan.number e account.loan.entries l (loan_entered loan.number
-        account.loan.entries (rows_at x i)) i.offices sound.tree.ascending there refl are r some apart)
-
-    row_suits : (o : Option (List ℕ)) → e.receipt ≡ o → AllSuit ((AddEntry row ∷ receipt_added row o) ++ change)
-        (tables_of i)
-    row_suits None none = (new_entry, all_suit change (change_plain x loan.number account) _)
-    row_suits (Some r) some = (new_entry, (new_receipt r some, all_suit change (change_plain x loan.number account) _))
-
-    pub entry_suits : (r : EntryRow) → r ≡ row → AllSuit (entry_added r ++ change) (tables_of i)
-    entry_suits r is = subst (λ s. AllSuit (entry_added s ++ change) (tables_of i)) (sym is) (row_suits e.receipt refl)
 
 -- ---- loans and products
 

@@ -8,8 +8,7 @@ use Rattle.mf_store_values.specs.Flat.{entry_in}
 use Rattle.mf_store_values.specs.ReceiptRows.{entry_added}
 use Rattle.mf_store_commits.proofs.EnteredLemmas.{account_of_loan, entry_last, entry_apart, handed_changed, longer}
 use Rattle.mf_store_commits.proofs.EntryLemmas.{last_entry}
-use Rattle.mf_store_commits.proofs.LoanLemmas.{entry_becomes}
-use Rattle.mf_store_commits.proofs.SuitLemmas.{entry_suits}
+use Rattle.mf_store_commits.proofs.LoanLemmas.{entry_carries}
 use Rattle.mf_store_commits.proofs.entering.entry_writes.Goals as goal
 
 pub returns-clause-carries : goal.returns-clause-carries
@@ -36,8 +35,5 @@ returns-clause-carries c i sound admitted =
     ∙ ap (λ (es : List Entry). entry_in loan.office loan.number (entry_at es (length es - 1))) one_more
     ∙ ap (entry_in loan.office loan.number) (last_entry of.ledger.entries entry)
     in
-    subst (λ ws. Carries (AddEntry loan account) ws i) (sym writes) (record {
-      becomes = entry_becomes loan account of.ledger i sound of.there changed entry admitted.sound one_more last apart
-          row row_is;
-      suits = entry_suits loan account of.ledger i sound of.there entry one_more last apart row row_is;
-    })
+    subst (λ ws. Carries (AddEntry loan account) ws i) (sym writes) (entry_carries loan account of.ledger i sound of.there
+    changed entry admitted.sound one_more last apart row row_is)

@@ -9,8 +9,7 @@ use Rattle.mf_store_values.specs.Flat.{entry_in}
 use Rattle.mf_store_commits.proofs.EnteredLemmas.{account_of_loan, as_long, handed_changed, loan_numbered}
 use Rattle.mf_store_commits.proofs.EnteredLemmas.{reversal_there}
 use Rattle.mf_store_commits.proofs.EntryLemmas.{marked_entry}
-use Rattle.mf_store_commits.proofs.LoanLemmas.{reversal_becomes}
-use Rattle.mf_store_commits.proofs.SuitLemmas.{reversal_suits}
+use Rattle.mf_store_commits.proofs.LoanLemmas.{reversal_carries}
 use Rattle.mf_store_commits.proofs.entering.reversal_writes.Goals as goal
 
 pub returns-clause-carries : goal.returns-clause-carries
@@ -38,8 +37,5 @@ returns-clause-carries c i sound admitted =
     let row_is = c.in_ok-row.ensures.row ∙ (λ t. entry_in (c.get-office.ensures.value t) (c.get-loan.ensures.value t)
     (entry_at (marked t) (seq - 1))) ∙ ap (entry_in loan.office loan.number) (marked_entry before (seq - 1)
     (omega (arith, first, last))) in
-    subst (λ ws. Carries (ReverseEntry loan seq account) ws i) (sym writes) (record {
-      becomes = reversal_becomes loan account of.ledger i sound of.there changed seq admitted.sound numbers first last
-          marked row row_is;
-      suits = reversal_suits loan account of.ledger i sound of.there seq numbers first last row row_is;
-    })
+    subst (λ ws. Carries (ReverseEntry loan seq account) ws i) (sym writes) (reversal_carries loan account of.ledger i
+    sound of.there changed seq admitted.sound numbers first last marked row row_is)
