@@ -152,20 +152,14 @@ key_kept (suc n) ps qs there closed alike x h = ap (λ o. key_under o (λ p. key
 
 -- what stands of a new office, and of the others
 module _ (new : Office) (fs : List Office) (free : office_at new.number fs ≡ None) where
-  same : (new.number == new.number) ≡ true
-  same = grind (arith, nat_tests)
-
   parent_of-other : (y : ℕ) → (new.number == y) ≡ false → parent_of (with_office new fs) y ≡ parent_of fs y
-  parent_of-other y h = parent_of_with_office new fs y (ap is_some free)
-      ∙ ap (λ b. cond b new.parent (parent_of fs y)) h
+  parent_of-other y h = grind (arith, nat_tests, parent_of_with_office new fs y (ap is_some free))
 
   parent_of-new : parent_of (with_office new fs) new.number ≡ new.parent
-  parent_of-new = parent_of_with_office new fs new.number (ap is_some free)
-      ∙ ap (λ b. cond b new.parent (parent_of fs new.number)) same
+  parent_of-new = grind (arith, nat_tests, parent_of_with_office new fs new.number (ap is_some free))
 
   new_there : is_there (with_office new fs) new.number ≡ true
-  new_there = is_there_with_office new fs new.number (ap is_some free)
-      ∙ ap (λ b. cond b true (is_there fs new.number)) same
+  new_there = grind (arith, nat_tests, is_there_with_office new fs new.number (ap is_some free))
 
 -- an office that is there is another than one that isn't
 apart : (x y : ℕ) (fs : List Office) → office_at x fs ≡ None → is_there fs y ≡ true → (x == y) ≡ false

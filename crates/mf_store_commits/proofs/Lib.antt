@@ -1,4 +1,3 @@
-pub mod PushLemmas
 pub mod StepLemmas
 pub mod AccountRowLemmas
 pub mod EntryLemmas

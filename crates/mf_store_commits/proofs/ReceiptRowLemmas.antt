@@ -7,7 +7,8 @@ use Rattle.std.specs.List.{AllByRecursion}
 use Rattle.std.specs.Option.{option_map}
 use Rattle.std.specs.Ordering.{ordering_reverse}
 use Rattle.std.specs.Str.{bytes_eq}
-use Rattle.std.proofs.lemmas.Bool.{cases_Bool}
+use Rattle.std.proofs.lemmas.Bool.{cases_Bool, true_from_ne_false, both_ways}
+use Rattle.std.proofs.lemmas.Cmp.{upto}
 use Rattle.std.proofs.lemmas.List.Elements.{recursion_from_All, All-from_recursion}
 use Rattle.std.proofs.lemmas.List.Sorted.{length_permutation, All-permutation}
 use Rattle.std.proofs.lemmas.Slice.Eq.{bytes_eq-Decides}
@@ -56,12 +57,8 @@ module _ {X : Type 0} (cmp : X → X → Ordering) (total : IsTotalOrder cmp) wh
 
   -- what is above a row is above what that row is above
   still_above : (r s x : X) → cmp r s ≡ Less → is_gt (cmp r x) ≡ true → is_gt (cmp s x) ≡ true
-  still_above r s x h k = go (cmp r x) refl k
-    where
-      go : (o : Ordering) → cmp r x ≡ o → is_gt o ≡ true → is_gt (cmp s x) ≡ true
-      go Greater e k = ap is_gt (turned x s (total.trans x r s (total.antisymm x r ∙ ap ordering_reverse e) h))
-      go Less e k = absurd (true≢false (sym k))
-      go Equal e k = absurd (true≢false (sym k))
+  still_above r s x h k = true_from_ne_false (is_gt (cmp s x))
+      (λ low. both_ways (is_gt (cmp r x)) (upto total r s x (ap is_gt h) low) k)
 
   -- two rows are put in either order
   in_order : (r s : X) (xs : List X) → cmp r s ≡ Less → insert_sorted cmp r (insert_sorted cmp s xs)

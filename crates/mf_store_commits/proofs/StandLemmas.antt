@@ -60,14 +60,6 @@ module _ {S : Type 0} (g : Ghosts S) where
       MayLeave = MayHold (Serves schema_of Holds) Holds (AllFit after_write FitsLists writes)
           (after_all after_write writes) was
 
-      pub made_stands : (IsTrue is.is_open → IsTrue was.is_open) → Change was.now is.now → (i j : Institution)
-          → IsTabled g old i → Becomes writes i j → IsTabled g new j
-      made_stands was_open turns i j s b = record {
-        sound = b.sound;
-        serves = λ live. subst (λ lists. Serves schema_of Holds is.now lists) b.is (turns (Some (tables_of i))
-            (s.serves (was_open live)) b.fits);
-      }
-
       pub made_leaves : ((trees : Trees) → IsTrue is.is_open → is.may_leave trees → trees ≡ is.committed.trees)
           → IsSettled is → (j : Institution) → IsTabled g new j → LeavesTables g new (j ∷ [])
       made_leaves settled rests j s = record {
@@ -76,20 +68,14 @@ module _ {S : Type 0} (g : Ghosts S) where
             ∙ ap (λ (d : Database). d.trees) rests.committed)) (s.serves rests.is_open).holds);
       }
 
-      pub unmade_stands : (IsTrue is.is_open → IsTrue was.is_open) → (IsTrue is.is_open → is.now ≡ was.now)
-          → (i : Institution) → IsTabled g old i → IsTabled g new i
-      unmade_stands was_open same i s = record {
-        sound = s.sound;
-        serves = λ live.
-            subst (λ d. Serves schema_of Holds d (Some (tables_of i))) (sym (same live)) (s.serves (was_open live));
-      }
-
       -- whatever came of the call, the tables are this program's
       pub still_ours : {V : Type 0} (r : Result V Error) → (IsTrue is.is_open → IsTrue was.is_open)
           → OnOk r (Change was.now is.now) → (IsTrue is.is_open → OnErr r (is.now ≡ was.now)) → (i j : Institution)
           → IsTabled g old i → Becomes writes i j → IsTrue is.is_open → is.now.schema ≡ schema
-      still_ours (Ok v) was_open turns same i j s b live = ((made_stands was_open turns i j s b).serves live).schema_is
-      still_ours (Err e) was_open turns same i j s b live = ((unmade_stands was_open same i s).serves live).schema_is
+      still_ours (Ok v) was_open turns same i j s b live =
+          (turns (Some (tables_of i)) (s.serves (was_open live)) b.fits).schema_is ∙ ap schema_of b.is
+      still_ours (Err e) was_open turns same i j s b live =
+          ap (λ (d : Database). d.schema) (same live) ∙ (s.serves (was_open live)).schema_is
 
       pub made_stop : (HasCleanDisk is → IsTrue is.is_open → is.now.schema ≡ schema) → Survives was is MayLeave
           → (i j : Institution) (left : List Institution) → IsTabled g old i → Becomes writes i j

@@ -23,6 +23,7 @@ use Rattle.mf_store_values.specs.Flat.{instalment_in, share_in, numbered_from, p
 use Rattle.mf_store_values.proofs.BlockLemmas.{Around, AroundAt, around_same, blocks_from, set_around, within}
 use Rattle.mf_store_values.proofs.FlatLemmas.{blocks_mapped, all_mapped}
 use Rattle.mf_store_values.proofs.PutLemmas.{put_around, put_over, put_all, put_all_around, AreRising}
+use Rattle.std.proofs.Common.{take, append_assoc}
 
 -- what stands round one block stands round another
 round : {R : Type 0} {P Q S T : R → Type 0} {old new block changed : List R} → ((s : R) → P s → S s)
@@ -283,3 +284,27 @@ module _ (x n : ℕ) where
     where
       placed : (f : ℕ → List SettledPart) (s : ℕ) → 1 ≤ s → s ≤ c → get_or (listed f 1 c) (s - 1) [] ≡ f s
       placed f s least most = at_listed f 1 c (s - 1) s (omega (arith, least, most)) (omega (arith, least))
+
+-- ---- numbered things that are pushed in turn
+
+numbered_more : {A R : Type 0} (make : ℕ → A → R) (m n : ℕ) (xs : List A) (x : A) → n < length xs
+    → numbered_from make m (take (suc n) xs) ≡ numbered_from make m (take n xs) ++ make (m + n) (get_or xs n x) ∷ []
+numbered_more make m n [] x low = absurd (omega (arith, low))
+numbered_more make m zero (y ∷ xs) x low = ap (λ k. make k y ∷ []) (let same : m ≡ m + 0 = omega arith in same)
+numbered_more make m (suc n) (y ∷ xs) x low = ap (λ l. make m y ∷ l)
+    (numbered_more make (m + 1) n xs x (omega (arith, low)) ∙ ap (λ k. numbered_from make (m + 1) (take n xs)
+    ++ make k (get_or xs n x) ∷ []) (let same : m + 1 + n ≡ m + suc n = omega arith in same))
+
+-- one more of numbered things
+pub numbered_pushed : {A R B : Type 0} (f : R → B) (make : ℕ → A → R) (xs : List A) (n : ℕ) (x : A)
+    (first old new : List B) → n < length xs → x ≡ get_or xs n x → new ≡ old ++ f (make (n + 1) x) ∷ [] → old ≡ first
+    ++ map f (numbered_from make 1 (take n xs)) → new ≡ first ++ map f (numbered_from make 1 (take (n + 1) xs))
+numbered_pushed f make xs n x first old new low is more before =
+    more ∙ ap (λ l. l ++ f (make (n + 1) x) ∷ []) before ∙ append_assoc first (map f (numbered_from make 1 (take n xs)))
+    (f (make (n + 1) x) ∷ [])
+    ∙ ap (λ l. first ++ l)
+    (ap₂ (λ k y. map f (numbered_from make 1 (take n xs)) ++ f (make k y) ∷ [])
+    (let same : n + 1 ≡ 1 + n = omega arith in same) is
+    ∙ sym (ap (λ k. map f (numbered_from make 1 (take k xs))) (let next : n + 1 ≡ suc n = omega arith in next)
+    ∙ ap (map f) (numbered_more make 1 n xs x low) ∙ map-append f (numbered_from make 1 (take n xs))
+    (make (1 + n) (get_or xs n x) ∷ [])))
