@@ -267,17 +267,17 @@ office_becomes x parent name key i o before sound trees free there key_is is =
 
 pub same_client : (a x l n : ℕ) (b m : List ℕ) → a ≡ x → l ≡ n → b ≡ m
     → ◌≡◌ {A = ClientRow} (record { office = a; number = l + 1; name = b }) (client_in x (n + 1) m)
-same_client a x l n b m p q r = λ k. record { office = p k; number = q k + 1; name = r k }
+same_client a x l n b m p q r = cc
 
 pub same_staff : (a x l n r t : ℕ) (b m : List ℕ) → a ≡ x → l ≡ n → r ≡ t → b ≡ m
     → ◌≡◌ {A = StaffRow} (record { office = a; number = l + 1; name = b; role = r })
     (record { office = x; number = n + 1; name = m; role = t })
-same_staff a x l n r t b m p q o e = λ k. record { office = p k; number = q k + 1; name = e k; role = o k }
+same_staff a x l n r t b m p q o e = cc
 
 pub same_office : (a x p q : ℕ) (b m k l : List ℕ) → a ≡ x → p ≡ q → k ≡ l → b ≡ m
     → ◌≡◌ {A = OfficeRow} (record { number = a; parent = Some p; hkey = k; name = b })
     (record { number = x; parent = Some q; hkey = l; name = m })
-same_office a x p q b m k l e f h j = λ t. record { number = e t; parent = Some (f t); hkey = h t; name = j t }
+same_office a x p q b m k l e f h j = cc
 
 pub none_there : {A : Type 0} (o : Option A) → is_some o ≡ false → o ≡ None
 none_there None h = refl
