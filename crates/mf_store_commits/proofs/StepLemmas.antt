@@ -23,7 +23,7 @@ use Rattle.mf_store_values.specs.Flat.{instalment_in, share_in, numbered_from, p
 use Rattle.mf_store_values.proofs.BlockLemmas.{Around, AroundAt, around_same, blocks_from, set_around, within}
 use Rattle.mf_store_values.proofs.FlatLemmas.{blocks_mapped, all_mapped}
 use Rattle.mf_store_values.proofs.PutLemmas.{put_around, put_over, put_all, put_all_around, AreRising}
-use Rattle.std.proofs.Common.{take, append_assoc}
+use Rattle.std.proofs.Common.{take, append_assoc, add-one}
 
 -- what stands round one block stands round another
 round : {R : Type 0} {P Q S T : R → Type 0} {old new block changed : List R} → ((s : R) → P s → S s)
@@ -300,11 +300,5 @@ pub numbered_pushed : {A R B : Type 0} (f : R → B) (make : ℕ → A → R) (x
     (first old new : List B) → n < length xs → x ≡ get_or xs n x → new ≡ old ++ f (make (n + 1) x) ∷ [] → old ≡ first
     ++ map f (numbered_from make 1 (take n xs)) → new ≡ first ++ map f (numbered_from make 1 (take (n + 1) xs))
 numbered_pushed f make xs n x first old new low is more before =
-    more ∙ ap (λ l. l ++ f (make (n + 1) x) ∷ []) before ∙ append_assoc first (map f (numbered_from make 1 (take n xs)))
-    (f (make (n + 1) x) ∷ [])
-    ∙ ap (λ l. first ++ l)
-    (ap₂ (λ k y. map f (numbered_from make 1 (take n xs)) ++ f (make k y) ∷ [])
-    (let same : n + 1 ≡ 1 + n = omega arith in same) is
-    ∙ sym (ap (λ k. map f (numbered_from make 1 (take k xs))) (let next : n + 1 ≡ suc n = omega arith in next)
-    ∙ ap (map f) (numbered_more make 1 n xs x low) ∙ map-append f (numbered_from make 1 (take n xs))
-    (make (1 + n) (get_or xs n x) ∷ [])))
+    rw (more, before, append_assoc first, add-one n, numbered_more make 1 n xs x low, map-append f)
+    (ap₂ (λ k y. first ++ (map f (numbered_from make 1 (take n xs)) ++ f (make k y) ∷ [])) (omega arith) is)

@@ -17,10 +17,6 @@ returns-clause-carries c i sound admitted =
     let account = c.args.account.now in
     let entries = account.loan.entries in
     let row = c.in_ok-row.row in
-    let added = c.in_ok-put_change.ensures.writes ∙ ap (λ ws. ws ++ change_writes c.get-office.result c.get-loan.result
-    account) c.in_ok-writes.ensures.writes in
-    let writes = added ∙ (λ t. entry_added row ++ change_writes (c.get-office.ensures.value t)
-    (c.get-loan.ensures.value t) account) in
     let handed = admitted.handed in
     let of = account_of_loan loan handed.before i handed.there in
     let entry = handed.entries.0 in
@@ -30,10 +26,18 @@ returns-clause-carries c i sound admitted =
     let apart = entry_apart loan account of.ledger i admitted.sound of.there in
     let changed = handed_changed loan account handed.before i sound admitted.sound of handed.others
     (longer handed.before.entries entries entry handed.entries.1) handed.kept handed.change in
-    let row_is = c.in_ok-row.ensures.row ∙ (λ t. entry_in (c.get-office.ensures.value t) (c.get-loan.ensures.value t)
-    (entry_at entries (c.entry_count.ensures.count t - 1)))
-    ∙ ap (λ (es : List Entry). entry_in loan.office loan.number (entry_at es (length es - 1))) one_more
-    ∙ ap (entry_in loan.office loan.number) (last_entry of.ledger.entries entry)
-    in
-    subst (λ ws. Carries (AddEntry loan account) ws i) (sym writes) (entry_carries loan account of.ledger i sound of.there
+    let row_is : row ≡ entry_in loan.office loan.number entry = c.in_ok-row.ensures.row
+    ∙ rw (
+      c.get-office.ensures.value,
+      c.get-loan.ensures.value,
+      c.entry_count.ensures.count,
+      one_more,
+      last_entry of.ledger.entries entry,
+    ) in
+    rw (
+      c.in_ok-put_change.ensures.writes,
+      c.in_ok-writes.ensures.writes,
+      c.get-office.ensures.value,
+      c.get-loan.ensures.value,
+    ) (entry_carries loan account of.ledger i sound of.there
     changed entry admitted.sound one_more last apart row row_is)
