@@ -95,15 +95,14 @@ module _ (k : Catalogue) (x n : ℕ) (l : Ledger) (account : KeptAccount) (chang
         shares = share_rows k (with_rows x new fs);
       })
   change_written lists =
-      let old : Lists = record lists { instalments = instalment_rows k fs; shares = share_rows k fs } in
-      ap (λ ws. after_all after_write ws (Some old)) (ap₂ (λ r s. instalments_put x n r account.change.rows
-      ++ shares_put x n s account.change.seqs) (ap (λ (s : State). s.rows) changed.kept.state) changed.kept.settled)
-      ∙ after_both (instalments_put x n rows account.change.rows) (shares_put x n (settled_of_loan account.loan)
-      account.change.seqs) (Some old)
-      ∙ ap (after_all after_write (shares_put x n (settled_of_loan account.loan) account.change.seqs))
-      (instalments_written x n rows account.change.rows old)
-      ∙ shares_written x n (settled_of_loan account.loan) account.change.seqs _
-      ∙ (λ t. Some (record lists { instalments = instalments_brought t; shares = shares_brought t }))
+      rw (
+        changed.kept.state,
+        changed.kept.settled,
+        after_both (instalments_put x n rows account.change.rows),
+        instalments_written x n rows account.change.rows,
+      )
+      (shares_written x n (settled_of_loan account.loan) account.change.seqs _
+      ∙ (λ t. Some (record lists { instalments = instalments_brought t; shares = shares_brought t })))
 
 -- ---- stages
 

@@ -157,10 +157,8 @@ pub shares_written : (x n : ℕ) (settled : List SettledPart) (ss : List ℕ) (l
     ≡ Some (record lists { shares = all_steps (share_step x n (λ s. settled_in s settled)) ss lists.shares })
 shares_written x n settled [] lists = refl
 shares_written x n settled (s ∷ ss) lists =
-    after_both (shares_replaced x n settled s) (shares_put x n settled ss) (Some lists)
-    ∙ ap (after_all after_write (shares_put x n settled ss))
-    (parts_written x n (placed_parts s (settled_in s settled)) _)
-    ∙ shares_written x n settled ss _
+    rw (after_both (shares_replaced x n settled s), parts_written x n (placed_parts s (settled_in s settled)))
+    (shares_written x n settled ss _)
 
 pub schedule_written : (x n : ℕ) (numbered : List (ℕ × Instalment)) (lists : Lists)
     → after_all after_write (schedule_put x n numbered) (Some lists) ≡ Some

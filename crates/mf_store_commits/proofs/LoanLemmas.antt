@@ -169,16 +169,14 @@ module _ (loan : Account) (account : KeptAccount) (l : Ledger) (i : Institution)
       record {
         becomes = record {
           sound = sound;
-          fits = fit_both FitsLists writes change (Some (tables_of i)) fits
-              (subst (AllFit after_write FitsLists change) (sym first) (all_fit change plain lists));
+          fits = fit_both FitsLists writes change (Some (tables_of i)) fits (rw first (all_fit change plain lists));
           is = after_both writes change (Some (tables_of i)) ∙ ap (after_all after_write change) first
               ∙ change_written i.catalogue x loan.number l account changed new i.offices up there refl lists
               ∙ ap Some (loans_become x new i before refl refl (same_rows_of loan_in loans_of refl x new i.offices up
               (map_changed loan_of (with_entries account.loan.entries) (λ l. l) (λ l. refl) loan.number loans
               ∙ none_changed loan.number (map loan_of loans))) entries receipts refl refl);
         };
-        suits = fit_both Suits writes change (Some (tables_of i)) suits
-            (subst (AllFit after_write Suits change) (sym first) (all_suit change plain lists));
+        suits = fit_both Suits writes change (Some (tables_of i)) suits (rw first (all_suit change plain lists));
       }
 
   -- ---- one entry more: its own row, and that of its receipt

@@ -203,11 +203,9 @@ module _ (x n : ℕ) (e : Entry) (es : List Entry) (l : Ledger) (new : Rows) (fs
         record {
           before = w.first ++ uses_in n l.entries;
           after = w.last;
-          old_is = in_uses 1 ls ∙ w.old_is ∙ sym (append_assoc w.first (uses_in n l.entries) w.last);
+          old_is = in_uses 1 ls ∙ w.old_is ∙ simp append_assoc;
           new_is = ap (uses_from 1) is ∙ in_uses 1 (with_numbered n (with_entries es) ls) ∙ w.new_is
-              ∙ ap (λ us. w.first ++ (us ++ w.last)) (ap (uses_in n) are ∙ uses_in_push n e l.entries)
-              ∙ ap (λ us. w.first ++ us) (append_assoc (uses_in n l.entries) (use_of e.receipt n e) w.last)
-              ∙ sym (append_assoc w.first (uses_in n l.entries) (use_of e.receipt n e ++ w.last));
+              ∙ rw (are, uses_in_push n e l.entries) (simp append_assoc);
         }
       where
         uses : ℕ → Ledger → List Use

@@ -237,18 +237,21 @@ module _ (x n : ℕ) where
   replaced : {old new : List ShareRow} (seq : ℕ) (was is : List SettledPart) → AroundAt (key seq) old new
       (entry_parts seq was) (entry_parts seq is) → put_all by_share (entry_parts seq is) (filter (not_of seq) old) ≡ new
   replaced seq was is w =
-      ap (put_all by_share (entry_parts seq is)) (ap (filter (not_of seq)) w.old_is
-      ∙ filter-append (not_of seq) w.first (entry_parts seq was ++ w.last)
-      ∙ ap₂ ◌++◌ (filter_all (not_of seq) w.first (others Greater refl w.first w.before))
-      (filter-append (not_of seq) (entry_parts seq was) w.last
-      ∙ ap₂ ◌++◌ (filter_none (not_of seq) (entry_parts seq was) (all_mapped (λ s. not_of seq s ≡ false)
-      (share_in x n) (λ k t. (seq, (k, t))) 1 (λ k t low. own) was))
-      (filter_all (not_of seq) w.last (others Less refl w.last w.after))))
-      ∙ put_fresh by_share (share_in x n) (λ k t. (seq, (k, t)))
+      rw (
+        w.old_is,
+        filter-append (not_of seq) w.first,
+        filter_all (not_of seq) w.first
+            (others Greater refl w.first w.before),
+        filter-append (not_of seq) (entry_parts seq was),
+        filter_none (not_of seq) (entry_parts seq was) (all_mapped (λ s. not_of seq s ≡ false)
+            (share_in x n) (λ k t. (seq, (k, t))) 1 (λ k t low. own) was),
+        filter_all (not_of seq) w.last (others Less refl w.last w.after),
+      )
+      (put_fresh by_share (share_in x n) (λ k t. (seq, (k, t)))
       (λ k m a b. own_key x n (ordering_then (nat_cmp seq seq) (nat_cmp k m)) ∙ grind (arith, nat_tests))
       (λ k t s h. in_entry seq k t s ∙ ap (λ o. ordering_then o (nat_cmp k s.place)) h)
       (λ k t s h. in_entry seq k t s ∙ ap (λ o. ordering_then o (nat_cmp k s.place)) h) is
-      (round (λ s h. h) (λ s h. h) w [] (entry_parts seq is)) ∙ sym w.new_is
+      (round (λ s h. h) (λ s h. h) w [] (entry_parts seq is)) ∙ sym w.new_is)
     where
       others : (o : Ordering) → not (is_eq o) ≡ true → (rows : List ShareRow)
           → AllByRecursion (λ s. key seq s ≡ o) rows → AllByRecursion (λ s. not_of seq s ≡ true) rows
