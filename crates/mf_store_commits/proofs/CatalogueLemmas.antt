@@ -54,11 +54,10 @@ pub charge_becomes : (c : ListedCharge) (i : Institution) (x : ChargeRow) → Is
     c
     → Becomes (PutCharge x ∷ []) i (after_commit (AddCharge c.name c.kind c.calc c.value) i)
 charge_becomes c i x before sound is =
-    let charges = ap (λ r. put_item by_charge r (tables_of i).charges) is
-    ∙ put_listed_last charge_as by_charge (λ n m a b. refl) c i.catalogue.charges in
-    grown (PutCharge x ∷ []) (charge_added c i.catalogue) i before sound
+    let charges = put_listed_last charge_as by_charge (λ n m a b. refl) c i.catalogue.charges in
+    rw is (grown (PutCharge _ ∷ []) (charge_added c i.catalogue) i before sound
     (λ n t given. terms_charge i.catalogue c n t before.catalogue.products given) (refl, tt)
-    (λ k. Some (record (tables_of i) { charges = charges k }))
+    (λ k. Some (record (tables_of i) { charges = charges k })))
 
 pub product_becomes : (members : ProductMembers) (i : Institution) (x : ProductRow) → IsSound i
     → IsSound (after_commit (AddProduct members) i) → x ≡ product_as (length i.catalogue.products + 1)
@@ -66,22 +65,17 @@ pub product_becomes : (members : ProductMembers) (i : Institution) (x : ProductR
     → Becomes (write.AddProduct x ∷ []) i (after_commit (AddProduct members) i)
 product_becomes members i x before sound is =
     let new : ListedProduct = record { members = members; retired = false } in
-    let products = ap (λ r. put_item by_product r (tables_of i).products) is
-    ∙ put_listed_last product_as by_product (λ n m a b. refl) new i.catalogue.products in
-    grown (write.AddProduct x ∷ []) (product_added members i.catalogue) i before sound (terms_push i.catalogue new)
-    (refl, tt) (λ k. Some (record (tables_of i) { products = products k }))
+    let products = put_listed_last product_as by_product (λ n m a b. refl) new i.catalogue.products in
+    rw is (grown (write.AddProduct _ ∷ []) (product_added members i.catalogue) i before sound
+    (terms_push i.catalogue new) (refl, tt) (λ k. Some (record (tables_of i) { products = products k })))
 
 pub retired_becomes : (n : ℕ) (p : ListedProduct) (i : Institution) (x : ProductRow) → IsSound i
     → IsSound (after_commit (RetireProduct n) i) → item_numbered i.catalogue.products n ≡ Some p
     → x ≡ product_as n (record p { retired = true })
     → Becomes (PutProduct x ∷ []) i (after_commit (RetireProduct n) i)
 retired_becomes n p i x before sound there is =
-    let products = ap (λ r. put_item by_product r (tables_of i).products) is
-    ∙ put_listed product_as by_product (λ n m a b. refl) change p n i.catalogue.products there in
-    grown (PutProduct x ∷ []) (product_retired n i.catalogue) i before sound (λ m t given. terms_with i.catalogue
-    (product_retired n i.catalogue).products m t
-    (numbered_with (λ (p : ListedProduct). p.members) n change i.catalogue.products
-    (λ p. refl) m) given) (refl, tt) (λ k. Some (record (tables_of i) { products = products k }))
-  where
-    change : ListedProduct → ListedProduct
-    change o = record o { retired = true }
+    let change : ListedProduct → ListedProduct = λ o. record o { retired = true } in
+    let products = put_listed product_as by_product (λ n m a b. refl) change p n i.catalogue.products there in
+    rw is (grown (PutProduct _ ∷ []) (product_retired n i.catalogue) i before sound (λ m t given. terms_with i.catalogue
+    (product_retired n i.catalogue).products m t (numbered_with (λ (p : ListedProduct). p.members) n change
+    i.catalogue.products (λ p. refl) m) given) (refl, tt) (λ k. Some (record (tables_of i) { products = products k })))

@@ -108,14 +108,14 @@ pub client_becomes : (x : ℕ) (name : List ℕ) (i : Institution) (c : ClientRo
 client_becomes x name i c before sound there is =
     let new = client_added name (rows_at x i) in
     let up = before.tree.ascending in
-    record {
+    rw is (record {
       sound = sound;
       fits = (refl, tt);
-      is = ap Some (people_become x new i before refl (same_rows_of staff_in (λ rows. rows.staff) refl x new i.offices
-          up refl) (ap (λ r. put_item by_client r (tables_of i).clients) is
-          ∙ put_row_of client_in (λ rows. rows.clients)
-          refl by_client (λ x n y m a b. refl) x name new i.offices up there refl));
-    }
+      is = ap Some (people_become x new i before refl
+          (same_rows_of staff_in (λ rows. rows.staff) refl x new i.offices up refl)
+          (put_row_of client_in (λ rows. rows.clients) refl by_client (λ x n y m a b. refl) x name new i.offices up there
+          refl));
+    })
 
 pub staff_becomes : (x : ℕ) (name : List ℕ) (role : Role) (i : Institution) (s : StaffRow) → IsSound i
     → IsSound (after_commit (AddStaff x name role) i) → is_there i.offices x ≡ true
@@ -124,15 +124,13 @@ pub staff_becomes : (x : ℕ) (name : List ℕ) (role : Role) (i : Institution) 
 staff_becomes x name role i s before sound there is =
     let new = staff_added name role (rows_at x i) in
     let up = before.tree.ascending in
-    record {
+    rw is (record {
       sound = sound;
       fits = (refl, tt);
-      is = ap Some (people_become x new i before refl (ap (λ r. put_item by_staff r (tables_of i).staff) is
-          ∙ put_row_of staff_in (λ rows. rows.staff) refl by_staff (λ x n y m a b. refl) x (record {
-            name = name;
-            role = role;
-          }) new i.offices up there refl) (same_rows_of client_in (λ rows. rows.clients) refl x new i.offices up refl));
-    }
+      is = ap Some (people_become x new i before refl
+          (put_row_of staff_in (λ rows. rows.staff) refl by_staff (λ x n y m a b. refl) x _ new i.offices up there refl)
+          (same_rows_of client_in (λ rows. rows.clients) refl x new i.offices up refl));
+    })
 
 -- ---- a new office
 

@@ -229,7 +229,7 @@ module _ (loan : Account) (account : KeptAccount) (l : Ledger) (i : Institution)
         (puts_reversed x loan.number 0 (seq - 1) l.entries numbers low)
 
     here : IsThere by_entry (entry_in x loan.number entry) (tables_of i).entries
-    here = subst (λ o. IsSome o) (sym (entry_by_number x loan.number entry.seq l i before there))
+    here = rw (entry_by_number x loan.number entry.seq l i before there)
         (number_there x loan.number 0 (seq - 1) entry.seq l.entries numbers low (numbers (seq - 1) low))
 
     -- the receipts are as they were
@@ -246,5 +246,4 @@ module _ (loan : Account) (account : KeptAccount) (l : Ledger) (i : Institution)
         let made = with_change (write.ChangeEntry (entry_in x loan.number entry) ∷ []) sound (refl, tt) (here, tt) refl
         (entry_put x loan.number entry account.loan.entries l new i.offices before.tree.ascending there refl puts)
         (same_receipts_of x new i.offices before.tree.ascending same_uses) in
-        subst (λ s. Carries (ReverseEntry loan seq account) (write.ChangeEntry s ∷ change) i) (sym is)
-        (record { becomes = made.becomes; suits = made.suits })
+        rw is (record { becomes = made.becomes; suits = made.suits })

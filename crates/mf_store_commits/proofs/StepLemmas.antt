@@ -65,8 +65,7 @@ module _ {B R : Type 0} (d : B) (new : List B) (block : ℕ → B → List R) (o
       (λ s h. ap₂ ordering_then h.0 (h.1 ∙ is)) (block m b) (own k m b)
 
   -- the steps bring all rows to those of the other list
-  pub steps_bring : (ks : List ℕ) (bs : List B) (all other : List R) → length bs ≡ length new
-      → AreBut d new ks bs
+  pub steps_bring : (ks : List ℕ) (bs : List B) (all other : List R) → length bs ≡ length new → AreBut d new ks bs
       → ((k : ℕ) → Contains ks k → (1 ≤ k) × (k ≤ length new))
       → AroundAt outer all other (blocks_from block 1 bs) (blocks_from block 1 new) → all_steps step ks all ≡ other
   steps_bring [] bs all other long but there w =
@@ -88,10 +87,12 @@ module _ {B R : Type 0} (d : B) (new : List B) (block : ℕ → B → List R) (o
       let Q : R → Type 0 = λ s. key_by outer last k s ≡ Less in
       ap (all_steps step ks) (ap (step k) w.old_is ∙ does k (get_or bs (k - 1) d) _ mid least most (within P Q
       (round (λ s h. ap (λ o. ordering_then o (last k s)) h) (λ s h. ap (λ o. ordering_then o (last k s)) h) w
-      (blocks_from block 1 bs) (blocks_from block 1 cs)) (set_around block P Q k (λ m c low. ranked k m Greater (grind (arith, nat_tests, low)) c)
+      (blocks_from block 1 bs) (blocks_from block 1 cs)) (set_around block P Q k
+      (λ m c low. ranked k m Greater (grind (arith, nat_tests, low)) c)
       (λ m c high. ranked k m Less (grind (arith, nat_tests, high)) c) 1 (k - 1) (get_or bs (k - 1) d) b bs
       (omega (arith, least)) (slice_get-get_or bs (k - 1) d (omega (arith, least, most, long))))))
-      ∙ steps_bring ks cs mid (w.first ++ (blocks_from block 1 new ++ w.last)) (size ∙ long) (λ j low high. elim (cases_eq j k) [
+      ∙ steps_bring ks cs mid (w.first ++ (blocks_from block 1 new ++ w.last)) (size ∙ long)
+      (λ j low high. elim (cases_eq j k) [
         | inl here ↦ inl (ap (λ i. get_or cs (i - 1) d) here ∙ get_or-set_same bs (k - 1) b d
             (omega (arith, least, most, long)) ∙ ap (λ i. get_or new (i - 1) d) (sym here))
         | inr apart ↦ elim (but j low (omega (arith, high, size))) [

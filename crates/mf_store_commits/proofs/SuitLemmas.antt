@@ -60,34 +60,27 @@ pub loan_suits : (x : ℕ) (loan : Loan) (i : Institution) → IsSound i → (r 
     → r ≡ loan_in x (length (rows_at x i).loans + 1) loan → AllSuit (AddLoan r ∷ []) (tables_of i)
 loan_suits x loan i sound r is =
     let loans = (rows_at x i).loans in
-    let new = loan_found x (length loans + 1) i sound ∙ ap (λ o. option_map (loan_in x (length loans + 1))
-    (option_map loan_of o)) (none_next loans) in
-    subst (λ s. AllSuit (AddLoan s ∷ []) (tables_of i)) (sym is) (new, tt)
+    rw is (rw (loan_found x (length loans + 1) i sound, none_next loans), tt)
 
 -- a loan's stage
 pub stage_suits : (loan : Account) (now : Loan) (l : Ledger) (i : Institution) → IsSound i → ledger_at loan i ≡ Some l
     → (numbered : List (ℕ × Instalment)) (r : LoanRow) → r ≡ loan_in loan.office loan.number now
     → AllSuit (PutLoan r ∷ schedule_put loan.office loan.number numbered) (tables_of i)
 stage_suits loan now l i sound there numbered r is =
-    let x = loan.office in
-    let n = loan.number in
-    let here = loan_found x n i sound ∙ ap (λ o. option_map (loan_in x n) (option_map loan_of o)) there in
-    subst (λ s. AllSuit (PutLoan s ∷ schedule_put x n numbered) (tables_of i)) (sym is)
-    (subst (λ o. IsSome o) (sym here) refl, all_suit (schedule_put x n numbered) (schedule_plain x n numbered) _)
+    rw is (
+      rw (loan_found loan.office loan.number i sound, there),
+      all_suit (schedule_put loan.office loan.number numbered) (schedule_plain loan.office loan.number numbered) _,
+    )
 
 -- a new product
 pub product_suits : (now : ListedProduct) (i : Institution) (r : ProductRow)
     → r ≡ product_as (length i.catalogue.products + 1)
     now → AllSuit (AddProduct r ∷ []) (tables_of i)
 product_suits now i r is =
-    let next = length i.catalogue.products + 1 in
-    let new = product_found next i ∙ ap (option_map (product_as next)) (none_next i.catalogue.products) in
-    subst (λ s. AllSuit (AddProduct s ∷ []) (tables_of i)) (sym is) (new, tt)
+    rw is (rw (product_found (length i.catalogue.products + 1) i, none_next i.catalogue.products), tt)
 
 -- one that is retired
 pub retired_suits : (n : ℕ) (p now : ListedProduct) (i : Institution) (r : ProductRow)
     → item_numbered i.catalogue.products n
     ≡ Some p → r ≡ product_as n now → AllSuit (PutProduct r ∷ []) (tables_of i)
-retired_suits n p now i r there is =
-    let here = product_found n i ∙ ap (option_map (product_as n)) there in
-    subst (λ s. AllSuit (PutProduct s ∷ []) (tables_of i)) (sym is) (subst (λ o. IsSome o) (sym here) refl, tt)
+retired_suits n p now i r there is = rw is (rw (product_found n i, there), tt)
