@@ -95,14 +95,10 @@ module _ (k : Catalogue) (x n : ℕ) (l : Ledger) (account : KeptAccount) (chang
         shares = share_rows k (with_rows x new fs);
       })
   change_written lists =
-      rw (
-        changed.kept.state,
-        changed.kept.settled,
-        after_both (instalments_put x n rows account.change.rows),
-        instalments_written x n rows account.change.rows,
-      )
+      rw (changed.kept.state, changed.kept.settled, after_both (instalments_put x n rows account.change.rows))
+      (rw (instalments_written x n rows account.change.rows)
       (shares_written x n (settled_of_loan account.loan) account.change.seqs _
-      ∙ (λ t. Some (record lists { instalments = instalments_brought t; shares = shares_brought t })))
+      ∙ (λ t. Some (record lists { instalments = instalments_brought t; shares = shares_brought t }))))
 
 -- ---- stages
 

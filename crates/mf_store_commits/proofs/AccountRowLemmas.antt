@@ -40,10 +40,9 @@ module _ {A R : Type 0} (make : ℕ → ℕ → A → R) (read : DisbursedLoan �
       → TermsStand k h → AllByRecursion (IsSoundLoan k staffed clients) ls → rows_of_loans make (kept_of read k) x n ls
       ≡ rows_of_loans make (kept_of read h) x n ls
   loans_stand k h staffed clients x n [] stand sound = refl
-  loans_stand k h staffed clients x n (l ∷ ls) stand sound = rw (
-    same_account k h staffed clients l stand sound.0,
-    loans_stand k h staffed clients x (n + 1) ls stand sound.1,
-  )
+  loans_stand k h staffed clients x n (l ∷ ls) stand sound =
+      let more = loans_stand k h staffed clients x (n + 1) ls stand sound.1 in
+      rw (same_account k h staffed clients l stand sound.0, more)
 
   -- the rows that are read off the accounts of sound loans stand
   pub rows_stand : (k h : Catalogue) (staffed : Caller → Bool) (fs : List Office) → TermsStand k h

@@ -47,13 +47,14 @@ decided_by f g back d a b = map_dec (λ h. sym (back a) ∙ ap g h ∙ back b) (
 
 -- a row as a list of lists, and a part as a list
 decided_rows : Discrete Instalment
-decided_rows = decided_by (λ (s : Instalment). (s.due ∷ []) ∷ s.owed ∷ s.paid ∷ s.waived ∷ s.written_off ∷ []) (λ t. record {
-  due = get_or (get_or t 0 []) 0 0;
-  owed = get_or t 1 [];
-  paid = get_or t 2 [];
-  waived = get_or t 3 [];
-  written_off = get_or t 4 [];
-}) (λ s. refl) (List-discrete (List-discrete ℕ_discrete))
+decided_rows = decided_by
+    (λ (s : Instalment). (s.due ∷ []) ∷ s.owed ∷ s.paid ∷ s.waived ∷ s.written_off ∷ []) (λ t. record {
+      due = get_or (get_or t 0 []) 0 0;
+      owed = get_or t 1 [];
+      paid = get_or t 2 [];
+      waived = get_or t 3 [];
+      written_off = get_or t 4 [];
+    }) (λ s. refl) (List-discrete (List-discrete ℕ_discrete))
 
 abbrev how_at : ℕ → How
 how_at n = cond (n == 1) Paid (cond (n == 2) Waived WrittenOff)
@@ -202,11 +203,11 @@ schedule_plain x n numbered =
 pub change_plain : (x n : ℕ) (a : KeptAccount) → AllByRecursion IsPlain (change_writes x n a)
 change_plain x n a =
     let rows = a.state.rows in
+    let put : (s : ℕ) → AllByRecursion IsPlain (shares_replaced x n a.settled s) = λ s. (
+      (λ lists. (_, refl, refl, tt)),
+      all-map IsPlain (λ placed. PutShare (share_in x n placed)) (λ placed lists. (_, refl, refl, tt)) _,
+    ) in
     all-append IsPlain (instalments_put x n rows a.change.rows) (shares_put x n a.settled a.change.seqs)
     (all-map IsPlain (λ k. PutInstalment (instalment_in x n (k, row_at rows k))) (λ k lists. (_, refl, refl, tt))
     a.change.rows) (all-flat_map IsPlain (shares_replaced x n a.settled) a.change.seqs
-    (all_of (λ s. AllByRecursion IsPlain (shares_replaced x n a.settled s)) (λ s. (
-      (λ lists. (_, refl, refl, tt)),
-      all-map IsPlain (λ placed. PutShare (share_in x n placed)) (λ placed lists. (_, refl, refl, tt))
-          (placed_parts s (settled_in s a.settled)),
-    )) a.change.seqs))
+    (all_of (λ s. AllByRecursion IsPlain (shares_replaced x n a.settled s)) put a.change.seqs))

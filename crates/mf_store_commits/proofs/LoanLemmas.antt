@@ -130,8 +130,8 @@ module _ (account : Account) (stage : Stage) (l : Ledger) (i : Institution) (bef
         is = schedule_there i.catalogue x n l stage new i.offices up there refl none without
             (record (tables_of i) { loans = put_item by_loan put_row (tables_of i).loans })
             ∙ ap Some (loans_become x new i before refl refl
-            (put_over_of loan_in loans_of refl by_loan (λ x n y m a b. refl) (λ l. record l { stage = stage }) l.loan x n
-            new i.offices up (numbered_loan loans n ∙ ap (option_map loan_of) there)
+            (put_over_of loan_in loans_of refl by_loan (λ x n y m a b. refl) (λ l. record l { stage = stage }) l.loan x
+            n new i.offices up (numbered_loan loans n ∙ ap (option_map loan_of) there)
             (map_changed loan_of (with_stage stage) (λ l. record l { stage = stage }) (λ l. refl) n loans))
             (same_by_loan entry_in own_entries x new i.offices up
             (change_alone entry_in own_entries n (with_stage stage) loans (λ k. refl)))
@@ -199,15 +199,12 @@ module _ (loan : Account) (account : KeptAccount) (l : Ledger) (i : Institution)
         with_change (write.AddEntry row ∷ []) sound (refl, tt) (new_entry, tt) refl row_put (no_receipt_put x
         loan.number e account.loan.entries l new i.offices before.tree.ascending there refl are none)
     row_carries (Some r) some =
-        with_change (write.AddEntry row ∷ receipt_added row (Some r)) sound (refl, (refl, tt)) (
-          new_entry,
-          (
-            receipt_found x r i before ∙ ap (option_map (receipt_in x)) (receipt_free x loan.number e account.loan.entries
-                l new i.offices before.tree.ascending there refl are r some apart),
-            tt,
-          ),
-        ) refl row_put (receipt_put x loan.number e account.loan.entries l new i.offices before.tree.ascending there
-        refl are r some apart)
+        let up = before.tree.ascending in
+        let new_receipt = receipt_found x r i before ∙ ap (option_map (receipt_in x)) (receipt_free x loan.number e
+        account.loan.entries l new i.offices up there refl are r some apart) in
+        with_change (write.AddEntry row ∷ receipt_added row (Some r)) sound (refl, (refl, tt))
+        (new_entry, (new_receipt, tt)) refl row_put (receipt_put x loan.number e account.loan.entries l new i.offices up
+        there refl are r some apart)
 
     pub entry_carries : (r : EntryRow) → r ≡ row → Carries (AddEntry loan account) (entry_added r ++ change) i
     entry_carries r is = subst (λ s. Carries (AddEntry loan account) (entry_added s ++ change) i) (sym is)

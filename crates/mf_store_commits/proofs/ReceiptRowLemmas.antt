@@ -117,12 +117,8 @@ module _ (x : ℕ) (r : List ℕ) where
   once_in_office : (us : List Use) → AreApart us → length (filter (is_row_of_receipt x r) (map (receipt_in x) us)) ≤ 1
   once_in_office [] apart = omega arith
   once_in_office (u ∷ us) apart = elim (cases_Bool (bytes_eq u.receipt r)) [
-    | inl e ↦ rw (
-      own_key x r u,
-      e,
-      filter_none (is_row_of_receipt x r) (map (receipt_in x) us)
-          (others_of x r u us ((bytes_eq-Decides u.receipt r).0 e) apart.0),
-    ) (omega arith)
+    | inl e ↦ rw (own_key x r u, e) (rw (filter_none (is_row_of_receipt x r) (map (receipt_in x) us)
+        (others_of x r u us ((bytes_eq-Decides u.receipt r).0 e) apart.0)) (omega arith))
     | inr e ↦ rw (own_key x r u, e) (once_in_office us apart.1)
   ]
 

@@ -133,7 +133,8 @@ module _ {A B R : Type 0} (cmp : R → R → Ordering) (f : B → R) (make : ℕ
 
   put_fresh : {P Q : R → Type 0} {old new : List R} → ((k : ℕ) (a : A) (s : R) → P s → cmp (f (make k a)) s ≡ Greater)
       → ((k : ℕ) (a : A) (s : R) → Q s → cmp (f (make k a)) s ≡ Less) → (xs : List A)
-      → Around P Q old new [] (map f (numbered_from make 1 xs)) → put_all cmp (map f (numbered_from make 1 xs)) old ≡ new
+      → Around P Q old new [] (map f (numbered_from make 1 xs))
+      → put_all cmp (map f (numbered_from make 1 xs)) old ≡ new
   put_fresh low high xs w = put_all_around cmp (map f (numbered_from make 1 xs))
       (all_mapped _ f make 1 (λ k a least. (low k a, high k a)) xs) (rising 1 xs) w
 
@@ -170,8 +171,8 @@ module _ (x n : ℕ) where
       (λ s h. in_loan k (row_at new k) s ∙ h) (λ s h. in_loan k (row_at new k) s ∙ h) v
       (put_over by_instalment (instalment_in x n (k, row_at new k)) (instalment_in x n (k, b)) []
       (own_key x n (nat_cmp k k) ∙ grind (arith, nat_tests)) tt)) ks old all other long but there
-      (subst (λ (rows : List Instalment → List InstalmentRow). AroundAt (loan_place x n) all other (rows old) (rows new))
-      (λ t rows. blocks_mapped (instalment_in x n) pair 1 rows t) w)
+      (subst (λ (rows : List Instalment → List InstalmentRow). AroundAt (loan_place x n) all other (rows old)
+      (rows new)) (λ t rows. blocks_mapped (instalment_in x n) pair 1 rows t) w)
 
   -- all rows of a loan that had none
   pub fresh_put_around : {all other : List InstalmentRow} (rows : List Instalment)
@@ -238,21 +239,16 @@ module _ (x n : ℕ) where
   replaced : {old new : List ShareRow} (seq : ℕ) (was is : List SettledPart) → AroundAt (key seq) old new
       (entry_parts seq was) (entry_parts seq is) → put_all by_share (entry_parts seq is) (filter (not_of seq) old) ≡ new
   replaced seq was is w =
-      rw (
-        w.old_is,
-        filter-append (not_of seq) w.first,
-        filter_all (not_of seq) w.first
-            (others Greater refl w.first w.before),
-        filter-append (not_of seq) (entry_parts seq was),
-        filter_none (not_of seq) (entry_parts seq was) (all_mapped (λ s. not_of seq s ≡ false)
-            (share_in x n) (λ k t. (seq, (k, t))) 1 (λ k t low. own) was),
-        filter_all (not_of seq) w.last (others Less refl w.last w.after),
-      )
-      (put_fresh by_share (share_in x n) (λ k t. (seq, (k, t)))
+      let first = filter_all (not_of seq) w.first (others Greater refl w.first w.before) in
+      let mid = filter_none (not_of seq) (entry_parts seq was) (all_mapped (λ s. not_of seq s ≡ false) (share_in x n)
+      (λ k t. (seq, (k, t))) 1 (λ k t low. own) was) in
+      let last = filter_all (not_of seq) w.last (others Less refl w.last w.after) in
+      rw (w.old_is, filter-append (not_of seq) w.first, filter-append (not_of seq) (entry_parts seq was))
+      (rw (first, mid, last) (put_fresh by_share (share_in x n) (λ k t. (seq, (k, t)))
       (λ k m a b. own_key x n (ordering_then (nat_cmp seq seq) (nat_cmp k m)) ∙ grind (arith, nat_tests))
       (λ k t s h. in_entry seq k t s ∙ ap (λ o. ordering_then o (nat_cmp k s.place)) h)
       (λ k t s h. in_entry seq k t s ∙ ap (λ o. ordering_then o (nat_cmp k s.place)) h) is
-      (round (λ s h. h) (λ s h. h) w [] (entry_parts seq is)) ∙ sym w.new_is)
+      (round (λ s h. h) (λ s h. h) w [] (entry_parts seq is)) ∙ sym w.new_is))
     where
       others : (o : Ordering) → not (is_eq o) ≡ true → (rows : List ShareRow)
           → AllByRecursion (λ s. key seq s ≡ o) rows → AllByRecursion (λ s. not_of seq s ≡ true) rows

@@ -67,10 +67,8 @@ pub stage_suits : (loan : Account) (now : Loan) (l : Ledger) (i : Institution) �
     → (numbered : List (ℕ × Instalment)) (r : LoanRow) → r ≡ loan_in loan.office loan.number now
     → AllSuit (PutLoan r ∷ schedule_put loan.office loan.number numbered) (tables_of i)
 stage_suits loan now l i sound there numbered r is =
-    rw is (
-      rw (loan_found loan.office loan.number i sound, there),
-      all_suit (schedule_put loan.office loan.number numbered) (schedule_plain loan.office loan.number numbered) _,
-    )
+    let plain = schedule_plain loan.office loan.number numbered in
+    rw is (rw (loan_found loan.office loan.number i sound, there), all_suit _ plain _)
 
 -- a new product
 pub product_suits : (now : ListedProduct) (i : Institution) (r : ProductRow)

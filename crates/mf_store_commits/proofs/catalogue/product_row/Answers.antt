@@ -8,9 +8,6 @@ pub returns-clause-row : goal.returns-clause-row
 returns-clause-row c =
     let least : SFits w64 c.in_ok-min_principal.min_principal = search rules in
     let most : SFits w64 c.in_ok-max_principal.max_principal = search rules in
-    cc (
-      to_z-of_z w64 c.in_ok-min_principal.min_principal least,
-      c.in_ok-min_principal.ensures.amount,
-      to_z-of_z w64 c.in_ok-max_principal.max_principal most,
-      c.in_ok-max_principal.ensures.amount,
-    )
+    let low = to_z-of_z w64 c.in_ok-min_principal.min_principal least in
+    let high = to_z-of_z w64 c.in_ok-max_principal.max_principal most in
+    cc (low, high, c.in_ok-min_principal.ensures.amount, c.in_ok-max_principal.ensures.amount)

@@ -17,6 +17,8 @@ returns-clause-carries c i sound admitted =
     let account = c.args.account.now in
     let entries = account.loan.entries in
     let row = c.in_ok-row.row in
+    let office = c.get-office.ensures.value in
+    let number = c.get-loan.ensures.value in
     let handed = admitted.handed in
     let of = account_of_loan loan handed.before i handed.there in
     let entry = handed.entries.0 in
@@ -27,17 +29,6 @@ returns-clause-carries c i sound admitted =
     let changed = handed_changed loan account handed.before i sound admitted.sound of handed.others
     (longer handed.before.entries entries entry handed.entries.1) handed.kept handed.change in
     let row_is : row ≡ entry_in loan.office loan.number entry = c.in_ok-row.ensures.row
-    ∙ rw (
-      c.get-office.ensures.value,
-      c.get-loan.ensures.value,
-      c.entry_count.ensures.count,
-      one_more,
-      last_entry of.ledger.entries entry,
-    ) in
-    rw (
-      c.in_ok-put_change.ensures.writes,
-      c.in_ok-writes.ensures.writes,
-      c.get-office.ensures.value,
-      c.get-loan.ensures.value,
-    ) (entry_carries loan account of.ledger i sound of.there
-    changed entry admitted.sound one_more last apart row row_is)
+    ∙ rw (office, number, c.entry_count.ensures.count, one_more, last_entry of.ledger.entries entry) in
+    rw (c.in_ok-put_change.ensures.writes, c.in_ok-writes.ensures.writes, office, number) (entry_carries loan account
+    of.ledger i sound of.there changed entry admitted.sound one_more last apart row row_is)

@@ -18,6 +18,8 @@ returns-clause-carries c i sound admitted =
     let seq = c.args.seq in
     let account = c.args.account.now in
     let row = c.in_ok-row.row in
+    let office = c.get-office.ensures.value in
+    let number = c.get-loan.ensures.value in
     let handed = admitted.handed in
     let of = account_of_loan loan handed.before i handed.there in
     let before = of.ledger.entries in
@@ -30,17 +32,7 @@ returns-clause-carries c i sound admitted =
     let changed = handed_changed loan account handed.before i sound admitted.sound of handed.others
     (as_long handed.before.entries account.loan.entries seq handed.entries.marked) handed.kept handed.change in
     let row_is : row ≡ entry_in loan.office loan.number (reversed_entry (entry_at before (seq - 1))) =
-    c.in_ok-row.ensures.row ∙ rw (
-      c.get-office.ensures.value,
-      c.get-loan.ensures.value,
-      marked,
-      marked_entry before (seq - 1) (omega (arith, first, last)),
-    ) in
-    rw (
-      c.in_ok-put_change.ensures.writes,
-      c.in_ok-push.ensures.items,
-      c.new-writes.ensures.items,
-      c.get-office.ensures.value,
-      c.get-loan.ensures.value,
-    ) (reversal_carries loan account of.ledger i
-    sound of.there changed seq admitted.sound numbers first last marked row row_is)
+    c.in_ok-row.ensures.row ∙ rw (office, number, marked, marked_entry before (seq - 1) (omega (arith, first, last))) in
+    rw (c.in_ok-put_change.ensures.writes, c.in_ok-push.ensures.items, c.new-writes.ensures.items, office, number)
+    (reversal_carries loan account of.ledger i sound of.there changed seq admitted.sound numbers first last marked row
+    row_is)

@@ -40,13 +40,8 @@ begins day text key office staff day_is key_is office_is staff_is = record {
 
 pub returns-clause-writes : goal.returns-clause-writes
 returns-clause-writes c =
-    rw (
-      c.in_ok-push-4.ensures.items,
-      c.in_ok-push-3.ensures.items,
-      c.in_ok-push-2.ensures.items,
-      c.in_ok-push.ensures.items,
-      c.new-writes.ensures.items,
-    )
-    (begins c.args.day c.new.result c.new-2.result c.new-3.result c.new-4.result (c.new.ensures ∙ c.in_ok-text.ensures.ok)
+    rw (c.in_ok-push-4.ensures.items, c.in_ok-push-3.ensures.items, c.in_ok-push-2.ensures.items)
+    (rw (c.in_ok-push.ensures.items, c.new-writes.ensures.items) (begins c.args.day c.new.result c.new-2.result
+    c.new-3.result c.new-4.result (c.new.ensures ∙ c.in_ok-text.ensures.ok)
     (c.new-2.ensures ∙ c.in_ok-from_str.ensures.ok) (c.new-3.ensures ∙ c.in_ok-from_str-2.ensures.ok)
-    (c.new-4.ensures ∙ c.in_ok-from_str-3.ensures.ok))
+    (c.new-4.ensures ∙ c.in_ok-from_str-3.ensures.ok)))
