@@ -1,43 +1,40 @@
 -- What the writes of a change make of the rows that are kept of its loan.
-use Rattle.std.proofs.Common.{◌≡◌, ◌≢◌, ◌<◌, ◌≤◌, ◌+◌, ◌-◌, ℕ, zero, suc, List, [], ◌∷◌, ◌++◌, map, length, Some, refl}
-use Rattle.std.proofs.Common.{sym, ap, ◌∙◌, subst, arith, inl, inr, cond, ◌==◌}
-use Rattle.std.specs.Prelude.{◌⊎◌, get_or}
+use Rattle.std.proofs.Common.{◌≡◌, ◌<◌, ◌≤◌, ◌+◌, ℕ, zero, suc, List, [], ◌∷◌, ◌++◌, map, length, Some, refl, sym, ap}
+use Rattle.std.proofs.Common.{◌∙◌, subst, arith, inl, inr, cond, ◌==◌, get_or, Option}
+use Rattle.std.proofs.lemmas.List.Elements.{All-contains}
+use Rattle.std.specs.List.{AllByRecursion}
 use mathlib.Core.HLevel.{Discrete}
 use mathlib.Core.List.{List-discrete}
 use mathlib.Core.Logic.{dite}
 use native.Mathlib.Decide.{ℕ_discrete, map_dec}
-use Rattle.std.proofs.lemmas.List.Elements.{All-contains}
+use Rattle.sqlite_keyed.proofs.ListLemmas.{all-append, all-map, all-flat_map, all_of}
+use Rattle.mf_alloc.specs.Rows.{row_at}
 use Rattle.mf_alloc.specs.Sums.{Instalment}
-use Rattle.mf_account.specs.declared.settled.How.{How}
-use Rattle.mf_account.specs.declared.settled.How.TheVariants.{Paid, Waived, WrittenOff}
-use Rattle.mf_account.specs.declared.settled.SettledPart.{SettledPart}
-use Rattle.mf_account.specs.Change.{KeptAccount, ChangedNumbers, HasOtherRow, HasOtherParts, IsChange}
-use Rattle.mf_account.specs.Change.{settled_in}
-use Rattle.mf_account.specs.Loan.{DisbursedLoan, IsSoundDisbursed, state_of_loan, settled_of_loan}
 use Rattle.mf_account.proofs.ChangeLemmas.{none-in}
 use Rattle.mf_account.proofs.SoundLemmas.{good-sound}
 use Rattle.mf_account.proofs.ToldLemmas.{parts-numbered}
+use Rattle.mf_account.specs.Change.{KeptAccount, ChangedNumbers, HasOtherRow, HasOtherParts, IsChange, settled_in}
+use Rattle.mf_account.specs.Loan.{DisbursedLoan, IsSoundDisbursed, state_of_loan, settled_of_loan}
+use Rattle.mf_account.specs.declared.settled.How.{How}
+use Rattle.mf_account.specs.declared.settled.How.TheVariants.{Paid, Waived, WrittenOff}
+use Rattle.mf_account.specs.declared.settled.SettledPart.{SettledPart}
 use Rattle.mf_store_sql.specs.Writes.{AllFit, after_all}
 use Rattle.mf_store_schema.specs.Rows.{Lists, by_instalment, by_share}
 use Rattle.mf_store_schema.specs.Writes.{FitsLists, after_write}
+use Rattle.mf_store_schema.specs.declared.instalments.InstalmentRow.{InstalmentRow}
+use Rattle.mf_store_schema.specs.declared.shares.ShareRow.{ShareRow}
 use Rattle.mf_store_schema.specs.declared.writes.StoreWrite.{StoreWrite}
 use Rattle.mf_store_schema.specs.declared.writes.StoreWrite.TheVariants.{PutInstalment, PutShare}
+use Rattle.mf_store_values.proofs.BlockLemmas.{AroundAt}
+use Rattle.mf_store_values.proofs.FlatLemmas.{portion_at, portion_read}
+use Rattle.mf_store_values.proofs.PutLemmas.{put_all}
+use Rattle.mf_store_values.specs.Flat.{how_number, portion_number, instalment_in, share_in, placed_parts, parts_from}
+use Rattle.mf_store_values.specs.Flat.{instalments_kept, shares_kept}
+use Rattle.mf_store_commits.proofs.StepLemmas.{all_steps, loan_place, instalment_step, instalments_put_around}
+use Rattle.mf_store_commits.proofs.StepLemmas.{share_place, share_step, shares_replaced_around}
 use Rattle.mf_store_commits.specs.ChangeWrites.{schedule_put, instalments_put, shares_replaced, shares_put}
 use Rattle.mf_store_commits.specs.ChangeWrites.{change_writes}
 use Rattle.mf_store_commits.specs.Suiting.{SuitsRows, Suits, AllSuit}
-use Rattle.sqlite_keyed.proofs.ListLemmas.{all-append, all-map, all-flat_map, all_of}
-use Rattle.mf_store_values.specs.Flat.{how_number, portion_number, instalment_in, share_in, placed_parts, parts_from}
-use Rattle.mf_store_values.specs.Flat.{instalments_kept, shares_kept}
-use Rattle.mf_store_values.proofs.BlockLemmas.{AroundAt}
-use Rattle.mf_store_commits.proofs.StepLemmas.{all_steps, loan_place, instalment_step, instalments_put_around}
-use Rattle.mf_store_commits.proofs.StepLemmas.{share_place, share_step, shares_replaced_around}
-use Rattle.mf_store_values.proofs.FlatLemmas.{portion_at, portion_read}
-use Rattle.mf_store_values.proofs.PutLemmas.{put_all}
-use Rattle.mf_store_schema.specs.declared.instalments.InstalmentRow.{InstalmentRow}
-use Rattle.mf_store_schema.specs.declared.shares.ShareRow.{ShareRow}
-use Rattle.mf_alloc.specs.Rows.{row_at, no_row}
-use Rattle.std.specs.List.{AllByRecursion, Contains}
-use Rattle.std.specs.Prelude.{Option}
 
 -- ---- two things are the same or not
 

@@ -1,44 +1,43 @@
 -- Commits in the words of the institution: from the writes to the change.
 use Rattle.std.proofs.Common.{◌≡◌, ◌<◌, ◌+◌, ℕ, zero, suc, Bool, true, false, cond, List, [], ◌∷◌, map, length, Option}
 use Rattle.std.proofs.Common.{None, Some, refl, sym, ap, ◌∙◌, arith, ◌==◌, nat_lt, true≢false, Less, Greater, nat_cmp}
-use Rattle.std.specs.Option.{is_some, option_map}
-use Rattle.std.specs.List.{AllByRecursion}
 use Rattle.std.proofs.Common.{inl, inr}
 use Rattle.std.proofs.lemmas.Bool.{cases_Bool, eqb-true, ltb-true, false_from_ne_true}
 use Rattle.std.proofs.lemmas.Bool.Decides.{nat_tests}
-use Rattle.mf_office.specs.declared.staff.Role.{Role}
+use Rattle.std.specs.List.{AllByRecursion}
+use Rattle.std.specs.Option.{is_some, option_map}
+use Rattle.mf_office.proofs.KeyLemmas.{key_of-child}
 use Rattle.mf_office.specs.Keys.{key_of, key_within, key_under, child_key}
 use Rattle.mf_office.specs.Tree.{IsTreeOf}
-use Rattle.mf_office.proofs.KeyLemmas.{key_of-child}
-use Rattle.mf_store_sql.specs.Keep.{put_item}
-use Rattle.mf_model.specs.declared.commit.Commit.TheVariants.{AddOffice, AddStaff, AddClient}
-use Rattle.mf_model.specs.Institution.{Institution, Ledger, Office, Rows, office_at, with_rows, with_office, new_office}
+use Rattle.mf_office.specs.declared.staff.Role.{Role}
+use Rattle.mf_model.proofs.Offices.{parent_of_with_rows, parent_of_with_office, is_there_with_office}
 use Rattle.mf_model.specs.Desk.{staff_added, client_added}
+use Rattle.mf_model.specs.Institution.{Institution, Ledger, Office, Rows, office_at, with_rows, with_office, new_office}
+use Rattle.mf_model.specs.Receipts.{uses_from}
 use Rattle.mf_model.specs.Sound.{IsSound}
 use Rattle.mf_model.specs.Store.{after_commit, rows_at}
 use Rattle.mf_model.specs.Tree.{parent_of, is_there, Above, Ascending}
-use Rattle.mf_model.proofs.Offices.{parent_of_with_rows, parent_of_with_office, is_there_with_office}
+use Rattle.mf_model.specs.declared.commit.Commit.TheVariants.{AddOffice, AddStaff, AddClient}
+use Rattle.mf_store_sql.specs.Keep.{put_item}
 use Rattle.mf_store_schema.specs.Rows.{Lists, by_office, by_staff, by_client}
-use Rattle.mf_store_schema.specs.declared.offices.OfficeRow.{OfficeRow}
-use Rattle.mf_store_schema.specs.declared.staff.StaffRow.{StaffRow}
 use Rattle.mf_store_schema.specs.declared.clients.ClientRow.{ClientRow}
-use Rattle.mf_store_schema.specs.declared.loans.LoanRow.{LoanRow}
 use Rattle.mf_store_schema.specs.declared.entries.EntryRow.{EntryRow}
-use Rattle.mf_store_schema.specs.declared.receipts.ReceiptRow.{ReceiptRow}
 use Rattle.mf_store_schema.specs.declared.instalments.InstalmentRow.{InstalmentRow}
+use Rattle.mf_store_schema.specs.declared.loans.LoanRow.{LoanRow}
+use Rattle.mf_store_schema.specs.declared.offices.OfficeRow.{OfficeRow}
+use Rattle.mf_store_schema.specs.declared.receipts.ReceiptRow.{ReceiptRow}
 use Rattle.mf_store_schema.specs.declared.shares.ShareRow.{ShareRow}
+use Rattle.mf_store_schema.specs.declared.staff.StaffRow.{StaffRow}
+use Rattle.mf_store_schema.specs.declared.writes.StoreWrite.TheVariants.{PutOffice, PutStaff, PutClient}
+use Rattle.mf_store_values.proofs.FlatLemmas.{put_row_of, same_rows_of, no_rows_of}
+use Rattle.mf_store_values.proofs.LoanRowLemmas.{same_by_loan, none_in_office}
+use Rattle.mf_store_values.proofs.PutLemmas.{put_first, put_past}
 use Rattle.mf_store_values.specs.Flat.{tables_of, office_under, key_at, staff_in, client_in, loan_in, loans_of}
 use Rattle.mf_store_values.specs.Flat.{entry_in, own_entries, all_rows, rows_of_loans, kept_of, instalments_kept}
-use Rattle.mf_store_values.specs.Flat.{shares_kept, instalment_in, share_in}
-use Rattle.mf_store_values.specs.Flat.{entry_rows, instalment_rows, share_rows}
+use Rattle.mf_store_values.specs.Flat.{shares_kept, instalment_in, share_in, entry_rows, instalment_rows, share_rows}
 use Rattle.mf_store_values.specs.ReceiptRows.{receipt_rows}
-use Rattle.mf_model.specs.Receipts.{uses_from}
-use Rattle.mf_store_schema.specs.declared.writes.StoreWrite.TheVariants.{PutOffice, PutStaff, PutClient}
-use Rattle.mf_store_commits.specs.Becoming.{Becomes}
-use Rattle.mf_store_values.proofs.LoanRowLemmas.{same_by_loan, none_in_office}
-use Rattle.mf_store_values.proofs.FlatLemmas.{put_row_of, same_rows_of, no_rows_of}
-use Rattle.mf_store_values.proofs.PutLemmas.{put_first, put_past}
 use Rattle.mf_store_commits.proofs.ReceiptRowLemmas.{same_receipts_of, no_receipts_in}
+use Rattle.mf_store_commits.specs.Becoming.{Becomes}
 
 -- ---- one more row of an office
 

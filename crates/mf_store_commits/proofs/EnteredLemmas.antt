@@ -1,42 +1,39 @@
 -- What soundness says of entries: who entered them, and their numbers.
-use Rattle.std.proofs.Common.{◌≡◌, ◌≤◌, ◌+◌, ◌-◌, ◌&&◌, ℕ, zero, suc, Bool, true, false, cond, List, [], ◌∷◌, ◌++◌, map}
-use Rattle.std.proofs.Common.{filter, length, slice_get, Option, None, Some, refl, sym, ap, ◌∙◌, subst, arith}
-use Rattle.std.specs.Prelude.{not, set}
-use Rattle.std.proofs.Common.{inl, inr}
+use Rattle.std.proofs.Common.{◌≡◌, ◌≤◌, ◌+◌, ◌-◌, ℕ, zero, suc, Bool, true, List, [], ◌∷◌, ◌++◌, map, filter, length}
+use Rattle.std.proofs.Common.{slice_get, Option, None, Some, refl, sym, ap, ◌∙◌, subst, arith, inl, inr}
 use Rattle.std.proofs.lemmas.Bool.{cases_Bool}
 use Rattle.std.proofs.lemmas.Bool.Decides.{nat_tests}
 use Rattle.std.proofs.lemmas.List.{length-append, length-set, get_or-set_same}
 use Rattle.std.proofs.lemmas.Option.{slice_get_within, slice_get-get_or}
-use Rattle.mf_base.specs.declared.fault.Fault.TheVariants.{F11, F12, F13}
-use Rattle.mf_account.specs.Loan.{DisbursedLoan}
-use Rattle.mf_account.specs.Refusals.{is_instalment_number, is_sealed, reversal_refused}
-use Rattle.mf_account.specs.Kinds.{is_seal}
-use Rattle.mf_account.specs.Standing.{entry_at, with_mark}
-use Rattle.mf_model.specs.Accounts.{account_in}
 use Rattle.std.specs.List.{AllByRecursion}
+use Rattle.std.specs.Prelude.{set}
 use Rattle.sqlite_keyed.proofs.ListLemmas.{map-map}
-use Rattle.mf_account.specs.declared.entry.Entry.{Entry}
-use Rattle.mf_account.specs.Change.{KeptAccount, IsChange, IsReplayed}
+use Rattle.mf_base.specs.declared.fault.Fault.TheVariants.{F12}
 use Rattle.mf_office.specs.Texts.{IsCaller}
 use Rattle.mf_office.specs.declared.account.Account.{Account}
 use Rattle.mf_office.specs.declared.caller.Caller.{Caller}
-use Rattle.mf_model.specs.declared.commit.Commit.TheVariants.{AddEntry}
-use Rattle.mf_model.specs.Institution.{Institution, Catalogue, Ledger, Rows, item_numbered}
-use Rattle.mf_model.specs.Institution.{with_numbered, with_rows}
+use Rattle.mf_account.specs.Change.{KeptAccount, IsChange, IsReplayed}
+use Rattle.mf_account.specs.Loan.{DisbursedLoan}
+use Rattle.mf_account.specs.Refusals.{is_instalment_number, reversal_refused}
+use Rattle.mf_account.specs.Standing.{entry_at, with_mark}
+use Rattle.mf_account.specs.declared.entry.Entry.{Entry}
+use Rattle.mf_model.proofs.AccountLemmas.{account_is, account_sound}
+use Rattle.mf_model.proofs.Growing.{all_map, all_at}
+use Rattle.mf_model.proofs.StaffLemmas.{staff_are_callers}
+use Rattle.mf_model.specs.Accounts.{account_in}
+use Rattle.mf_model.specs.Institution.{Institution, Catalogue, Ledger, Rows, item_numbered, with_numbered, with_rows}
 use Rattle.mf_model.specs.Loans.{with_entries, loan_entered}
 use Rattle.mf_model.specs.Receipts.{uses_from, AreApart}
 use Rattle.mf_model.specs.Sound.{IsSound, IsSoundLoan, IsSoundRows, IsEntryBy, AreEntriesBy, is_staff}
 use Rattle.mf_model.specs.Stages.{disbursed_on}
-use Rattle.mf_model.proofs.AccountLemmas.{account_is, account_sound}
 use Rattle.mf_model.specs.Store.{after_commit, rows_at, ledger_at, account_of}
-use Rattle.mf_model.proofs.Growing.{all_map, all_at}
-use Rattle.mf_model.proofs.StaffLemmas.{staff_are_callers}
+use Rattle.mf_model.specs.declared.commit.Commit.TheVariants.{AddEntry}
 use Rattle.mf_store_schema.specs.Rows.{entry_row, is_entry_of}
+use Rattle.mf_store_values.proofs.BlockLemmas.{numbered-suc, numbered_set, seen}
+use Rattle.mf_store_values.proofs.SoundLemmas.{office_sound, own_rows}
 use Rattle.mf_store_values.specs.Flat.{tables_of, ledger_entries, entry_in}
 use Rattle.mf_store_commits.proofs.AccountCommitLemmas.{IsChanged, account_with}
 use Rattle.mf_store_commits.proofs.EntryLemmas.{AreEarlier, AreNumbered, later_numbered, entries_shown}
-use Rattle.mf_store_values.proofs.BlockLemmas.{numbered-suc, numbered_set, seen}
-use Rattle.mf_store_values.proofs.SoundLemmas.{office_sound, own_rows}
 
 -- ---- who entered them
 

@@ -1,10 +1,10 @@
 pub mod StepLemmas
-pub mod AccountRowLemmas
+pub mod ReceiptRowLemmas
 pub mod EntryLemmas
 pub mod FoundLemmas
-pub mod ReceiptRowLemmas
 pub mod ChangedRowLemmas
 pub mod AccountCommitLemmas
+pub mod AccountRowLemmas
 pub mod CommitLemmas
 pub mod CatalogueLemmas
 pub mod EnteredLemmas

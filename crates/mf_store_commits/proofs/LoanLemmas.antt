@@ -1,58 +1,55 @@
--- Commits of loans: from the writes to the change.
-use Rattle.std.proofs.Common.{◌≡◌, ◌≤◌, ◌+◌, ◌-◌, ℕ, Bool, true, false, cond, ◌==◌, List, [], ◌∷◌, ◌++◌, map, length}
-use Rattle.std.proofs.Common.{slice_get, Option, None, Some, refl, sym, ap, ◌∙◌, subst, arith}
-use Rattle.std.specs.Option.{option_map}
-use Rattle.std.proofs.Common.{inl, inr}
+-- Commits of loans: from the writes to the change, and which rows the writes ask for.
+use Rattle.std.proofs.Common.{◌≡◌, ◌≤◌, ◌+◌, ◌-◌, ℕ, true, ◌==◌, List, [], ◌∷◌, ◌++◌, map, length, Option, None, Some}
+use Rattle.std.proofs.Common.{refl, sym, ap, ◌∙◌, subst, arith, inl, inr, ◌<◌, find}
 use Rattle.std.proofs.lemmas.Bool.{cases_Bool}
 use Rattle.std.proofs.lemmas.List.{map-append, length-map}
 use Rattle.std.proofs.lemmas.Option.{slice_get-map}
-use Rattle.mf_account.specs.declared.entry.Entry.{Entry}
+use Rattle.std.specs.Option.{option_map}
+use Rattle.mf_office.specs.declared.account.Account.{Account}
+use Rattle.mf_alloc.specs.Sums.{Instalment}
 use Rattle.mf_account.specs.Change.{KeptAccount}
 use Rattle.mf_account.specs.Standing.{entry_at, with_mark}
-use Rattle.mf_office.specs.declared.account.Account.{Account}
-use Rattle.mf_store_sql.specs.Keep.{put_item}
-use Rattle.mf_store_sql.specs.Writes.{AllFit, after_all}
-use Rattle.mf_model.specs.declared.commit.Commit.TheVariants.{AddLoan, SetStage, AddEntry, ReverseEntry}
-use Rattle.mf_model.specs.declared.loan.Loan.{Loan}
-use Rattle.mf_model.specs.declared.loan.Stage.{Stage}
-use Rattle.mf_model.specs.Desk.{loan_added, loan_staged, loan_entered}
+use Rattle.mf_account.specs.declared.entry.Entry.{Entry}
+use Rattle.mf_model.proofs.Growing.{with_same_at}
+use Rattle.mf_model.proofs.ReceiptLemmas.{uses_with, uses_marked, uses_push}
+use Rattle.mf_model.specs.Desk.{loan_added, loan_staged}
 use Rattle.mf_model.specs.Institution.{Institution, Ledger, Office, Rows, item_numbered, with_numbered, with_rows}
-use Rattle.mf_model.specs.Loans.{with_stage, with_reversal, with_entries}
+use Rattle.mf_model.specs.Loans.{loan_entered, with_stage, with_reversal, with_entries}
 use Rattle.mf_model.specs.Receipts.{uses_from, AreApart}
 use Rattle.mf_model.specs.Sound.{IsSound}
 use Rattle.mf_model.specs.Stages.{disbursed_on}
 use Rattle.mf_model.specs.Store.{after_commit, rows_at, ledger_at}
-use Rattle.mf_model.specs.Tree.{is_there, Ascending}
-use Rattle.mf_model.proofs.Growing.{with_same_at}
-use Rattle.mf_model.proofs.ReceiptLemmas.{uses_with, uses_marked, uses_push}
-use Rattle.mf_store_schema.specs.Rows.{Lists, by_loan, by_entry}
-use Rattle.mf_store_schema.specs.declared.loans.LoanRow.{LoanRow}
-use Rattle.mf_store_schema.specs.declared.entries.EntryRow.{EntryRow}
-use Rattle.mf_store_schema.specs.declared.receipts.ReceiptRow.{ReceiptRow}
-use Rattle.mf_store_values.specs.Flat.{tables_of, loan_in, loans_of, entry_in, entry_rows}
-use Rattle.mf_store_values.specs.Flat.{own_entries, reversed_entry, instalment_in, share_in, instalments_kept}
-use Rattle.mf_account.specs.Loan.{DisbursedLoan}
-use Rattle.mf_store_values.specs.Flat.{rows_by_loan, shares_kept, kept_of, instalment_rows, share_rows}
-use Rattle.mf_store_commits.specs.ChangeWrites.{schedule_put, change_writes}
+use Rattle.mf_model.specs.Tree.{is_there}
+use Rattle.mf_model.specs.declared.commit.Commit.TheVariants.{AddLoan, SetStage, AddEntry, ReverseEntry}
+use Rattle.mf_model.specs.declared.loan.Loan.{Loan}
+use Rattle.mf_model.specs.declared.loan.Stage.{Stage}
+use Rattle.mf_store_sql.specs.Keep.{put_item}
+use Rattle.mf_store_sql.specs.Writes.{AllFit, after_all}
+use Rattle.mf_store_schema.specs.Rows.{Lists, by_loan, by_entry, IsNew, IsThere, is_row_of_loan}
 use Rattle.mf_store_schema.specs.Writes.{FitsLists, after_write}
+use Rattle.mf_store_schema.specs.declared.entries.EntryRow.{EntryRow}
+use Rattle.mf_store_schema.specs.declared.loans.LoanRow.{LoanRow}
+use Rattle.mf_store_schema.specs.declared.receipts.ReceiptRow.{ReceiptRow}
 use Rattle.mf_store_schema.specs.declared.writes.StoreWrite.{StoreWrite}
-use Rattle.mf_store_schema.specs.declared.writes.StoreWrite.TheVariants as write
-use Rattle.mf_store_values.specs.ReceiptRows.{receipt_rows, receipt_added, entry_added}
-use Rattle.mf_store_commits.specs.Becoming.{Becomes}
-use Rattle.mf_store_commits.specs.Suiting.{Carries, AllSuit, Suits}
-use Rattle.mf_store_schema.specs.Rows.{IsNew, IsThere}
-use Rattle.mf_store_values.specs.ReceiptRows.{receipt_in}
-use Rattle.mf_store_commits.proofs.FoundLemmas.{entry_by_number, number_free, number_there}
-use Rattle.mf_store_commits.proofs.ReceiptRowLemmas.{receipt_free, receipt_found}
-use Rattle.std.proofs.Common.{IsSome, ◌<◌}
-use Rattle.mf_store_commits.proofs.AccountCommitLemmas.{IsChanged, change_written, schedule_there, staged_shares}
-use Rattle.mf_store_commits.proofs.AccountRowLemmas.{none_before}
-use Rattle.mf_store_commits.proofs.ChangedRowLemmas.{after_both, fit_both, all_fit, all_suit, change_plain, schedule_plain}
-use Rattle.mf_store_commits.proofs.CommitLemmas.{loans_become}
-use Rattle.mf_store_commits.proofs.EntryLemmas.{AreEarlier, AreNumbered, PutsEntry, puts_last, puts_reversed, entry_put}
+use Rattle.mf_store_values.proofs.FlatLemmas.{put_row_of, put_over_of, same_rows_of, find_row}
 use Rattle.mf_store_values.proofs.LoanRowLemmas.{same_by_loan, one_more_loan, change_alone}
-use Rattle.mf_store_values.proofs.FlatLemmas.{put_row_of, put_over_of, same_rows_of}
-use Rattle.mf_store_commits.proofs.ReceiptRowLemmas.{same_receipts_of, no_receipt_put, receipt_put}
+use Rattle.mf_store_values.specs.Flat.{tables_of, loan_in, loans_of, entry_in, entry_rows, own_entries, reversed_entry}
+use Rattle.mf_store_values.specs.Flat.{instalment_in, share_in, instalments_kept, shares_kept, kept_of}
+use Rattle.mf_store_values.specs.ReceiptRows.{receipt_rows, receipt_added, entry_added, receipt_in}
+use Rattle.mf_store_commits.proofs.AccountCommitLemmas.{IsChanged, change_written, schedule_there, staged_shares}
+use Rattle.mf_store_commits.proofs.AccountCommitLemmas.{none_before}
+use Rattle.mf_store_commits.proofs.CatalogueLemmas.{none_next}
+use Rattle.mf_store_commits.proofs.ChangedRowLemmas.{after_both, fit_both, all_fit, all_suit, change_plain}
+use Rattle.mf_store_commits.proofs.ChangedRowLemmas.{schedule_plain}
+use Rattle.mf_store_commits.proofs.CommitLemmas.{loans_become}
+use Rattle.mf_store_commits.proofs.EntryLemmas.{entry_by_number, number_free, number_there, AreEarlier, AreNumbered}
+use Rattle.mf_store_commits.proofs.EntryLemmas.{PutsEntry, puts_last, puts_reversed, entry_put}
+use Rattle.mf_store_commits.proofs.ReceiptRowLemmas.{receipt_free, receipt_found, same_receipts_of, no_receipt_put}
+use Rattle.mf_store_commits.proofs.ReceiptRowLemmas.{receipt_put}
+use Rattle.mf_store_commits.specs.Becoming.{Becomes}
+use Rattle.mf_store_commits.specs.ChangeWrites.{schedule_put, change_writes}
+use Rattle.mf_store_commits.specs.Suiting.{Carries, AllSuit, Suits}
+use Rattle.mf_store_schema.specs.declared.writes.StoreWrite.TheVariants as write
 
 -- ---- loans without their entries
 
@@ -138,6 +135,31 @@ module _ (account : Account) (stage : Stage) (l : Ledger) (i : Institution) (bef
             (same_receipts_of x new i.offices up (uses_with n 1 (with_stage stage) loans (λ l k. refl))) refl
             (staged_shares i.catalogue x n l stage new i.offices up there refl none without));
       }
+
+-- ---- the writes of loans suit the rows that are there
+
+loan_found : (x n : ℕ) (i : Institution) → IsSound i → find (is_row_of_loan x n) (tables_of i).loans
+    ≡ option_map (loan_in x n) (option_map loan_of (item_numbered (rows_at x i).loans n))
+loan_found x n i sound = find_row loan_in loans_of refl is_row_of_loan (λ x k y m a. refl) x n i.offices
+    sound.tree.ascending
+    ∙ ap (option_map (loan_in x n)) (numbered_loan (rows_at x i).loans n)
+
+-- a new loan
+pub loan_suits : (x : ℕ) (loan : Loan) (i : Institution) → IsSound i → (r : LoanRow)
+    → r ≡ loan_in x (length (rows_at x i).loans + 1) loan → AllSuit (write.AddLoan r ∷ []) (tables_of i)
+loan_suits x loan i sound r is =
+    let loans = (rows_at x i).loans in
+    rw is (rw (loan_found x (length loans + 1) i sound, none_next loans), tt)
+
+-- a loan's stage
+pub stage_suits : (loan : Account) (now : Loan) (l : Ledger) (i : Institution) → IsSound i → ledger_at loan i ≡ Some l
+    → (numbered : List (ℕ × Instalment)) (r : LoanRow) → r ≡ loan_in loan.office loan.number now
+    → AllSuit (write.PutLoan r ∷ schedule_put loan.office loan.number numbered) (tables_of i)
+stage_suits loan now l i sound there numbered r is =
+    let plain = schedule_plain loan.office loan.number numbered in
+    rw is (rw (loan_found loan.office loan.number i sound, there), all_suit _ plain _)
+
+-- ---- entries
 
 -- what a change of a loan's entries leaves of the rows of its office
 module _ (loan : Account) (account : KeptAccount) (l : Ledger) (i : Institution) (before : IsSound i)

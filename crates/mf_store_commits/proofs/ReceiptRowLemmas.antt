@@ -1,22 +1,22 @@
 -- The rows of receipts: one found by its key, and what becomes of them when the institution changes.
-use Rattle.std.proofs.Common.{◌≡◌, ◌≢◌, ◌≤◌, ◌+◌, ℕ, Bool, true, false, cond, List, [], ◌∷◌, ◌++◌, map, find, filter}
-use Rattle.std.proofs.Common.{length, slice_get, None, Some, inl, inr, refl, sym, ap, ◌∙◌, subst, arith, true≢false}
+use Rattle.std.proofs.Common.{◌≡◌, ◌≢◌, ◌≤◌, ◌+◌, ℕ, Bool, true, false, List, [], ◌∷◌, ◌++◌, map, find, filter, length}
+use Rattle.std.proofs.Common.{slice_get, None, Some, inl, inr, refl, sym, ap, ◌∙◌, subst, arith, true≢false}
 use Rattle.std.proofs.Common.{append_assoc, Ordering, Less, Equal, Greater, is_eq, is_gt, IsPermutation}
-use Rattle.std.specs.Cmp.{IsTotalOrder}
-use Rattle.std.specs.List.{AllByRecursion}
-use Rattle.std.specs.Option.{option_map}
-use Rattle.std.specs.Ordering.{ordering_reverse}
-use Rattle.std.specs.Str.{bytes_eq}
 use Rattle.std.proofs.lemmas.Bool.{cases_Bool, true_from_ne_false, both_ways}
 use Rattle.std.proofs.lemmas.Cmp.{upto}
 use Rattle.std.proofs.lemmas.List.Elements.{recursion_from_All, All-from_recursion}
 use Rattle.std.proofs.lemmas.List.Sorted.{length_permutation, All-permutation}
 use Rattle.std.proofs.lemmas.Slice.Eq.{bytes_eq-Decides}
+use Rattle.std.specs.Cmp.{IsTotalOrder}
+use Rattle.std.specs.List.{AllByRecursion}
+use Rattle.std.specs.Option.{option_map}
+use Rattle.std.specs.Ordering.{ordering_reverse}
+use Rattle.std.specs.Str.{bytes_eq}
 use Rattle.sqlite_keyed.proofs.ListLemmas.{all_of, slice_get-filter, filter_none, IsPermutation-filter}
 use Rattle.sqlite_keyed.proofs.SortLemmas.{IsPermutation-sort_by}
 use Rattle.sqlite_keyed.specs.Lists.{insert_sorted, sort_by}
 use Rattle.mf_account.specs.declared.entry.Entry.{Entry}
-use Rattle.mf_store_sql.specs.Keep.{put_item}
+use Rattle.mf_model.proofs.ReceiptLemmas.{IsPut, uses_in_push}
 use Rattle.mf_model.specs.Institution.{Institution, Ledger, Office, Rows, office_at, with_rows, with_office, no_rows}
 use Rattle.mf_model.specs.Institution.{item_numbered, with_numbered}
 use Rattle.mf_model.specs.Loans.{with_entries}
@@ -24,17 +24,17 @@ use Rattle.mf_model.specs.Receipts.{Use, use_by, use_of, uses_in, uses_from, fir
 use Rattle.mf_model.specs.Sound.{IsSound, is_staff}
 use Rattle.mf_model.specs.Store.{rows_of, use_at}
 use Rattle.mf_model.specs.Tree.{Ascending}
-use Rattle.mf_model.proofs.ReceiptLemmas.{IsPut, uses_in_push}
+use Rattle.mf_store_sql.specs.Keep.{put_item}
+use Rattle.mf_store_schema.proofs.OrderLemmas.{by_receipt_total}
 use Rattle.mf_store_schema.specs.Rows.{by_receipt, is_row_of_receipt}
 use Rattle.mf_store_schema.specs.declared.receipts.ReceiptRow.{ReceiptRow}
-use Rattle.mf_store_schema.proofs.OrderLemmas.{by_receipt_total}
-use Rattle.mf_store_values.specs.ReceiptRows.{receipt_in, receipts_carried, receipt_rows}
-use Rattle.mf_store_values.proofs.ReceiptLemmas.{apart_bytes, own_key, AreOthers, others_in, others_of}
 use Rattle.mf_store_values.proofs.BlockLemmas.{Around, in_blocks, blocks_from, numbered_around, office_around}
 use Rattle.mf_store_values.proofs.BlockLemmas.{around_mapped, within, blocks_same, blocks_new, filter_office, seen}
 use Rattle.mf_store_values.proofs.PutLemmas.{none_dropped}
+use Rattle.mf_store_values.proofs.ReceiptLemmas.{apart_bytes, own_key, AreOthers, others_in, others_of}
 use Rattle.mf_store_values.proofs.SortedLemmas.{all_sorted}
 use Rattle.mf_store_values.proofs.SoundLemmas.{office_sound}
+use Rattle.mf_store_values.specs.ReceiptRows.{receipt_in, receipts_carried, receipt_rows}
 
 -- ---- rows in the order of their key
 

@@ -1,29 +1,28 @@
 -- Rows by number, some of which are brought to what they are in another list: a loan's instalments, and its shares.
-use Rattle.std.proofs.Common.{◌≡◌, ◌<◌, ◌≤◌, ◌+◌, ◌-◌, ℕ, zero, suc, Bool, false, true, List, [], ◌∷◌, ◌++◌, map, filter}
-use Rattle.std.proofs.Common.{length, refl, sym, ap, ap₂, ◌∙◌, subst, arith, inl, inr, Ordering, Less, Equal, Greater}
-use Rattle.std.proofs.Common.{is_eq, nat_cmp}
-use Rattle.std.specs.Prelude.{◌⊎◌, get_or, set, not}
-use Rattle.std.specs.List.{AllByRecursion, Contains}
-use Rattle.std.specs.Ordering.{ordering_then}
+use Rattle.std.proofs.Common.{◌≡◌, ◌<◌, ◌≤◌, ◌+◌, ◌-◌, ℕ, zero, suc, Bool, false, true, List, [], ◌∷◌, ◌++◌, map}
+use Rattle.std.proofs.Common.{filter, length, refl, sym, ap, ap₂, ◌∙◌, subst, arith, inl, inr, Ordering, Less, Equal}
+use Rattle.std.proofs.Common.{Greater, is_eq, nat_cmp, ◌⊎◌, get_or, not, take, append_assoc, add-one}
 use Rattle.std.proofs.lemmas.Bool.{cases_eq}
 use Rattle.std.proofs.lemmas.Bool.Decides.{nat_tests}
-use Rattle.std.proofs.lemmas.Option.{slice_get-get_or}
 use Rattle.std.proofs.lemmas.List.{length-set, get_or-set_same, get_or-set_other, ext_get_or, map-append}
 use Rattle.std.proofs.lemmas.List.Elements.{filter-append}
+use Rattle.std.proofs.lemmas.Option.{slice_get-get_or}
+use Rattle.std.specs.List.{AllByRecursion, Contains}
+use Rattle.std.specs.Ordering.{ordering_then}
+use Rattle.std.specs.Prelude.{set}
 use Rattle.sqlite_keyed.proofs.ListLemmas.{all_weaker, filter_all, filter_none}
 use Rattle.lru.proofs.Splits.{Contains-nil, Contains-cons, Contains-head, Contains-tail}
-use Rattle.mf_alloc.specs.Sums.{Instalment}
 use Rattle.mf_alloc.specs.Rows.{row_at, no_row}
+use Rattle.mf_alloc.specs.Sums.{Instalment}
 use Rattle.mf_account.specs.declared.settled.SettledPart.{SettledPart}
 use Rattle.mf_store_sql.specs.Keep.{put_item}
 use Rattle.mf_store_schema.specs.Rows.{by_instalment, by_share, is_share_in}
 use Rattle.mf_store_schema.specs.declared.instalments.InstalmentRow.{InstalmentRow}
 use Rattle.mf_store_schema.specs.declared.shares.ShareRow.{ShareRow}
-use Rattle.mf_store_values.specs.Flat.{instalment_in, share_in, numbered_from, placed_parts, parts_from}
 use Rattle.mf_store_values.proofs.BlockLemmas.{Around, AroundAt, around_same, blocks_from, set_around, within}
 use Rattle.mf_store_values.proofs.FlatLemmas.{blocks_mapped, all_mapped}
 use Rattle.mf_store_values.proofs.PutLemmas.{put_around, put_over, put_all, put_all_around, AreRising}
-use Rattle.std.proofs.Common.{take, append_assoc, add-one}
+use Rattle.mf_store_values.specs.Flat.{instalment_in, share_in, numbered_from, placed_parts, parts_from}
 
 -- what stands round one block stands round another
 round : {R : Type 0} {P Q S T : R → Type 0} {old new block changed : List R} → ((s : R) → P s → S s)

@@ -1,11 +1,6 @@
-use Rattle.std.proofs.Common.{◌≡◌, ◌-◌, ◌∷◌, [], ◌++◌, List, length, sym, subst, ap, ◌∙◌}
+use Rattle.std.proofs.Common.{◌≡◌, ◌∷◌, [], ◌++◌, List, ap, ◌∙◌}
 use Rattle.mf_account.specs.declared.entry.Entry.{Entry}
-use Rattle.mf_account.specs.Standing.{entry_at}
-use Rattle.mf_model.specs.declared.commit.Commit.TheVariants.{AddEntry}
-use Rattle.mf_store_commits.specs.ChangeWrites.{change_writes}
-use Rattle.mf_store_commits.specs.Suiting.{Carries}
 use Rattle.mf_store_values.specs.Flat.{entry_in}
-use Rattle.mf_store_values.specs.ReceiptRows.{entry_added}
 use Rattle.mf_store_commits.proofs.EnteredLemmas.{account_of_loan, entry_last, entry_apart, handed_changed, longer}
 use Rattle.mf_store_commits.proofs.EntryLemmas.{last_entry}
 use Rattle.mf_store_commits.proofs.LoanLemmas.{entry_carries}

@@ -1,10 +1,6 @@
-use Rattle.std.proofs.Common.{◌≡◌, ◌≤◌, ◌-◌, ◌++◌, ◌∷◌, [], true, List, length, sym, ap, ◌∙◌, subst, arith}
+use Rattle.std.proofs.Common.{◌≡◌, ◌≤◌, ◌-◌, true, List, length, ap, ◌∙◌, subst, arith}
 use Rattle.mf_account.specs.declared.entry.Entry.{Entry}
 use Rattle.mf_account.specs.Standing.{entry_at, with_mark}
-use Rattle.mf_model.specs.declared.commit.Commit.TheVariants.{ReverseEntry}
-use Rattle.mf_store_schema.specs.declared.writes.StoreWrite.TheVariants.{ChangeEntry}
-use Rattle.mf_store_commits.specs.ChangeWrites.{change_writes}
-use Rattle.mf_store_commits.specs.Suiting.{Carries}
 use Rattle.mf_store_values.specs.Flat.{entry_in, reversed_entry}
 use Rattle.mf_store_commits.proofs.EnteredLemmas.{account_of_loan, as_long, handed_changed, loan_numbered}
 use Rattle.mf_store_commits.proofs.EnteredLemmas.{reversal_there}

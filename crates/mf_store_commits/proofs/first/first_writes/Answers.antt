@@ -1,4 +1,4 @@
-use Rattle.std.proofs.Common.{◌≡◌, ℕ, None, Some, List, [], ◌∷◌, ◌++◌, codes, refl, sym, subst, ap, ◌∙◌, arith}
+use Rattle.std.proofs.Common.{◌≡◌, ℕ, None, Some, List, [], ◌∷◌, codes, refl, ◌∙◌, arith}
 use Rattle.mf_base.specs.DayText.{day_text}
 use Rattle.mf_office.specs.Keys.{key_of, key_within}
 use Rattle.mf_store_schema.specs.Rows.{empty_lists}
