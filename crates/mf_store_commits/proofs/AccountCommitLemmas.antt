@@ -1,36 +1,86 @@
--- What the commits that change a loan's account make of all rows of instalments and of shares.
-use Rattle.std.proofs.Common.{◌≡◌, ◌≤◌, ◌++◌, ℕ, List, [], map, length, Option, None, Some, refl, sym, ap, ap₂, ◌∙◌}
-use Rattle.std.proofs.Common.{subst, Greater, Less}
+-- The rows of a loan's account, its instalments and its shares: as the catalogue grows, where a loan has no account, and
+-- what the commits that change an account make of them.
+use Rattle.std.proofs.Common.{◌≡◌, ◌++◌, ◌≤◌, ℕ, List, [], map, length, Option, None, Some, refl, sym, ap, ap₂, ◌∙◌}
+use Rattle.std.proofs.Common.{subst, Greater, Less, Ordering, nat_cmp, ◌+◌, Bool, ◌∷◌}
+use Rattle.std.specs.List.{AllByRecursion}
+use Rattle.std.specs.Ordering.{ordering_then}
+use Rattle.mf_office.specs.declared.caller.Caller.{Caller}
+use Rattle.mf_catalog.specs.declared.terms.Terms.{Terms}
 use Rattle.mf_alloc.specs.Sums.{Instalment}
-use Rattle.mf_account.specs.declared.entry.Entry.{Entry}
-use Rattle.mf_account.specs.declared.settled.SettledPart.{SettledPart}
-use Rattle.mf_account.specs.Effect.{State}
 use Rattle.mf_account.specs.Change.{KeptAccount, IsChange, IsReplayed, settled_in}
 use Rattle.mf_account.specs.Loan.{DisbursedLoan, IsSoundDisbursed, state_of_loan, settled_of_loan}
-use Rattle.mf_store_sql.specs.Writes.{after_all}
-use Rattle.mf_model.specs.Accounts.{account_in, of_account, running_from}
+use Rattle.mf_account.specs.declared.entry.Entry.{Entry}
+use Rattle.mf_account.specs.declared.settled.SettledPart.{SettledPart}
+use Rattle.mf_model.proofs.AccountLemmas.{IsRunning, account_is, account_there}
+use Rattle.mf_model.specs.Accounts.{account_in, of_account, running_from, terms_in}
 use Rattle.mf_model.specs.Institution.{Catalogue, Ledger, Office, Rows, item_numbered, office_at, with_numbered}
 use Rattle.mf_model.specs.Institution.{with_rows}
 use Rattle.mf_model.specs.Loans.{with_stage, with_entries}
+use Rattle.mf_model.specs.Sound.{IsSoundLoan, IsSoundOffice}
 use Rattle.mf_model.specs.Stages.{disbursed_on}
 use Rattle.mf_model.specs.Store.{rows_of}
 use Rattle.mf_model.specs.Tree.{Ascending}
 use Rattle.mf_model.specs.declared.loan.Stage.{Stage}
-use Rattle.mf_model.proofs.AccountLemmas.{IsRunning, account_is}
+use Rattle.mf_store_sql.specs.Writes.{after_all}
 use Rattle.mf_store_schema.specs.Rows.{Lists, by_instalment}
 use Rattle.mf_store_schema.specs.Writes.{after_write}
-use Rattle.mf_store_commits.specs.ChangeWrites.{change_writes, instalments_put, schedule_put, shares_put}
-use Rattle.mf_store_values.specs.Flat.{instalment_in, share_in, parts_from, instalments_kept, shares_kept, kept_of}
-use Rattle.mf_store_values.specs.Flat.{instalment_rows, share_rows}
-use Rattle.mf_store_commits.proofs.AccountRowLemmas.{none_before}
 use Rattle.mf_store_values.proofs.BlockLemmas.{AroundAt, around_same}
-use Rattle.mf_store_commits.proofs.BroughtLemmas.{all_steps}
-use Rattle.mf_store_commits.proofs.ChangedRowLemmas.{instalments_changed, shares_changed, after_both}
-use Rattle.mf_store_commits.proofs.ChangedRowLemmas.{instalments_written, shares_written, schedule_written}
-use Rattle.mf_store_commits.proofs.InstalmentRowLemmas.{loan_place, instalment_step, fresh_put_around}
 use Rattle.mf_store_values.proofs.LoanRowLemmas.{rows_around}
 use Rattle.mf_store_values.proofs.PutLemmas.{put_all}
-use Rattle.mf_store_commits.proofs.ShareRowLemmas.{share_place, share_step}
+use Rattle.mf_store_values.specs.Flat.{instalment_in, share_in, parts_from, instalments_kept, shares_kept, kept_of}
+use Rattle.mf_store_values.specs.Flat.{instalment_rows, share_rows, rows_by_loan, rows_of_loans}
+use Rattle.mf_store_commits.proofs.ChangedRowLemmas.{instalments_changed, shares_changed, after_both}
+use Rattle.mf_store_commits.proofs.ChangedRowLemmas.{instalments_written, shares_written, schedule_written}
+use Rattle.mf_store_commits.proofs.StepLemmas.{all_steps, loan_place, instalment_step, fresh_put_around, share_place}
+use Rattle.mf_store_commits.proofs.StepLemmas.{share_step}
+use Rattle.mf_store_commits.specs.ChangeWrites.{change_writes, instalments_put, schedule_put}
+
+-- ---- as the catalogue grows
+
+-- products give the terms that they gave
+abbrev pub TermsStand : Catalogue → Catalogue → Type 0
+TermsStand k h = (n : ℕ) (t : Terms) → terms_in k n ≡ Some t → terms_in h n ≡ Some t
+
+-- a sound loan has the account that it had
+pub same_account : (k h : Catalogue) (staffed : Caller → Bool) (clients : List (List ℕ)) (l : Ledger) → TermsStand k h
+    → IsSoundLoan k staffed clients l → account_in k l ≡ account_in h l
+same_account k h staffed clients l stand sound = go (disbursed_on l.loan.stage) refl
+  where
+    go : (d : Option ℕ) → disbursed_on l.loan.stage ≡ d → account_in k l ≡ account_in h l
+    go None e = ap (λ d. running_from l.loan l.entries d (terms_in k l.loan.product)) e
+        ∙ sym (ap (λ d. running_from l.loan l.entries d (terms_in h l.loan.product)) e)
+    go (Some day) e =
+        let there = account_there k l day e sound.product in
+        let is : IsRunning k l there.0 = account_is k l there.0 there.1 in
+        there.1
+        ∙ sym (ap (λ d. running_from l.loan l.entries d (terms_in h l.loan.product)) is.day_is
+        ∙ ap (running_from l.loan l.entries (Some is.day)) (stand l.loan.product is.terms is.terms_is)
+        ∙ ap Some is.account_is)
+
+module _ {A R : Type 0} (make : ℕ → ℕ → A → R) (read : DisbursedLoan → List A) where
+  loans_stand : (k h : Catalogue) (staffed : Caller → Bool) (clients : List (List ℕ)) (x n : ℕ) (ls : List Ledger)
+      → TermsStand k h → AllByRecursion (IsSoundLoan k staffed clients) ls → rows_of_loans make (kept_of read k) x n ls
+      ≡ rows_of_loans make (kept_of read h) x n ls
+  loans_stand k h staffed clients x n [] stand sound = refl
+  loans_stand k h staffed clients x n (l ∷ ls) stand sound =
+      let more = loans_stand k h staffed clients x (n + 1) ls stand sound.1 in
+      rw (same_account k h staffed clients l stand sound.0, more)
+
+  -- the rows that are read off the accounts of sound loans stand
+  pub rows_stand : (k h : Catalogue) (staffed : Caller → Bool) (fs : List Office) → TermsStand k h
+      → AllByRecursion (IsSoundOffice k staffed) fs → rows_by_loan make (kept_of read k) fs
+      ≡ rows_by_loan make (kept_of read h) fs
+  rows_stand k h staffed [] stand sound = refl
+  rows_stand k h staffed (f ∷ fs) stand sound = ap₂ ◌++◌ (loans_stand k h staffed f.rows.clients f.number 1 f.rows.loans
+      stand sound.0.rows.loans) (rows_stand k h staffed fs stand sound.1)
+
+-- ---- where a loan has no account
+
+-- before it is disbursed
+pub none_before : {A : Type 0} (read : DisbursedLoan → List A) (k : Catalogue) (l : Ledger) → disbursed_on l.loan.stage
+    ≡ None
+    → kept_of read k l ≡ []
+none_before read k l e = ap (λ d. of_account [] read (running_from l.loan l.entries d (terms_in k l.loan.product))) e
 
 -- ---- entries
 
@@ -55,72 +105,49 @@ pub record IsChanged (k : Catalogue) (l : Ledger) (account : KeptAccount) : Type
   pub kept : IsReplayed account
   pub change : IsChange before account.loan account.change
 
--- what is kept of an account that is there
-kept_where : {A : Type 0} (read : DisbursedLoan → List A) (k : Catalogue) (l : Ledger) (a : DisbursedLoan)
-    → account_in k l ≡ Some a
-    → kept_of read k l ≡ read a
-kept_where read k l a is = ap (of_account [] read) is
-
 module _ (k : Catalogue) (x n : ℕ) (l : Ledger) (account : KeptAccount) (changed : IsChanged k l account) (new : Rows)
     (fs : List Office) (up : Ascending fs) (at : item_numbered (rows_of (office_at x fs)).loans n ≡ Some l)
     (is : new.loans ≡ with_numbered n (with_entries account.loan.entries) (rows_of (office_at x fs)).loans) where
-  abbrev later : Ledger
-  later = with_entries account.loan.entries l
-
   abbrev rows : List Instalment
   rows = (state_of_loan account.loan).rows
 
   abbrev settled : ℕ → List SettledPart
   settled s = settled_in s (settled_of_loan account.loan)
 
+  -- other rows stand round those that are read off its account
+  read_around : {A R : Type 0} (make : ℕ → ℕ → A → R) (read : DisbursedLoan → List A) (place : ℕ → ℕ → R → Ordering)
+      → ((x n y m : ℕ) (a : A) → place x n (make y m a) ≡ ordering_then (nat_cmp x y) (nat_cmp n m))
+      → AroundAt (place x n) (rows_by_loan make (kept_of read k) fs) (rows_by_loan make (kept_of read k)
+      (with_rows x new fs)) (map (make x n) (read changed.before)) (map (make x n) (read account.loan))
+  read_around {A} make read place keyed =
+      subst (λ (b : List A × List A). AroundAt (place x n) (rows_by_loan make (kept_of read k) fs)
+      (rows_by_loan make (kept_of read k) (with_rows x new fs)) (map (make x n) b.0) (map (make x n) b.1))
+      (λ t. (of_account [] read (changed.was t), of_account [] read (changed.now t)))
+      (rows_around make (kept_of read k) place keyed x n (with_entries account.loan.entries) l new fs up at is)
+
   instalments_brought : all_steps (instalment_step x n rows) account.change.rows (instalment_rows k fs)
       ≡ instalment_rows k (with_rows x new fs)
   instalments_brought =
       instalments_changed x n changed.before account.loan account.change changed.sound changed.then changed.same
-      changed.change (subst (λ (b : List (ℕ × Instalment) × List (ℕ × Instalment)). AroundAt (loan_place x n)
-      (instalment_rows k fs)
-      (instalment_rows k (with_rows x new fs)) (map (instalment_in x n) b.0) (map (instalment_in x n) b.1))
-      (λ t. (
-        kept_where instalments_kept k l changed.before changed.was t,
-        kept_where instalments_kept k later
-            account.loan changed.now t,
-      )) (rows_around instalment_in (kept_of instalments_kept k) loan_place (λ x n y m a. refl) x n
-      (with_entries account.loan.entries) l new fs up at is))
+      changed.change (read_around instalment_in instalments_kept loan_place (λ x n y m a. refl))
 
   shares_brought : all_steps (share_step x n settled) account.change.seqs (share_rows k fs)
       ≡ share_rows k (with_rows x new fs)
-  shares_brought =
-      shares_changed x n changed.before account.loan account.change changed.sound changed.more changed.change
-      (subst (λ (b : List (ℕ × (ℕ × SettledPart)) × List (ℕ × (ℕ × SettledPart))). AroundAt (share_place x n)
-      (share_rows k fs)
-      (share_rows k (with_rows x new fs)) (map (share_in x n) b.0) (map (share_in x n) b.1))
-      (λ t. (
-        kept_where shares_kept k l changed.before changed.was t,
-        kept_where shares_kept k later account.loan
-            changed.now t,
-      )) (rows_around share_in (kept_of shares_kept k) share_place
-      (λ x n y m a. refl) x n (with_entries account.loan.entries) l new fs up at is))
+  shares_brought = shares_changed x n changed.before account.loan account.change changed.sound changed.more
+      changed.change (read_around share_in shares_kept share_place (λ x n y m a. refl))
 
   -- the writes of the change bring all rows to what the replay has
-  pub change_written : (lists : Lists) → lists.instalments ≡ instalment_rows k fs → lists.shares ≡ share_rows k fs
-      → after_all after_write (change_writes x n account) (Some lists)
+  pub change_written : (lists : Lists) → after_all after_write (change_writes x n account)
+      (Some (record lists { instalments = instalment_rows k fs; shares = share_rows k fs }))
       ≡ Some (record lists {
         instalments = instalment_rows k (with_rows x new fs);
         shares = share_rows k (with_rows x new fs);
       })
-  change_written lists instalments shares =
-      ap (λ ws. after_all after_write ws (Some lists)) (ap₂ (λ r s. instalments_put x n r account.change.rows
-      ++ shares_put x n s account.change.seqs) (ap (λ (s : State). s.rows) changed.kept.state) changed.kept.settled)
-      ∙ after_both (instalments_put x n rows account.change.rows) (shares_put x n (settled_of_loan account.loan)
-      account.change.seqs) (Some lists)
-      ∙ ap (after_all after_write (shares_put x n (settled_of_loan account.loan) account.change.seqs))
-      (instalments_written x n rows account.change.rows lists)
-      ∙ shares_written x n (settled_of_loan account.loan) account.change.seqs _
-      ∙ (λ t. Some (record lists {
-        instalments = (ap (all_steps (instalment_step x n rows) account.change.rows) instalments
-            ∙ instalments_brought) t;
-        shares = (ap (all_steps (share_step x n settled) account.change.seqs) shares ∙ shares_brought) t;
-      }))
+  change_written lists =
+      rw (changed.kept.state, changed.kept.settled, after_both (instalments_put x n rows account.change.rows))
+      (rw (instalments_written x n rows account.change.rows)
+      (shares_written x n (settled_of_loan account.loan) account.change.seqs _
+      ∙ (λ t. Some (record lists { instalments = instalments_brought t; shares = shares_brought t }))))
 
 -- ---- stages
 
@@ -161,13 +188,9 @@ module _ (k : Catalogue) (x n : ℕ) (l : Ledger) (stage : Stage) (new : Rows) (
       (ap (map (share_in x n)) (none_before shares_kept k l before ∙ sym (unshared (account_in k then) refl)))
 
   -- the rows of the schedule bring all rows to what the replay has
-  pub schedule_there : (lists : Lists) → lists.instalments ≡ instalment_rows k fs
-      → after_all after_write (schedule_put x n (kept_of instalments_kept k then)) (Some lists)
+  pub schedule_there : (lists : Lists) → after_all after_write (schedule_put x n (kept_of instalments_kept k then))
+      (Some (record lists { instalments = instalment_rows k fs }))
       ≡ Some (record lists { instalments = instalment_rows k (with_rows x new fs) })
-  schedule_there lists instalments =
-      schedule_written x n (kept_of instalments_kept k then) lists
-      ∙ (λ t. Some
-      (record lists {
-        instalments = (ap (put_all by_instalment (map (instalment_in x n) (kept_of instalments_kept k then)))
-            instalments ∙ schedule_brought) t;
-      }))
+  schedule_there lists =
+      schedule_written x n (kept_of instalments_kept k then) (record lists { instalments = instalment_rows k fs })
+      ∙ (λ t. Some (record lists { instalments = schedule_brought t }))

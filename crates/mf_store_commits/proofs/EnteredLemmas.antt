@@ -1,40 +1,39 @@
 -- What soundness says of entries: who entered them, and their numbers.
-use Rattle.std.proofs.Common.{◌≡◌, ◌≤◌, ◌+◌, ◌-◌, ◌&&◌, ℕ, zero, suc, Bool, true, false, cond, List, [], ◌∷◌, ◌++◌, map}
-use Rattle.std.proofs.Common.{filter, length, slice_get, Option, None, Some, refl, sym, ap, ◌∙◌, subst, arith}
-use Rattle.std.specs.Prelude.{not, set}
+use Rattle.std.proofs.Common.{◌≡◌, ◌≤◌, ◌+◌, ◌-◌, ℕ, zero, suc, Bool, true, List, [], ◌∷◌, ◌++◌, map, filter, length}
+use Rattle.std.proofs.Common.{slice_get, Option, None, Some, refl, sym, ap, ◌∙◌, subst, arith, inl, inr}
+use Rattle.std.proofs.lemmas.Bool.{cases_Bool}
 use Rattle.std.proofs.lemmas.Bool.Decides.{nat_tests}
 use Rattle.std.proofs.lemmas.List.{length-append, length-set, get_or-set_same}
 use Rattle.std.proofs.lemmas.Option.{slice_get_within, slice_get-get_or}
-use Rattle.mf_base.specs.declared.fault.Fault.TheVariants.{F11, F12, F13}
-use Rattle.mf_account.specs.Loan.{DisbursedLoan}
-use Rattle.mf_account.specs.Refusals.{is_instalment_number, is_sealed, reversal_refused}
-use Rattle.mf_account.specs.Kinds.{is_seal}
-use Rattle.mf_account.specs.Standing.{entry_at, with_mark}
-use Rattle.mf_model.specs.Accounts.{account_in}
 use Rattle.std.specs.List.{AllByRecursion}
+use Rattle.std.specs.Prelude.{set}
 use Rattle.sqlite_keyed.proofs.ListLemmas.{map-map}
-use Rattle.mf_account.specs.declared.entry.Entry.{Entry}
-use Rattle.mf_account.specs.Change.{KeptAccount, IsChange, IsReplayed}
+use Rattle.mf_base.specs.declared.fault.Fault.TheVariants.{F12}
 use Rattle.mf_office.specs.Texts.{IsCaller}
 use Rattle.mf_office.specs.declared.account.Account.{Account}
 use Rattle.mf_office.specs.declared.caller.Caller.{Caller}
-use Rattle.mf_model.specs.declared.commit.Commit.TheVariants.{AddEntry}
-use Rattle.mf_model.specs.Institution.{Institution, Catalogue, Ledger, Rows, item_numbered}
-use Rattle.mf_model.specs.Institution.{with_numbered, with_rows}
+use Rattle.mf_account.specs.Change.{KeptAccount, IsChange, IsReplayed}
+use Rattle.mf_account.specs.Loan.{DisbursedLoan}
+use Rattle.mf_account.specs.Refusals.{is_instalment_number, reversal_refused}
+use Rattle.mf_account.specs.Standing.{entry_at, with_mark}
+use Rattle.mf_account.specs.declared.entry.Entry.{Entry}
+use Rattle.mf_model.proofs.AccountLemmas.{account_is, account_sound}
+use Rattle.mf_model.proofs.Growing.{all_map, all_at}
+use Rattle.mf_model.proofs.StaffLemmas.{staff_are_callers}
+use Rattle.mf_model.specs.Accounts.{account_in}
+use Rattle.mf_model.specs.Institution.{Institution, Catalogue, Ledger, Rows, item_numbered, with_numbered, with_rows}
 use Rattle.mf_model.specs.Loans.{with_entries, loan_entered}
 use Rattle.mf_model.specs.Receipts.{uses_from, AreApart}
 use Rattle.mf_model.specs.Sound.{IsSound, IsSoundLoan, IsSoundRows, IsEntryBy, AreEntriesBy, is_staff}
 use Rattle.mf_model.specs.Stages.{disbursed_on}
-use Rattle.mf_model.proofs.AccountLemmas.{account_is, account_sound}
 use Rattle.mf_model.specs.Store.{after_commit, rows_at, ledger_at, account_of}
-use Rattle.mf_model.proofs.Growing.{all_map, all_at}
-use Rattle.mf_model.proofs.StaffLemmas.{staff_are_callers}
+use Rattle.mf_model.specs.declared.commit.Commit.TheVariants.{AddEntry}
 use Rattle.mf_store_schema.specs.Rows.{entry_row, is_entry_of}
+use Rattle.mf_store_values.proofs.BlockLemmas.{numbered-suc, numbered_set, seen}
+use Rattle.mf_store_values.proofs.SoundLemmas.{office_sound, own_rows}
 use Rattle.mf_store_values.specs.Flat.{tables_of, ledger_entries, entry_in}
 use Rattle.mf_store_commits.proofs.AccountCommitLemmas.{IsChanged, account_with}
 use Rattle.mf_store_commits.proofs.EntryLemmas.{AreEarlier, AreNumbered, later_numbered, entries_shown}
-use Rattle.mf_store_values.proofs.BlockLemmas.{numbered-suc, numbered_set, seen}
-use Rattle.mf_store_values.proofs.SoundLemmas.{office_sound, own_rows}
 
 -- ---- who entered them
 
@@ -48,29 +47,25 @@ entered_callers today s n None es staffed are = subst HaveCallers (sym are) tt
 entered_callers today s n (Some day) es staffed are =
     all_map (IsEntryBy today s) (λ (e : Entry). IsCaller e.staff) es (λ e by. staffed e.staff by.staff) are.each
 
--- each of these loans has such entries
-abbrev pub AreCalled : List Ledger → Type 0
-AreCalled ls = AllByRecursion (λ (l : Ledger). HaveCallers l.entries) ls
-
-rows_called : (k : Catalogue) (s : Caller → Bool) (rows : Rows) → ((c : Caller) → s c ≡ true → IsCaller c)
-    → IsSoundRows k s rows → AreCalled rows.loans
-rows_called k s rows staffed sound =
-    all_map (IsSoundLoan k s rows.clients) (λ (l : Ledger). HaveCallers l.entries) rows.loans (λ l is.
-    entered_callers k.day s l.loan.periods (disbursed_on l.loan.stage) l.entries staffed is.entries) sound.loans
+-- a loan of a sound institution
+pub loan_sound : (loan : Account) (l : Ledger) (i : Institution) → IsSound i → ledger_at loan i ≡ Some l
+    → IsSoundLoan i.catalogue (is_staff i.offices) (rows_at loan.office i).clients l
+loan_sound loan l i sound there =
+    let s = is_staff i.offices in
+    let rows = rows_at loan.office i in
+    all_at (IsSoundLoan i.catalogue s rows.clients) rows.loans loan.number l (office_sound i.catalogue s loan.office
+    i.offices sound.each).loans there
 
 -- the entries of one loan
 pub loan_called : (x n : ℕ) (i : Institution) → IsSound i
     → HaveCallers (ledger_entries (item_numbered (rows_at x i).loans n))
 loan_called x n i sound = go (item_numbered (rows_at x i).loans n) refl
   where
-    s : Caller → Bool
-    s = is_staff i.offices
-
     go : (o : Option Ledger) → item_numbered (rows_at x i).loans n ≡ o → HaveCallers (ledger_entries o)
     go None e = tt
-    go (Some l) e = all_at (λ (l : Ledger). HaveCallers l.entries) (rows_at x i).loans n l (rows_called i.catalogue s
-        (rows_at x i) (staff_are_callers i.catalogue s i.offices sound.each)
-        (office_sound i.catalogue s x i.offices sound.each)) e
+    go (Some l) e = entered_callers i.catalogue.day (is_staff i.offices) l.loan.periods (disbursed_on l.loan.stage)
+        l.entries (staff_are_callers i.catalogue (is_staff i.offices) i.offices sound.each)
+        (loan_sound (record { office = x; number = n }) l i sound e).entries
 
 -- ---- their numbers
 
@@ -91,32 +86,21 @@ entries_numbered today s n None es are = subst (AreNumbered 0) (sym are) (λ i b
 entries_numbered today s n (Some day) es are = λ i below. let number =
     are.lawful.numbers i below in omega (arith, number)
 
--- a loan of a sound institution
-pub loan_sound : (loan : Account) (l : Ledger) (i : Institution) → IsSound i → ledger_at loan i ≡ Some l
-    → IsSoundLoan i.catalogue (is_staff i.offices) (rows_at loan.office i).clients l
-loan_sound loan l i sound there =
-    let s = is_staff i.offices in
-    let rows = rows_at loan.office i in
-    all_at (IsSoundLoan i.catalogue s rows.clients) rows.loans loan.number l (office_sound i.catalogue s loan.office
-    i.offices sound.each).loans there
-
 -- its entries are numbered from 1 on
 pub loan_numbered : (loan : Account) (l : Ledger) (i : Institution) → IsSound i → ledger_at loan i ≡ Some l
     → AreNumbered 0 l.entries
 loan_numbered loan l i sound there = entries_numbered i.catalogue.day (is_staff i.offices) l.loan.periods
     (disbursed_on l.loan.stage) l.entries (loan_sound loan l i sound there).entries
 
-last_number : (n : ℕ) (es : List Entry) (e : Entry) → AreNumbered n (es ++ e ∷ []) → e.seq ≡ n + length es + 1
-last_number n [] e h = h 0 (omega arith)
-last_number n (d ∷ es) e h = let last =
-    last_number (n + 1) es e (later_numbered n d (es ++ e ∷ []) h) in omega (arith, last)
-
-earlier : (n : ℕ) (es : List Entry) (e : Entry) → AreNumbered n (es ++ e ∷ []) → AreEarlier e.seq es
-earlier n [] e h = tt
+-- the last one's number is that of its place, and greater than the others
+earlier : (n : ℕ) (es : List Entry) (e : Entry) → AreNumbered n (es ++ e ∷ [])
+    → (e.seq ≡ n + length es + 1) × AreEarlier e.seq es
+earlier n [] e h = (h 0 (omega arith), tt)
 earlier n (d ∷ es) e h =
     let first = h 0 (omega arith) in
-    let last = last_number n (d ∷ es) e h in
-    (omega (arith, first, last), earlier (n + 1) es e (later_numbered n d (es ++ e ∷ []) h))
+    let rest = earlier (n + 1) es e (later_numbered n d (es ++ e ∷ []) h) in
+    let last = rest.0 in
+    (omega (arith, last), (omega (arith, first, last), rest.1))
 
 -- the staff after a change of a loan's entries
 abbrev pub staff_after : Account → KeptAccount → Institution → Caller → Bool
@@ -153,8 +137,8 @@ module _ (loan : Account) (account : KeptAccount) (l : Ledger) (i : Institution)
 
   -- an entry that is one more has the greatest number
   pub entry_last : (e : Entry) → account.loan.entries ≡ l.entries ++ e ∷ [] → AreEarlier e.seq l.entries
-  entry_last e are = earlier 0 l.entries e (subst (AreNumbered 0) are (entries_numbered i.catalogue.day staff
-      l.loan.periods (disbursed_on l.loan.stage) account.loan.entries loan_after.entries))
+  entry_last e are = (earlier 0 l.entries e (subst (AreNumbered 0) are (entries_numbered i.catalogue.day staff
+      l.loan.periods (disbursed_on l.loan.stage) account.loan.entries loan_after.entries))).1
 
   -- no receipt stands twice in its office
   pub entry_apart : AreApart (uses_from 1 new.loans)
@@ -192,23 +176,18 @@ account_of_loan loan a i h = go (ledger_at loan i) refl h
 
 -- an entry that may be reversed is there
 pub reversal_there : (es : List Entry) (seq : ℕ) → reversal_refused es seq ≡ None → (1 ≤ seq) × (seq ≤ length es)
-reversal_there es seq h = go (is_instalment_number (length es) seq) refl h
-  where
-    go : (b : Bool) → is_instalment_number (length es) seq ≡ b → cond (not b) (Some F12)
-        (cond (entry_at es (seq - 1)).reversed (Some F13)
-        (cond (is_sealed es && not (is_seal (entry_at es (seq - 1)).kind)) (Some F11) None)) ≡ None → (1 ≤ seq)
-        × (seq ≤ length es)
-    go false e h = absurd (let never : Some F12 ≡ None = h in cc)
-    go true e h = grind (arith, nat_tests)
+reversal_there es seq h = elim (cases_Bool (is_instalment_number (length es) seq)) [
+  | inl e ↦ grind (arith, nat_tests)
+  | inr e ↦ absurd (let never : Some F12 ≡ None = rw e at h in cc)
+]
 
 -- how many entries there are then
 pub longer : (es after : List Entry) (e : Entry) → after ≡ es ++ e ∷ [] → length es ≤ length after
-longer es after e is = let long = length-append es (e ∷ []) in let size : length after ≡ length (es ++ e ∷ []) =
-    ap length is in omega (arith, long, size)
+longer es after e is = omega (arith, length-append es (e ∷ []), ap length is)
 
 pub as_long : (es after : List Entry) (seq : ℕ) → after ≡ with_mark es (seq - 1) true → length es ≤ length after
-as_long es after seq is = let long = length-set es (seq - 1) (record (entry_at es (seq - 1)) { reversed = true }) in
-    let size : length after ≡ length (with_mark es (seq - 1) true) = ap length is in omega (arith, long, size)
+as_long es after seq is =
+    omega (arith, length-set es (seq - 1) (record (entry_at es (seq - 1)) { reversed = true }), ap length is)
 
 -- what the stored rows of its account become
 pub handed_changed : (loan : Account) (account : KeptAccount) (before : DisbursedLoan) (i : Institution) → IsSound i

@@ -1,23 +1,28 @@
--- The rows of entries: those of one loan, one entry more, and one reversed.
+-- The rows of entries: those of one loan, one by its number, one entry more, and one reversed.
 use Rattle.std.proofs.Common.{◌≡◌, ◌<◌, ◌≤◌, ◌+◌, ◌-◌, ℕ, zero, suc, true, List, [], ◌∷◌, ◌++◌, map, filter, length}
-use Rattle.std.proofs.Common.{Some, refl, sym, ap, ◌∙◌, arith, Less, Equal, Greater, nat_cmp}
-use Rattle.std.specs.List.{AllByRecursion}
-use Rattle.std.specs.Ordering.{ordering_then}
+use Rattle.std.proofs.Common.{Some, refl, sym, ap, ◌∙◌, arith, Less, Equal, Greater, nat_cmp, Bool, false, cond, ◌&&◌}
+use Rattle.std.proofs.Common.{find, None, IsSome, Ordering, is_eq, inl, inr}
+use Rattle.std.proofs.lemmas.Bool.{cases_Bool}
 use Rattle.std.proofs.lemmas.Bool.Decides.{nat_tests}
 use Rattle.std.proofs.lemmas.List.{map-append, length-append, append-nil}
-use Rattle.mf_account.specs.declared.entry.Entry.{Entry}
+use Rattle.std.specs.List.{AllByRecursion}
+use Rattle.std.specs.Ordering.{ordering_then}
+use Rattle.sqlite_keyed.proofs.ListLemmas.{all_map, all_weaker}
 use Rattle.mf_account.specs.Standing.{entry_at, with_mark}
-use Rattle.mf_store_sql.specs.Keep.{put_item}
+use Rattle.mf_account.specs.declared.entry.Entry.{Entry}
 use Rattle.mf_model.specs.Institution.{Ledger, Office, Rows, office_at, with_rows, item_numbered, with_numbered}
+use Rattle.mf_model.specs.Institution.{Institution}
 use Rattle.mf_model.specs.Loans.{with_entries}
-use Rattle.mf_model.specs.Store.{rows_of}
+use Rattle.mf_model.specs.Sound.{IsSound}
+use Rattle.mf_model.specs.Store.{rows_of, rows_at}
 use Rattle.mf_model.specs.Tree.{Ascending}
-use Rattle.mf_store_schema.specs.Rows.{by_entry, is_entry_of}
-use Rattle.mf_store_values.specs.Flat.{entry_in, own_entries, entry_rows, ledger_entries, reversed_entry}
-use Rattle.mf_store_values.proofs.PutLemmas.{put_past, put_over}
-use Rattle.mf_store_commits.proofs.InstalmentRowLemmas.{decided, own_key}
+use Rattle.mf_store_sql.specs.Keep.{put_item}
+use Rattle.mf_store_schema.specs.Rows.{by_entry, is_entry_of, is_row_of_entry}
+use Rattle.mf_store_schema.specs.declared.entries.EntryRow.{EntryRow}
 use Rattle.mf_store_values.proofs.LoanRowLemmas.{loan_shown, rows_around}
-use Rattle.mf_store_values.proofs.PutLemmas.{put_past_all, put_around}
+use Rattle.mf_store_values.proofs.PutLemmas.{put_past, put_over, put_past_all, put_around}
+use Rattle.mf_store_values.specs.Flat.{entry_in, own_entries, entry_rows, ledger_entries, reversed_entry, tables_of}
+use Rattle.mf_store_commits.proofs.StepLemmas.{then_assoc, own_key}
 
 -- the rows of a loan are those of its entries
 pub entries_shown : (x n : ℕ) (fs : List Office) → Ascending fs → filter (is_entry_of x n) (entry_rows fs)
@@ -36,10 +41,9 @@ AreEarlier seq entries = AllByRecursion (λ (e : Entry). e.seq < seq) entries
 
 earlier_rows : (x n : ℕ) (e : Entry) (es : List Entry) → AreEarlier e.seq es
     → AllByRecursion (λ r. by_entry (entry_in x n e) r ≡ Greater) (map (entry_in x n) es)
-earlier_rows x n e [] a = tt
-earlier_rows x n e (d ∷ es) a =
-    let low : d.seq < e.seq = a.0 in
-    (own_key x n e.seq d.seq Greater (grind (arith, nat_tests, low)), earlier_rows x n e es a.1)
+earlier_rows x n e es early = all_map (λ r. by_entry (entry_in x n e) r ≡ Greater) (entry_in x n) es
+    (all_weaker (λ (d : Entry). d.seq < e.seq) (λ d. by_entry (entry_in x n e) (entry_in x n d) ≡ Greater)
+    (λ d low. own_key x n (nat_cmp e.seq d.seq) ∙ grind (arith, nat_tests, low)) es early)
 
 -- one more entry
 pub puts_last : (x n : ℕ) (e : Entry) (es : List Entry) → AreEarlier e.seq es → PutsEntry x n e es (es ++ e ∷ [])
@@ -59,7 +63,7 @@ later_rows : (x n m : ℕ) (e : Entry) (es : List Entry) → e.seq ≤ m → Are
     → AllByRecursion (λ r. by_entry (entry_in x n e) r ≡ Less) (map (entry_in x n) es)
 later_rows x n m e [] low are = tt
 later_rows x n m e (d ∷ es) low are = let first = are 0 (omega arith) in (
-  own_key x n e.seq d.seq Less (grind (arith, nat_tests, first, low)),
+  own_key x n (nat_cmp e.seq d.seq) ∙ grind (arith, nat_tests, first, low),
   later_rows x n (m + 1) e es (omega (arith, low)) (later_numbered m d es are),
 )
 
@@ -70,13 +74,13 @@ puts_reversed x n m k [] are low = absurd (omega (arith, low))
 puts_reversed x n m zero (e ∷ es) are low =
     let first = are 0 (omega arith) in
     put_over by_entry (entry_in x n (reversed_entry e)) (entry_in x n e) (map (entry_in x n) es)
-    (own_key x n e.seq e.seq Equal (grind (arith, nat_tests)))
+    (own_key x n (nat_cmp e.seq e.seq) ∙ grind (arith, nat_tests))
     (later_rows x n (m + 1) (reversed_entry e) es (omega (arith, first)) (later_numbered m e es are))
 puts_reversed x n m (suc k) (e ∷ es) are low =
     let first = are 0 (omega arith) in
     let this = are (suc k) low in
     put_past by_entry (entry_in x n (reversed_entry (entry_at es k))) (entry_in x n e) (map (entry_in x n) es)
-    (own_key x n (entry_at es k).seq e.seq Greater (grind (arith, nat_tests, first, this)))
+    (own_key x n (nat_cmp (entry_at es k).seq e.seq) ∙ grind (arith, nat_tests, first, this))
     ∙ ap (λ rows. entry_in x n e ∷ rows) (puts_reversed x n (m + 1) k es (later_numbered m e es are)
     (omega (arith, low)))
 
@@ -101,8 +105,64 @@ pub entry_put : (x n : ℕ) (e : Entry) (es : List Entry) (l : Ledger) (new : Ro
     (rows_of (office_at x fs)).loans → PutsEntry x n e l.entries es
     → put_item by_entry (entry_in x n e) (entry_rows fs) ≡ entry_rows (with_rows x new fs)
 entry_put x n e es l new fs up at is puts =
-    put_around by_entry (entry_in x n e) (λ s h. decided Greater (nat_cmp x s.office) (nat_cmp n s.loan)
-    (nat_cmp e.seq s.seq) refl h) (λ s h. decided Less (nat_cmp x s.office) (nat_cmp n s.loan)
-    (nat_cmp e.seq s.seq) refl
-    h) (rows_around entry_in own_entries (λ x n s. ordering_then (nat_cmp x s.office) (nat_cmp n s.loan))
-    (λ x n y m a. refl) x n (with_entries es) l new fs up at is) puts
+    put_around by_entry (entry_in x n e) (λ s h. cut s ∙ ap (λ o. ordering_then o (nat_cmp e.seq s.seq)) h)
+    (λ s h. cut s ∙ ap (λ o. ordering_then o (nat_cmp e.seq s.seq)) h) (rows_around entry_in own_entries
+    (λ x n s. ordering_then (nat_cmp x s.office) (nat_cmp n s.loan)) (λ x n y m a. refl) x n (with_entries es) l new fs
+    up at is) puts
+  where
+    cut : (s : EntryRow) → by_entry (entry_in x n e) s
+        ≡ ordering_then (ordering_then (nat_cmp x s.office) (nat_cmp n s.loan)) (nat_cmp e.seq s.seq)
+    cut s = then_assoc (nat_cmp x s.office) (nat_cmp n s.loan) (nat_cmp e.seq s.seq)
+
+-- ---- the row of an entry by its number, among the rows of all entries
+
+find_filtered : {A : Type 0} (p q r : A → Bool) → ((x : A) → r x ≡ (p x && q x)) → (xs : List A)
+    → find r xs ≡ find q (filter p xs)
+find_filtered p q r is [] = refl
+find_filtered p q r is (x ∷ xs) = elim (cases_Bool (p x)) [
+  | inl e ↦ rw (is x, e) (ap (λ o. cond (q x) (Some x) o) (find_filtered p q r is xs))
+  | inr e ↦ rw (is x, e) (find_filtered p q r is xs)
+]
+
+three : (a b c : Ordering) → is_eq (ordering_then a (ordering_then b c)) ≡ (is_eq (ordering_then a b) && is_eq c)
+three Less b c = refl
+three Equal Less c = refl
+three Equal Equal c = refl
+three Equal Greater c = refl
+three Greater b c = refl
+
+pub other_number : (s t : ℕ) → t < s → is_eq (nat_cmp s t) ≡ false
+other_number s t h = grind (arith, nat_tests)
+
+pub same_number : (s t : ℕ) → t ≡ s → is_eq (nat_cmp s t) ≡ true
+same_number s t h = grind (arith, nat_tests)
+
+abbrev pub has_seq : ℕ → EntryRow → Bool
+has_seq s row = is_eq (nat_cmp s row.seq)
+
+-- it is found among the rows of its loan
+pub entry_by_number : (x n s : ℕ) (l : Ledger) (i : Institution) → IsSound i → item_numbered (rows_at x i).loans n
+    ≡ Some l → find (is_row_of_entry x n s) (tables_of i).entries ≡ find (has_seq s) (map (entry_in x n) l.entries)
+entry_by_number x n s l i sound there =
+    find_filtered (is_entry_of x n) (has_seq s) (is_row_of_entry x n s)
+    (λ y. three (nat_cmp x y.office) (nat_cmp n y.loan)
+    (nat_cmp s y.seq)) (tables_of i).entries
+    ∙ ap (find (has_seq s)) (entries_shown x n i.offices sound.tree.ascending
+    ∙ ap (λ o. map (entry_in x n) (ledger_entries o)) there)
+
+-- a number that is greater than all is free
+pub number_free : (x n s : ℕ) (es : List Entry) → AreEarlier s es → find (has_seq s) (map (entry_in x n) es) ≡ None
+number_free x n s [] early = refl
+number_free x n s (d ∷ es) early = rw (other_number s d.seq early.0) (number_free x n s es early.1)
+
+-- one of those that there are is not
+pub number_there : (x n m k s : ℕ) (es : List Entry) → AreNumbered m es → k < length es → s ≡ m + k + 1
+    → IsSome (find (has_seq s) (map (entry_in x n) es))
+number_there x n m k s [] are low is = absurd (omega (arith, low))
+number_there x n m zero s (d ∷ es) are low is =
+    let first = are 0 (omega arith) in
+    rw (same_number s d.seq (omega (arith, first, is)))
+number_there x n m (suc k) s (d ∷ es) are low is =
+    let first = are 0 (omega arith) in
+    rw (other_number s d.seq (omega (arith, first, is)))
+    (number_there x n (m + 1) k s es (later_numbered m d es are) (omega (arith, low)) (omega (arith, is)))

@@ -1,42 +1,26 @@
--- What tables stand for after a query and after a commit.
-use Rattle.std.proofs.Common.{◌≡◌, inl, inr, List, [], ◌∷◌, Some, Result, Ok, Err, IfOk, OnOk, OnErr, IsTrue}
-use Rattle.std.proofs.Common.{refl, sym, ap, ◌∙◌, subst, arith}
-use Rattle.sqlite.specs.Tree.{Trees}
+-- What tables stand for after a query and after a commit, and the commit that writes make.
+use Rattle.std.proofs.Common.{◌≡◌, inl, inr, List, [], ◌∷◌, Some, Result, Ok, Err, OnOk, OnErr, IsTrue, sym, ap, ◌∙◌}
+use Rattle.std.proofs.Common.{subst, arith, IfErr}
+use Rattle.std.proofs.lemmas.Result.{on_ok_weaker, on_err_weaker}
 use Rattle.sqlite.specs.Effect.{Database}
-use Rattle.sqlite.specs.State.{State, HasCleanDisk, Survives}
 use Rattle.sqlite.specs.Held.{Held, state}
+use Rattle.sqlite.specs.State.{State, HasCleanDisk, Survives}
+use Rattle.sqlite.specs.Tree.{Trees}
 use Rattle.sqlite.specs.declared.error.Error.{Error}
 use Rattle.sqlite_trees.specs.declared.store.Store.{Ghosts}
 use Rattle.mf_base.specs.declared.fault.Fault.{Fault}
 use Rattle.mf_base.specs.declared.fault.Fault.TheVariants.{F20}
-use Rattle.mf_store_sql.specs.Writes.{Serves, AllFit, after_all, Turns, IsSettled, MayHold}
 use Rattle.mf_model.specs.Institution.{Institution}
-use Rattle.mf_store_schema.specs.Tables.{schema}
-use Rattle.mf_store_values.specs.Flat.{tables_of}
+use Rattle.mf_model.specs.Store.{Commits, IsAdmitted, after_commit}
+use Rattle.mf_model.specs.declared.commit.Commit.{Commit}
+use Rattle.mf_store_sql.specs.Writes.{Serves, AllFit, after_all, Turns, IsSettled, MayHold}
 use Rattle.mf_store_schema.specs.Calls.{IsAsBefore}
+use Rattle.mf_store_schema.specs.Tables.{schema}
 use Rattle.mf_store_schema.specs.Writes.{schema_of, Holds, after_write, FitsLists}
 use Rattle.mf_store_schema.specs.declared.writes.StoreWrite.{StoreWrite}
-use Rattle.mf_store_commits.specs.Tabled.{IsTabled, HasGoodDisk, LeavesTables, StayTabled}
+use Rattle.mf_store_values.specs.Flat.{tables_of}
 use Rattle.mf_store_commits.specs.Becoming.{Becomes}
-
--- ---- F20 in place of the store's own error
-
-module _ {A : Type 0} (answer : Result A Error) (r : Result A Fault) where
-  cases : {P : Type 0} → IfOk answer (λ x. r ≡ Ok x) → OnErr answer (r ≡ Err F20) → ((x : A) → answer ≡ Ok x → r ≡ Ok x
-      → P) → ((e : Error) → answer ≡ Err e → r ≡ Err F20 → P) → P
-  cases {P} ok err on_ok on_err = go answer refl ok err
-    where
-      go : (a : Result A Error) → answer ≡ a → IfOk a (λ x. r ≡ Ok x) → OnErr a (r ≡ Err F20) → P
-      go (Ok x) is ok err = on_ok x is ok
-      go (Err e) is ok err = on_err e is err
-
-  pub on_ok : (P : Type 0) → IfOk answer (λ x. r ≡ Ok x) → OnErr answer (r ≡ Err F20) → OnOk answer P → OnOk r P
-  on_ok P ok err h = cases ok err (λ x a b. subst (λ o. OnOk o P) (sym b) (subst (λ o. OnOk o P) a h))
-      (λ e a b. subst (λ o. OnOk o P) (sym b) tt)
-
-  pub on_err : (P : Type 0) → IfOk answer (λ x. r ≡ Ok x) → OnErr answer (r ≡ Err F20) → OnErr answer P → OnErr r P
-  on_err P ok err h = cases ok err (λ x a b. subst (λ o. OnErr o P) (sym b) tt) (λ e a b. subst (λ o. OnErr o P) (sym b)
-      (subst (λ o. OnErr o P) a h))
+use Rattle.mf_store_commits.specs.Tabled.{IsTabled, HasGoodDisk, LeavesTables, StayTabled}
 
 module _ {S : Type 0} (g : Ghosts S) where
   module _ (old new : Held S) where
@@ -73,14 +57,6 @@ module _ {S : Type 0} (g : Ghosts S) where
       MayLeave = MayHold (Serves schema_of Holds) Holds (AllFit after_write FitsLists writes)
           (after_all after_write writes) was
 
-      pub made_stands : (IsTrue is.is_open → IsTrue was.is_open) → Change was.now is.now → (i j : Institution)
-          → IsTabled g old i → Becomes writes i j → IsTabled g new j
-      made_stands was_open turns i j s b = record {
-        sound = b.sound;
-        serves = λ live. subst (λ lists. Serves schema_of Holds is.now lists) b.is (turns (Some (tables_of i))
-            (s.serves (was_open live)) b.fits);
-      }
-
       pub made_leaves : ((trees : Trees) → IsTrue is.is_open → is.may_leave trees → trees ≡ is.committed.trees)
           → IsSettled is → (j : Institution) → IsTabled g new j → LeavesTables g new (j ∷ [])
       made_leaves settled rests j s = record {
@@ -89,20 +65,14 @@ module _ {S : Type 0} (g : Ghosts S) where
             ∙ ap (λ (d : Database). d.trees) rests.committed)) (s.serves rests.is_open).holds);
       }
 
-      pub unmade_stands : (IsTrue is.is_open → IsTrue was.is_open) → (IsTrue is.is_open → is.now ≡ was.now)
-          → (i : Institution) → IsTabled g old i → IsTabled g new i
-      unmade_stands was_open same i s = record {
-        sound = s.sound;
-        serves = λ live.
-            subst (λ d. Serves schema_of Holds d (Some (tables_of i))) (sym (same live)) (s.serves (was_open live));
-      }
-
       -- whatever came of the call, the tables are this program's
       pub still_ours : {V : Type 0} (r : Result V Error) → (IsTrue is.is_open → IsTrue was.is_open)
           → OnOk r (Change was.now is.now) → (IsTrue is.is_open → OnErr r (is.now ≡ was.now)) → (i j : Institution)
           → IsTabled g old i → Becomes writes i j → IsTrue is.is_open → is.now.schema ≡ schema
-      still_ours (Ok v) was_open turns same i j s b live = ((made_stands was_open turns i j s b).serves live).schema_is
-      still_ours (Err e) was_open turns same i j s b live = ((unmade_stands was_open same i s).serves live).schema_is
+      still_ours (Ok v) was_open turns same i j s b live =
+          (turns (Some (tables_of i)) (s.serves (was_open live)) b.fits).schema_is ∙ ap schema_of b.is
+      still_ours (Err e) was_open turns same i j s b live =
+          ap (λ (d : Database). d.schema) (same live) ∙ (s.serves (was_open live)).schema_is
 
       pub made_stop : (HasCleanDisk is → IsTrue is.is_open → is.now.schema ≡ schema) → Survives was is MayLeave
           → (i j : Institution) (left : List Institution) → IsTabled g old i → Becomes writes i j
@@ -115,3 +85,24 @@ module _ {S : Type 0} (g : Ghosts S) where
               (s.serves wrote.was_open) b.fits))
         ];
       }
+
+-- writes that make the change of each institution that admits it commit it
+pub made_by : {S : Type 0} (g : Ghosts S) (commit : Commit) (old new : Held S) (writes : List StoreWrite)
+    (r : Result (Unit {0}) Fault)
+    → ((i : Institution) → IsTabled g old i → IsAdmitted commit i → Becomes writes i (after_commit commit i))
+    → (HasGoodDisk g new → HasGoodDisk g old) → IfErr r (λ fault. fault ≡ F20)
+    → (HasGoodDisk g new → OnOk r ((i j : Institution) → IsTabled g old i → Becomes writes i j → IsTabled g new j))
+    → (HasGoodDisk g new → OnOk r ((i j : Institution) → IsTabled g old i → Becomes writes i j
+    → LeavesTables g new (j ∷ [])))
+    → (HasGoodDisk g new → OnErr r ((i : Institution) → IsTabled g old i → IsTabled g new i))
+    → (HasGoodDisk g new → (i j : Institution) (is : List Institution) → IsTabled g old i → Becomes writes i j
+    → LeavesTables g old is → LeavesTables g new (j ∷ is))
+    → Commits (IsTabled g) (HasGoodDisk g) (LeavesTables g) commit old new r
+made_by g commit old new writes r becomes premise gives_up made left same stop = record {
+  premise = premise;
+  made = λ clean i s admitted. on_ok_weaker r (λ m. m i (after_commit commit i) s (becomes i s admitted)) (made clean);
+  kept = λ clean i s admitted. on_ok_weaker r (λ m. m i (after_commit commit i) s (becomes i s admitted)) (left clean);
+  same = λ clean i s. on_err_weaker r (λ m. m i s) (same clean);
+  gives_up = gives_up;
+  stop = λ clean i is s admitted l. stop clean i (after_commit commit i) is s (becomes i s admitted) l;
+}

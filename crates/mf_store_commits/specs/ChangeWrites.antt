@@ -1,5 +1,5 @@
 -- The writes that bring a loan's stored instalments and shares to what its account says.
-use Rattle.std.specs.Prelude.{ℕ, List, [], ◌∷◌, ◌++◌, map}
+use Rattle.std.specs.Prelude.{ℕ, List, ◌∷◌, ◌++◌, map, flat_map}
 use Rattle.mf_alloc.specs.Rows.{row_at}
 use Rattle.mf_alloc.specs.Sums.{Instalment}
 use Rattle.mf_account.specs.declared.settled.SettledPart.{SettledPart}
@@ -25,9 +25,7 @@ shares_replaced office loan settled seq =
 
 -- the same of each entry with one of these numbers
 abbrev pub shares_put : ℕ → ℕ → List SettledPart → List ℕ → List StoreWrite
-shares_put office loan settled [] = []
-shares_put office loan settled (seq ∷ seqs) =
-    shares_replaced office loan settled seq ++ shares_put office loan settled seqs
+shares_put office loan settled seqs = flat_map (shares_replaced office loan settled) seqs
 
 -- what a change names is written: the instalments whose rows differ, and the entries that settle otherwise
 abbrev pub change_writes : ℕ → ℕ → KeptAccount → List StoreWrite

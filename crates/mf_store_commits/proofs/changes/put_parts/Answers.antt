@@ -5,7 +5,7 @@ use Rattle.mf_account.specs.Applicable.{no_settled}
 use Rattle.mf_store_schema.specs.declared.shares.ShareRow.{ShareRow}
 use Rattle.mf_store_schema.specs.declared.writes.StoreWrite.TheVariants.{PutShare}
 use Rattle.mf_store_values.specs.Flat.{share_in}
-use Rattle.mf_store_commits.proofs.PushLemmas.{numbered_pushed}
+use Rattle.mf_store_commits.proofs.StepLemmas.{numbered_pushed}
 use Rattle.mf_store_commits.proofs.changes.put_parts.Goals as goal
 
 pub loop-part-preserved : goal.loop-part-preserved

@@ -3,7 +3,7 @@ use Rattle.mf_alloc.specs.Sums.{Instalment}
 use Rattle.mf_store_schema.specs.declared.instalments.InstalmentRow.{InstalmentRow}
 use Rattle.mf_store_schema.specs.declared.writes.StoreWrite.TheVariants.{PutInstalment}
 use Rattle.mf_store_values.specs.Flat.{instalment_in}
-use Rattle.mf_store_commits.proofs.PushLemmas.{numbered_pushed}
+use Rattle.mf_store_commits.proofs.StepLemmas.{numbered_pushed}
 use Rattle.mf_store_commits.proofs.changes.put_schedule.Goals as goal
 
 pub loop-row-preserved : goal.loop-row-preserved

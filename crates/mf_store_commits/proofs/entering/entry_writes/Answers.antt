@@ -1,15 +1,9 @@
-use Rattle.std.proofs.Common.{◌≡◌, ◌-◌, ◌∷◌, [], ◌++◌, List, length, sym, subst, ap, ◌∙◌}
+use Rattle.std.proofs.Common.{◌≡◌, ◌∷◌, [], ◌++◌, List, ap, ◌∙◌}
 use Rattle.mf_account.specs.declared.entry.Entry.{Entry}
-use Rattle.mf_account.specs.Standing.{entry_at}
-use Rattle.mf_model.specs.declared.commit.Commit.TheVariants.{AddEntry}
-use Rattle.mf_store_commits.specs.ChangeWrites.{change_writes}
-use Rattle.mf_store_commits.specs.Suiting.{Carries}
 use Rattle.mf_store_values.specs.Flat.{entry_in}
-use Rattle.mf_store_values.specs.ReceiptRows.{entry_added}
 use Rattle.mf_store_commits.proofs.EnteredLemmas.{account_of_loan, entry_last, entry_apart, handed_changed, longer}
 use Rattle.mf_store_commits.proofs.EntryLemmas.{last_entry}
-use Rattle.mf_store_commits.proofs.LoanLemmas.{entry_becomes}
-use Rattle.mf_store_commits.proofs.SuitLemmas.{entry_suits}
+use Rattle.mf_store_commits.proofs.LoanLemmas.{entry_carries}
 use Rattle.mf_store_commits.proofs.entering.entry_writes.Goals as goal
 
 pub returns-clause-carries : goal.returns-clause-carries
@@ -18,10 +12,8 @@ returns-clause-carries c i sound admitted =
     let account = c.args.account.now in
     let entries = account.loan.entries in
     let row = c.in_ok-row.row in
-    let added = c.in_ok-put_change.ensures.writes ∙ ap (λ ws. ws ++ change_writes c.get-office.result c.get-loan.result
-    account) c.in_ok-writes.ensures.writes in
-    let writes = added ∙ (λ t. entry_added row ++ change_writes (c.get-office.ensures.value t)
-    (c.get-loan.ensures.value t) account) in
+    let office = c.get-office.ensures.value in
+    let number = c.get-loan.ensures.value in
     let handed = admitted.handed in
     let of = account_of_loan loan handed.before i handed.there in
     let entry = handed.entries.0 in
@@ -31,13 +23,7 @@ returns-clause-carries c i sound admitted =
     let apart = entry_apart loan account of.ledger i admitted.sound of.there in
     let changed = handed_changed loan account handed.before i sound admitted.sound of handed.others
     (longer handed.before.entries entries entry handed.entries.1) handed.kept handed.change in
-    let row_is = c.in_ok-row.ensures.row ∙ (λ t. entry_in (c.get-office.ensures.value t) (c.get-loan.ensures.value t)
-    (entry_at entries (c.entry_count.ensures.count t - 1)))
-    ∙ ap (λ (es : List Entry). entry_in loan.office loan.number (entry_at es (length es - 1))) one_more
-    ∙ ap (entry_in loan.office loan.number) (last_entry of.ledger.entries entry)
-    in
-    subst (λ ws. Carries (AddEntry loan account) ws i) (sym writes) (record {
-      becomes = entry_becomes loan account of.ledger i sound of.there changed entry admitted.sound one_more last apart
-          row row_is;
-      suits = entry_suits loan account of.ledger i sound of.there entry one_more last apart row row_is;
-    })
+    let row_is : row ≡ entry_in loan.office loan.number entry = c.in_ok-row.ensures.row
+    ∙ rw (office, number, c.entry_count.ensures.count, one_more, last_entry of.ledger.entries entry) in
+    rw (c.in_ok-put_change.ensures.writes, c.in_ok-writes.ensures.writes, office, number) (entry_carries loan account
+    of.ledger i sound of.there changed entry admitted.sound one_more last apart row row_is)

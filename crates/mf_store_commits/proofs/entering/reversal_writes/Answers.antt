@@ -1,16 +1,11 @@
-use Rattle.std.proofs.Common.{◌≡◌, ◌≤◌, ◌-◌, ◌++◌, ◌∷◌, [], true, List, length, sym, ap, ◌∙◌, subst, arith}
+use Rattle.std.proofs.Common.{◌≡◌, ◌≤◌, ◌-◌, true, List, length, ap, ◌∙◌, subst, arith}
 use Rattle.mf_account.specs.declared.entry.Entry.{Entry}
 use Rattle.mf_account.specs.Standing.{entry_at, with_mark}
-use Rattle.mf_model.specs.declared.commit.Commit.TheVariants.{ReverseEntry}
-use Rattle.mf_store_schema.specs.declared.writes.StoreWrite.TheVariants.{ChangeEntry}
-use Rattle.mf_store_commits.specs.ChangeWrites.{change_writes}
-use Rattle.mf_store_commits.specs.Suiting.{Carries}
-use Rattle.mf_store_values.specs.Flat.{entry_in}
+use Rattle.mf_store_values.specs.Flat.{entry_in, reversed_entry}
 use Rattle.mf_store_commits.proofs.EnteredLemmas.{account_of_loan, as_long, handed_changed, loan_numbered}
 use Rattle.mf_store_commits.proofs.EnteredLemmas.{reversal_there}
 use Rattle.mf_store_commits.proofs.EntryLemmas.{marked_entry}
-use Rattle.mf_store_commits.proofs.LoanLemmas.{reversal_becomes}
-use Rattle.mf_store_commits.proofs.SuitLemmas.{reversal_suits}
+use Rattle.mf_store_commits.proofs.LoanLemmas.{reversal_carries}
 use Rattle.mf_store_commits.proofs.entering.reversal_writes.Goals as goal
 
 pub returns-clause-carries : goal.returns-clause-carries
@@ -19,11 +14,8 @@ returns-clause-carries c i sound admitted =
     let seq = c.args.seq in
     let account = c.args.account.now in
     let row = c.in_ok-row.row in
-    let first_write = c.in_ok-push.ensures.items ∙ ap (λ ws. ws ++ ChangeEntry row ∷ []) c.new-writes.ensures.items in
-    let added = c.in_ok-put_change.ensures.writes ∙ ap (λ ws. ws ++ change_writes c.get-office.result c.get-loan.result
-    account) first_write in
-    let writes = added ∙ (λ t. ChangeEntry row ∷ change_writes (c.get-office.ensures.value t)
-    (c.get-loan.ensures.value t) account) in
+    let office = c.get-office.ensures.value in
+    let number = c.get-loan.ensures.value in
     let handed = admitted.handed in
     let of = account_of_loan loan handed.before i handed.there in
     let before = of.ledger.entries in
@@ -35,11 +27,8 @@ returns-clause-carries c i sound admitted =
     let numbers = loan_numbered loan of.ledger i sound of.there in
     let changed = handed_changed loan account handed.before i sound admitted.sound of handed.others
     (as_long handed.before.entries account.loan.entries seq handed.entries.marked) handed.kept handed.change in
-    let row_is = c.in_ok-row.ensures.row ∙ (λ t. entry_in (c.get-office.ensures.value t) (c.get-loan.ensures.value t)
-    (entry_at (marked t) (seq - 1))) ∙ ap (entry_in loan.office loan.number) (marked_entry before (seq - 1)
-    (omega (arith, first, last))) in
-    subst (λ ws. Carries (ReverseEntry loan seq account) ws i) (sym writes) (record {
-      becomes = reversal_becomes loan account of.ledger i sound of.there changed seq admitted.sound numbers first last
-          marked row row_is;
-      suits = reversal_suits loan account of.ledger i sound of.there seq numbers first last row row_is;
-    })
+    let row_is : row ≡ entry_in loan.office loan.number (reversed_entry (entry_at before (seq - 1))) =
+    c.in_ok-row.ensures.row ∙ rw (office, number, marked, marked_entry before (seq - 1) (omega (arith, first, last))) in
+    rw (c.in_ok-put_change.ensures.writes, c.in_ok-push.ensures.items, c.new-writes.ensures.items, office, number)
+    (reversal_carries loan account of.ledger i sound of.there changed seq admitted.sound numbers first last marked row
+    row_is)
