@@ -52,7 +52,7 @@ use Rattle.mf_store_values.proofs.CatalogueLemmas.{flag_is, amount_is}
 use Rattle.mf_store_values.proofs.LoanLemmas.{stage_is}
 use Rattle.mf_store.proofs.ArrearsLemmas.{IsFoundIn, found_there}
 use Rattle.mf_store.proofs.CatalogueLemmas.{some_is}
-use Rattle.mf_store.proofs.LookLemmas.{staff_by_key, client_by_key, charge_by_key, product_by_key, loan_by_key}
+use Rattle.mf_store.specs.Looks.{staff_by_key, client_by_key, charge_by_key, product_by_key, loan_by_key}
 
 -- ---- numbers that stand for choices
 
@@ -260,16 +260,16 @@ module _ (apart : (d e : ℕ) → day_text d ≡ day_text e → d ≡ e) where
 
       charges : i.catalogue.charges ≡ j.catalogue.charges
       charges = by_number i.catalogue.charges j.catalogue.charges (λ n. found_same (charge_as n) (charge_same n) _ _
-          (sym (charge_by_key n i) ∙ (λ t. find (is_row_of_charge n) (e t).charges) ∙ charge_by_key n j))
+          (sym (charge_by_key n i s) ∙ (λ t. find (is_row_of_charge n) (e t).charges) ∙ charge_by_key n j r))
 
       products : i.catalogue.products ≡ j.catalogue.products
       products = by_number i.catalogue.products j.catalogue.products (λ n. found_same (product_as n) (product_same n) _
-          _ (sym (product_by_key n i) ∙ (λ t. find (is_row_of_product n) (e t).products) ∙ product_by_key n j))
+          _ (sym (product_by_key n i s) ∙ (λ t. find (is_row_of_product n) (e t).products) ∙ product_by_key n j r))
 
       ledgers : (x n : ℕ) → item_numbered (rows_at x i).loans n ≡ item_numbered (rows_at x j).loans n
       ledgers x n =
-          let loan = found_same (loan_in x n) (loan_same x n) _ _ (sym (loan_by_key x n i s)
-          ∙ (λ t. find (is_row_of_loan x n) (e t).loans) ∙ loan_by_key x n j r) in
+          let loan = found_same (loan_in x n) (loan_same x n) _ _ (sym (loan_by_key (x, n) i s)
+          ∙ (λ t. find (is_row_of_loan x n) (e t).loans) ∙ loan_by_key (x, n) j r) in
           let shown = loan_shown entry_in own_entries is_entry_of (λ x n y m a. refl) x n in
           ledger_same x n _ _ (loan_called x n i s) (loan_called x n j r)
           (sym (numbered_loan (rows_at x i).loans n) ∙ loan ∙ numbered_loan (rows_at x j).loans n)
@@ -279,10 +279,10 @@ module _ (apart : (d e : ℕ) → day_text d ≡ day_text e → d ≡ e) where
       rows : (x : ℕ) → rows_at x i ≡ rows_at x j
       rows x =
           let staff = by_number (rows_at x i).staff (rows_at x j).staff (λ n. found_same (staff_in x n)
-          (staff_same x n) _ _ (sym (staff_by_key x n i s) ∙ (λ t. find (is_row_of_staff x n) (e t).staff)
-          ∙ staff_by_key x n j r)) in
+          (staff_same x n) _ _ (sym (staff_by_key (x, n) i s) ∙ (λ t. find (is_row_of_staff x n) (e t).staff)
+          ∙ staff_by_key (x, n) j r)) in
           let clients = by_number (rows_at x i).clients (rows_at x j).clients (λ n. found_same (client_in x n)
-          (client_same x n) _ _ (sym (client_by_key x n i s) ∙ (λ t. find (is_row_of_client x n) (e t).clients)
-          ∙ client_by_key x n j r)) in
+          (client_same x n) _ _ (sym (client_by_key (x, n) i s) ∙ (λ t. find (is_row_of_client x n) (e t).clients)
+          ∙ client_by_key (x, n) j r)) in
           let loans = by_number (rows_at x i).loans (rows_at x j).loans (ledgers x) in
           λ t. record { staff = staff t; clients = clients t; loans = loans t }
