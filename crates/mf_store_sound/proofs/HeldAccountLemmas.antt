@@ -5,6 +5,7 @@ use Rattle.std.proofs.Common.{List, [], ◌∷◌, map, filter, length, Option, 
 use Rattle.std.specs.List.{AllByRecursion, range_with_len}
 use Rattle.std.proofs.lemmas.List.{length-map, length-append, map-append}
 use Rattle.std.proofs.lemmas.List.FromFn.{length-map-range_with_len}
+use Rattle.std.proofs.lemmas.List.Sums.{length-filter, count_by-le-length}
 use Rattle.std.proofs.lemmas.List.Elements.{recursion_from_All}
 use Rattle.std.proofs.lemmas.Nat.{mul-le}
 use Rattle.sqlite_keyed.proofs.ListLemmas.{all-append, all-filter, all_map, all_unmap, all_weaker}
@@ -177,14 +178,8 @@ IsPartOf n p = p.cell.instalment ≤ n
 abbrev IsSettledOf : ℕ → SettledPart → Type 0
 IsSettledOf n s = s.cell.instalment ≤ n
 
-few_filtered : {A : Type 0} (p : A → Bool) (xs : List A) → length (filter p xs) ≤ length xs
-few_filtered p [] = omega arith
-few_filtered p (x ∷ xs) = go (p x) (few_filtered p xs)
-  where
-    go : (b : Bool) → length (filter p xs) ≤ length xs → length (cond b (x ∷ filter p xs) (filter p xs))
-        ≤ length (x ∷ xs)
-    go true more = omega (arith, more)
-    go false more = omega (arith, more)
+pub few_filtered : {A : Type 0} (p : A → Bool) (xs : List A) → length (filter p xs) ≤ length xs
+few_filtered p xs = let is = length-filter p xs in let most = count_by-le-length p xs in omega (arith, is, most)
 
 range_parts : (n : ℕ) (f : ℕ → Part) (a m : ℕ) → ((k : ℕ) → k < a + m → IsPartOf n (f k)) → AllByRecursion (IsPartOf n)
     (map f (range_with_len a m))
