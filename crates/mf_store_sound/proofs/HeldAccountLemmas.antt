@@ -1,6 +1,6 @@
 -- The rows that the accounts of a sound institution leave, its instalments and its shares, are ones that records can
 -- hold.
-use Rattle.std.proofs.Common.{◌≡◌, ◌≤◌, ◌<◌, ◌+◌, ◌*◌, ◌^◌, ◌==◌, pos, ℕ, zero, suc, Bool, true, false, cond}
+use Rattle.std.proofs.Common.{◌≡◌, ◌≤◌, ◌<◌, ◌+◌, ◌*◌, ◌^◌, ◌==◌, pos, ℕ, zero, suc, Bool}
 use Rattle.std.proofs.Common.{List, [], ◌∷◌, map, filter, length, Option, Some, None, refl, sym, ap, ◌∙◌, subst, arith}
 use Rattle.std.specs.List.{AllByRecursion, range_with_len}
 use Rattle.std.proofs.lemmas.List.{length-map, length-append, map-append}
@@ -49,7 +49,7 @@ use Rattle.mf_store_schema.specs.Fields.{HasFields}
 use Rattle.mf_store_schema.specs.Rows.{instalment_row, share_row}
 use Rattle.mf_store_schema.specs.declared.instalments.InstalmentRow.{InstalmentRow}
 use Rattle.mf_store_schema.specs.declared.shares.ShareRow.{ShareRow}
-use Rattle.mf_store_values.specs.Flat.{numbered_from, tables_of, instalment_in, share_in, how_number, portion_number}
+use Rattle.mf_store_values.specs.Flat.{tables_of, instalment_in, share_in, how_number, portion_number}
 use Rattle.mf_store_values.specs.Flat.{instalments_kept, shares_kept, placed_parts, parts_from, kept_of}
 use Rattle.mf_store_sound.specs.Held.{CanHoldRows}
 use Rattle.mf_store_sound.proofs.NestedLemmas.{◌also◌}
