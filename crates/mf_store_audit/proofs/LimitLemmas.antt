@@ -3,7 +3,7 @@ use Rattle.std.proofs.Common.{◌≡◌, ◌+◌, ◌*◌, ◌^◌, ◌<◌, ◌
 use Rattle.std.proofs.Common.{length, get_or, Option, Some, None, refl, sym, ap, subst, arith}
 use Rattle.std.specs.Prelude.{sum_by, filter}
 use Rattle.std.specs.List.{AllByRecursion}
-use Rattle.std.proofs.lemmas.List.Sums.{sum_by-cons, sum_by-le, length-filter, count_by-le-length}
+use Rattle.std.proofs.lemmas.List.Sums.{sum_by-cons, sum_by-le}
 use Rattle.sqlite_keyed.proofs.ListLemmas.{all_weaker}
 use Rattle.mf_office.specs.declared.caller.Caller.{Caller}
 use Rattle.mf_account.specs.declared.entry.Entry.{Entry}
@@ -18,6 +18,7 @@ use Rattle.mf_model.specs.Sound.{IsSound, IsSoundCatalogue, IsSoundLoan, IsSound
 use Rattle.mf_model.specs.Stages.{disbursed_on}
 use Rattle.mf_model.specs.Tree.{Above, Ascending}
 use Rattle.mf_model.proofs.AccountLemmas.{account_sound}
+use Rattle.mf_store_sound.proofs.HeldAccountLemmas.{few_filtered}
 use Rattle.mf_store_audit.specs.declared.totals.OfficeSums.{OfficeSums}
 use Rattle.mf_store_audit.specs.Sums.{loans_of_status, lent_on, sums_of_office, sums_of_all, Fit, IsBalanced}
 use Rattle.mf_store_audit.proofs.BalancedLemmas.{all_balanced, total_balanced}
@@ -32,12 +33,6 @@ sum_bound f m (x ∷ xs) all =
     let rest = sum_bound f m xs all.1 in
     let whole = sum_by-cons f x xs in
     omega (arith, first, rest, whole)
-
-filter_bound : {X : Type 0} (p : X → Bool) (xs : List X) → length (filter p xs) ≤ length xs
-filter_bound p xs =
-    let is = length-filter p xs in
-    let most = count_by-le-length p xs in
-    omega (arith, is, most)
 
 -- ---- one loan
 
@@ -103,7 +98,7 @@ module _ (k : Catalogue) (staffed : Caller → Bool) (sound : IsSoundCatalogue k
 
   loans_bound : (o : Office) → IsSoundOffice k staffed o → (status : ℕ) → loans_of_status k o.rows.loans status ≤ 10 ^ 6
   loans_bound o s status =
-      let few = filter_bound (λ (l : Ledger). status_in k l == status) o.rows.loans in
+      let few = few_filtered (λ (l : Ledger). status_in k l == status) o.rows.loans in
       let most = s.rows.loan_limit in
       omega (arith, few, most)
 
@@ -111,7 +106,7 @@ module _ (k : Catalogue) (staffed : Caller → Bool) (sound : IsSoundCatalogue k
       → sum_by (λ (l : Ledger). length (filter p l.entries)) o.rows.loans ≤ 10 ^ 10
   entries_bound p o s =
       let sum = office_bound (λ (l : Ledger). length (filter p l.entries)) 9999
-      (λ l b. (let few = b.few in let some = filter_bound p l.entries in omega (arith, few, some))) o s in
+      (λ l b. (let few = b.few in let some = few_filtered p l.entries in omega (arith, few, some))) o s in
       let most = s.rows.loan_limit in
       omega (arith, sum, most)
 

@@ -1,10 +1,11 @@
 -- The rows that the accounts of a sound institution leave, its instalments and its shares, are ones that records can
 -- hold.
-use Rattle.std.proofs.Common.{◌≡◌, ◌≤◌, ◌<◌, ◌+◌, ◌*◌, ◌^◌, ◌==◌, pos, ℕ, zero, suc, Bool, true, false, cond}
+use Rattle.std.proofs.Common.{◌≡◌, ◌≤◌, ◌<◌, ◌+◌, ◌*◌, ◌^◌, ◌==◌, pos, ℕ, zero, suc, Bool}
 use Rattle.std.proofs.Common.{List, [], ◌∷◌, map, filter, length, Option, Some, None, refl, sym, ap, ◌∙◌, subst, arith}
 use Rattle.std.specs.List.{AllByRecursion, range_with_len}
 use Rattle.std.proofs.lemmas.List.{length-map, length-append, map-append}
 use Rattle.std.proofs.lemmas.List.FromFn.{length-map-range_with_len}
+use Rattle.std.proofs.lemmas.List.Sums.{length-filter, count_by-le-length}
 use Rattle.std.proofs.lemmas.List.Elements.{recursion_from_All}
 use Rattle.std.proofs.lemmas.Nat.{mul-le}
 use Rattle.sqlite_keyed.proofs.ListLemmas.{all-append, all-filter, all_map, all_unmap, all_weaker}
@@ -48,7 +49,7 @@ use Rattle.mf_store_schema.specs.Fields.{HasFields}
 use Rattle.mf_store_schema.specs.Rows.{instalment_row, share_row}
 use Rattle.mf_store_schema.specs.declared.instalments.InstalmentRow.{InstalmentRow}
 use Rattle.mf_store_schema.specs.declared.shares.ShareRow.{ShareRow}
-use Rattle.mf_store_values.specs.Flat.{numbered_from, tables_of, instalment_in, share_in, how_number, portion_number}
+use Rattle.mf_store_values.specs.Flat.{tables_of, instalment_in, share_in, how_number, portion_number}
 use Rattle.mf_store_values.specs.Flat.{instalments_kept, shares_kept, placed_parts, parts_from, kept_of}
 use Rattle.mf_store_sound.specs.Held.{CanHoldRows}
 use Rattle.mf_store_sound.proofs.NestedLemmas.{◌also◌}
@@ -177,14 +178,8 @@ IsPartOf n p = p.cell.instalment ≤ n
 abbrev IsSettledOf : ℕ → SettledPart → Type 0
 IsSettledOf n s = s.cell.instalment ≤ n
 
-few_filtered : {A : Type 0} (p : A → Bool) (xs : List A) → length (filter p xs) ≤ length xs
-few_filtered p [] = omega arith
-few_filtered p (x ∷ xs) = go (p x) (few_filtered p xs)
-  where
-    go : (b : Bool) → length (filter p xs) ≤ length xs → length (cond b (x ∷ filter p xs) (filter p xs))
-        ≤ length (x ∷ xs)
-    go true more = omega (arith, more)
-    go false more = omega (arith, more)
+pub few_filtered : {A : Type 0} (p : A → Bool) (xs : List A) → length (filter p xs) ≤ length xs
+few_filtered p xs = let is = length-filter p xs in let most = count_by-le-length p xs in omega (arith, is, most)
 
 range_parts : (n : ℕ) (f : ℕ → Part) (a m : ℕ) → ((k : ℕ) → k < a + m → IsPartOf n (f k)) → AllByRecursion (IsPartOf n)
     (map f (range_with_len a m))

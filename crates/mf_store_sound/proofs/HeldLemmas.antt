@@ -11,9 +11,10 @@ use Rattle.std.proofs.lemmas.Bool.{and_parts}
 use Rattle.std.proofs.lemmas.Bool.Decides.{nat_tests}
 use Rattle.std.proofs.lemmas.Fmt.{IsAscii-decimal}
 use Rattle.std.proofs.lemmas.List.{length-map}
-use Rattle.std.proofs.lemmas.List.Elements.{recursion_from_All}
+use Rattle.std.proofs.lemmas.List.Elements.{All-from_recursion, recursion_from_All}
 use Rattle.std.proofs.lemmas.Option.{slice_get_within}
 use Rattle.std.proofs.lemmas.Str.{IsUtf8-append, IsUtf8-from_ascii}
+use Rattle.std.proofs.lemmas.Str.Ascii.{IsAscii-from_all}
 use Rattle.sqlite_keyed.proofs.ListLemmas.{all-append, all_map, all_weaker, all-slice_get}
 use Rattle.sqlite.specs.declared.types.Value.TheVariants.{Int, Text as Words}
 use Rattle.mf_base.specs.Calendar.{date_of}
@@ -165,9 +166,7 @@ held_clients i sound =
 -- ---- texts
 
 low_bytes : (bs : List ℕ) → AllByRecursion (λ (b : ℕ). b < 128) bs → IsAscii bs
-low_bytes [] all i = omega arith
-low_bytes (b ∷ bs) all zero = all.0
-low_bytes (b ∷ bs) all (suc i) = low_bytes bs all.1 i
+low_bytes bs all = IsAscii-from_all bs (All-from_recursion (λ (b : ℕ). b < 128) bs all)
 
 digits_low : (n : ℕ) → n < 100 → AllByRecursion (λ (b : ℕ). b < 128) (two_digits n)
 digits_low n h = (omega (arith, h), (omega arith, tt))

@@ -23,40 +23,17 @@ infixr 4 ◌also◌
 abbrev pub ◌also◌ : {A B : Type 0} → A → B → A × B
 a also b = (a, b)
 
-abbrev pub Nested : Type 0
-Nested = List MetaRow × (List OfficeRow × (List StaffRow × (List ClientRow × (List ChargeRow × (List ProductRow ×
-    (List LoanRow × (List EntryRow × (List ReceiptRow × (List InstalmentRow × (List ShareRow × Unit {0}))))))))))
+-- the lists of the nine tables that both schemas have, and of others
+abbrev pub Nested : Type 0 → Type 0
+Nested Others = List MetaRow × (List OfficeRow × (List StaffRow × (List ClientRow × (List ChargeRow ×
+    (List ProductRow × (List LoanRow × (List EntryRow × (List ReceiptRow × Others))))))))
 
-abbrev pub nested : Lists → Nested
-nested l = l.meta also l.offices also l.staff also l.clients also l.charges also l.products also l.loans also l.entries
-    also l.receipts also l.instalments also l.shares also tt
+abbrev nested_with : {Others : Type 0} → Lists → Others → Nested Others
+nested_with l others = l.meta also l.offices also l.staff also l.clients also l.charges also l.products also l.loans
+    also l.entries also l.receipts also others
 
-abbrev pub lists_of : Nested → Lists
-lists_of t = record {
-  meta = t.0;
-  offices = t.1.0;
-  staff = t.1.1.0;
-  clients = t.1.1.1.0;
-  charges = t.1.1.1.1.0;
-  products = t.1.1.1.1.1.0;
-  loans = t.1.1.1.1.1.1.0;
-  entries = t.1.1.1.1.1.1.1.0;
-  receipts = t.1.1.1.1.1.1.1.1.0;
-  instalments = t.1.1.1.1.1.1.1.1.1.0;
-  shares = t.1.1.1.1.1.1.1.1.1.1.0;
-}
-
--- the same of the nine tables of the first schema
-abbrev pub NestedFirst : Type 0
-NestedFirst = List MetaRow × (List OfficeRow × (List StaffRow × (List ClientRow × (List ChargeRow × (List ProductRow ×
-    (List LoanRow × (List EntryRow × (List ReceiptRow × Unit {0}))))))))
-
-abbrev pub nested_first : Lists → NestedFirst
-nested_first l = l.meta also l.offices also l.staff also l.clients also l.charges also l.products also l.loans
-    also l.entries also l.receipts also tt
-
-abbrev pub lists_of_first : NestedFirst → List InstalmentRow → List ShareRow → Lists
-lists_of_first t instalments shares = record {
+abbrev lists_with : {Others : Type 0} → Nested Others → List InstalmentRow → List ShareRow → Lists
+lists_with t instalments shares = record {
   meta = t.0;
   offices = t.1.0;
   staff = t.1.1.0;
@@ -70,9 +47,23 @@ lists_of_first t instalments shares = record {
   shares = shares;
 }
 
-pub same_lists : (a b : NestedFirst) (instalments : List InstalmentRow) (shares : List ShareRow) → a ≡ b
-    → instalments ≡ [] → shares ≡ [] → lists_of_first a instalments shares ≡ lists_of_first b [] []
-same_lists a b instalments shares same none empty = λ t. lists_of_first (same t) (none t) (empty t)
+-- those of all eleven
+abbrev pub Eleven : Type 0
+Eleven = Nested (List InstalmentRow × (List ShareRow × Unit {0}))
+
+abbrev pub nested : Lists → Eleven
+nested l = nested_with l (l.instalments also l.shares also tt)
+
+abbrev pub lists_of : Eleven → Lists
+lists_of t = lists_with t t.1.1.1.1.1.1.1.1.1.0 t.1.1.1.1.1.1.1.1.1.1.0
+
+-- those of the first schema
+abbrev pub nested_first : Lists → Nested (Unit {0})
+nested_first l = nested_with l tt
+
+pub same_lists : (a b : Nested (Unit {0})) (instalments : List InstalmentRow) (shares : List ShareRow) → a ≡ b
+    → instalments ≡ [] → shares ≡ [] → lists_with a instalments shares ≡ lists_with b [] []
+same_lists a b instalments shares same none empty = λ t. lists_with (same t) (none t) (empty t)
 
 first_true : (n : ℕ) (Ps : List (Type 0)) → AllTrue Ps → AllTrue (take n Ps)
 first_true zero Ps all = tt
