@@ -1,5 +1,5 @@
--- The rows of a loan's account, its instalments and its shares: as the catalogue grows, where a loan has no account, and
--- what the commits that change an account make of them.
+-- The rows of a loan's account, its instalments and its shares: as the catalogue grows, where a loan has no account,
+-- and what the commits that change an account make of them.
 use Rattle.std.proofs.Common.{◌≡◌, ◌++◌, ◌≤◌, ℕ, List, [], map, length, Option, None, Some, refl, sym, ap, ap₂, ◌∙◌}
 use Rattle.std.proofs.Common.{subst, Greater, Less, Ordering, nat_cmp, ◌+◌, Bool, ◌∷◌}
 use Rattle.std.specs.List.{AllByRecursion}

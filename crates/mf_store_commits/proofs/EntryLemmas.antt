@@ -125,11 +125,7 @@ find_filtered p q r is (x ∷ xs) = elim (cases_Bool (p x)) [
 ]
 
 three : (a b c : Ordering) → is_eq (ordering_then a (ordering_then b c)) ≡ (is_eq (ordering_then a b) && is_eq c)
-three Less b c = refl
-three Equal Less c = refl
-three Equal Equal c = refl
-three Equal Greater c = refl
-three Greater b c = refl
+three a b c = grind (arith, nat_tests)
 
 pub other_number : (s t : ℕ) → t < s → is_eq (nat_cmp s t) ≡ false
 other_number s t h = grind (arith, nat_tests)

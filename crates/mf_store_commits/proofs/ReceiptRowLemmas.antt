@@ -248,6 +248,5 @@ module _ (x n : ℕ) (e : Entry) (es : List Entry) (l : Ledger) (new : Rows) (fs
       receipt_put =
           let others = others_found x r (receipts_carried fs) (found x r fs up ∙ ap (option_map (receipt_in x))
           receipt_free) in
-          ap (λ rows. put_item by_receipt (receipt_in x used) (sort_by by_receipt rows)) at_rows.old_is
-          ∙ put_among by_receipt by_receipt_total (receipt_in x used) at_rows.first at_rows.last
-          (subst (AreOthers x r) at_rows.old_is others) ∙ ap (sort_by by_receipt) (sym at_rows.new_is)
+          rw (at_rows.old_is, at_rows.new_is) (put_among by_receipt by_receipt_total (receipt_in x used) at_rows.first
+          at_rows.last (subst (AreOthers x r) at_rows.old_is others))
