@@ -1,6 +1,6 @@
 -- The rows of entries: those of one loan, one by its number, one entry more, and one reversed.
 use Rattle.std.proofs.Common.{◌≡◌, ◌<◌, ◌≤◌, ◌+◌, ◌-◌, ℕ, zero, suc, true, List, [], ◌∷◌, ◌++◌, map, filter, length}
-use Rattle.std.proofs.Common.{Some, refl, sym, ap, ◌∙◌, arith, Less, Equal, Greater, nat_cmp, Bool, false, cond, ◌&&◌}
+use Rattle.std.proofs.Common.{Some, refl, sym, ap, ◌∙◌, arith, Less, Greater, nat_cmp, Bool, false, cond, ◌&&◌}
 use Rattle.std.proofs.Common.{find, None, IsSome, Ordering, is_eq, inl, inr}
 use Rattle.std.proofs.lemmas.Bool.{cases_Bool}
 use Rattle.std.proofs.lemmas.Bool.Decides.{nat_tests}

@@ -1,5 +1,5 @@
 -- What tables stand for after a query and after a commit, and the commit that writes make.
-use Rattle.std.proofs.Common.{◌≡◌, inl, inr, List, [], ◌∷◌, Some, Result, Ok, Err, OnOk, OnErr, IsTrue, sym, ap, ◌∙◌}
+use Rattle.std.proofs.Common.{◌≡◌, inl, inr, List, [], ◌∷◌, Some, Result, Ok, Err, OnOk, OnErr, IsTrue, ap, ◌∙◌}
 use Rattle.std.proofs.Common.{subst, arith, IfErr}
 use Rattle.std.proofs.lemmas.Result.{on_ok_weaker, on_err_weaker}
 use Rattle.sqlite.specs.Effect.{Database}
