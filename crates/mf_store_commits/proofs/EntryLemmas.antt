@@ -105,14 +105,11 @@ pub entry_put : (x n : ℕ) (e : Entry) (es : List Entry) (l : Ledger) (new : Ro
     (rows_of (office_at x fs)).loans → PutsEntry x n e l.entries es
     → put_item by_entry (entry_in x n e) (entry_rows fs) ≡ entry_rows (with_rows x new fs)
 entry_put x n e es l new fs up at is puts =
+    let cut = λ (s : EntryRow). then_assoc (nat_cmp x s.office) (nat_cmp n s.loan) (nat_cmp e.seq s.seq) in
     put_around by_entry (entry_in x n e) (λ s h. cut s ∙ ap (λ o. ordering_then o (nat_cmp e.seq s.seq)) h)
-    (λ s h. cut s ∙ ap (λ o. ordering_then o (nat_cmp e.seq s.seq)) h) (rows_around entry_in own_entries
-    (λ x n s. ordering_then (nat_cmp x s.office) (nat_cmp n s.loan)) (λ x n y m a. refl) x n (with_entries es) l new fs
-    up at is) puts
-  where
-    cut : (s : EntryRow) → by_entry (entry_in x n e) s
-        ≡ ordering_then (ordering_then (nat_cmp x s.office) (nat_cmp n s.loan)) (nat_cmp e.seq s.seq)
-    cut s = then_assoc (nat_cmp x s.office) (nat_cmp n s.loan) (nat_cmp e.seq s.seq)
+    (λ s h. cut s ∙ ap (λ o. ordering_then o (nat_cmp e.seq s.seq)) h)
+    (rows_around entry_in own_entries (λ x n s. ordering_then (nat_cmp x s.office) (nat_cmp n s.loan))
+    (λ x n y m a. refl) x n (with_entries es) l new fs up at is) puts
 
 -- ---- the row of an entry by its number, among the rows of all entries
 
