@@ -21,8 +21,8 @@ use Rattle.mf_store_schema.specs.declared.writes.StoreWrite.{StoreWrite}
 use Rattle.mf_store_schema.specs.declared.writes.StoreWrite.TheVariants.{PutMeta, PutCharge, PutProduct}
 use Rattle.mf_store_values.proofs.BlockLemmas.{numbered-suc}
 use Rattle.mf_store_values.proofs.FlatLemmas.{put_listed, put_listed_last, find_listed}
-use Rattle.mf_store_values.specs.Flat.{meta_on, tables_of, charge_as, product_as, instalment_in, share_in, instalments_kept}
-use Rattle.mf_store_values.specs.Flat.{shares_kept}
+use Rattle.mf_store_values.specs.Flat.{meta_on, tables_of, charge_as, product_as, instalment_in, share_in}
+use Rattle.mf_store_values.specs.Flat.{instalments_kept, shares_kept}
 use Rattle.mf_store_commits.proofs.AccountCommitLemmas.{TermsStand, rows_stand}
 use Rattle.mf_store_commits.specs.Becoming.{Becomes}
 use Rattle.mf_store_commits.specs.Suiting.{AllSuit}

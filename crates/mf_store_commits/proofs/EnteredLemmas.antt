@@ -21,7 +21,7 @@ use Rattle.mf_model.proofs.AccountLemmas.{account_is, account_sound}
 use Rattle.mf_model.proofs.Growing.{all_map, all_at}
 use Rattle.mf_model.proofs.StaffLemmas.{staff_are_callers}
 use Rattle.mf_model.specs.Accounts.{account_in}
-use Rattle.mf_model.specs.Institution.{Institution, Catalogue, Ledger, Rows, item_numbered, with_numbered, with_rows}
+use Rattle.mf_model.specs.Institution.{Institution, Ledger, Rows, item_numbered, with_numbered, with_rows}
 use Rattle.mf_model.specs.Loans.{with_entries, loan_entered}
 use Rattle.mf_model.specs.Receipts.{uses_from, AreApart}
 use Rattle.mf_model.specs.Sound.{IsSound, IsSoundLoan, IsSoundRows, IsEntryBy, AreEntriesBy, is_staff}

@@ -90,8 +90,9 @@ loan_becomes x l i r before sound there none is =
     rw is (record {
       sound = sound;
       fits = (refl, tt);
-      is = ap Some (loans_become x new i before refl refl (rw (← length-map loans loan_of) (put_row_of loan_in loans_of refl by_loan (λ x n y m a b. refl) x l new i.offices up there
-          (map-append loan_of loans (added ∷ []))))
+      is = ap Some (loans_become x new i before refl refl
+          (rw (← length-map loans loan_of) (put_row_of loan_in loans_of refl by_loan (λ x n y m a b. refl) x l new
+          i.offices up there (map-append loan_of loans (added ∷ []))))
           (same_by_loan entry_in own_entries x new i.offices up (one_more_loan entry_in own_entries added loans refl))
           (same_receipts_of x new i.offices up (uses_push 1 l loans))
           (same_by_loan instalment_in (kept_of instalments_kept i.catalogue) x new i.offices up

@@ -39,7 +39,8 @@ module _ {S : Type 0} (g : Ghosts S) where
       shuts = u.shuts;
       same = λ clean i s. record {
         sound = s.sound;
-        serves = λ live. let before = s.serves (u.was_open clean live) in rw (u.same clean live before.schema_is) before;
+        serves = λ live. let before = s.serves (u.was_open clean live) in
+            rw (u.same clean live before.schema_is) before;
       };
       stop = λ clean left l. record {
         ours = λ now live. let before = l.ours (u.premise now) (u.was_open now live) in ap (λ (d : Database). d.schema)

@@ -1,7 +1,4 @@
-use Rattle.std.proofs.Common.{sym, subst}
-use Rattle.mf_model.specs.Store.{after_commit}
 use Rattle.mf_model.specs.declared.commit.Commit.TheVariants.{AddEntry}
-use Rattle.mf_store_commits.specs.Becoming.{Becomes}
 use Rattle.mf_store_commits.proofs.StandLemmas.{made_by}
 use Rattle.mf_store_commits.proofs.entering.add_entry.Goals as goal
 
