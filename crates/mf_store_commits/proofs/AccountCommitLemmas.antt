@@ -1,7 +1,7 @@
--- The rows of a loan's account, its instalments and its shares: as the catalogue grows, where a loan has no account, and
--- what the commits that change an account make of them.
+-- The rows of a loan's account, its instalments and its shares: as the catalogue grows, where a loan has no account,
+-- and what the commits that change an account make of them.
 use Rattle.std.proofs.Common.{◌≡◌, ◌++◌, ◌≤◌, ℕ, List, [], map, length, Option, None, Some, refl, sym, ap, ap₂, ◌∙◌}
-use Rattle.std.proofs.Common.{subst, Greater, Less, Ordering, nat_cmp, ◌+◌, Bool, ◌∷◌}
+use Rattle.std.proofs.Common.{Greater, Less, Ordering, nat_cmp, ◌+◌, Bool, ◌∷◌}
 use Rattle.std.specs.List.{AllByRecursion}
 use Rattle.std.specs.Ordering.{ordering_then}
 use Rattle.mf_office.specs.declared.caller.Caller.{Caller}
@@ -47,15 +47,11 @@ pub same_account : (k h : Catalogue) (staffed : Caller → Bool) (clients : List
 same_account k h staffed clients l stand sound = go (disbursed_on l.loan.stage) refl
   where
     go : (d : Option ℕ) → disbursed_on l.loan.stage ≡ d → account_in k l ≡ account_in h l
-    go None e = ap (λ d. running_from l.loan l.entries d (terms_in k l.loan.product)) e
-        ∙ sym (ap (λ d. running_from l.loan l.entries d (terms_in h l.loan.product)) e)
+    go None e = rw e
     go (Some day) e =
         let there = account_there k l day e sound.product in
         let is : IsRunning k l there.0 = account_is k l there.0 there.1 in
-        there.1
-        ∙ sym (ap (λ d. running_from l.loan l.entries d (terms_in h l.loan.product)) is.day_is
-        ∙ ap (running_from l.loan l.entries (Some is.day)) (stand l.loan.product is.terms is.terms_is)
-        ∙ ap Some is.account_is)
+        there.1 ∙ sym (rw (is.day_is, stand l.loan.product is.terms is.terms_is) (ap Some is.account_is))
 
 module _ {A R : Type 0} (make : ℕ → ℕ → A → R) (read : DisbursedLoan → List A) where
   loans_stand : (k h : Catalogue) (staffed : Caller → Bool) (clients : List (List ℕ)) (x n : ℕ) (ls : List Ledger)
@@ -119,10 +115,7 @@ module _ (k : Catalogue) (x n : ℕ) (l : Ledger) (account : KeptAccount) (chang
       → ((x n y m : ℕ) (a : A) → place x n (make y m a) ≡ ordering_then (nat_cmp x y) (nat_cmp n m))
       → AroundAt (place x n) (rows_by_loan make (kept_of read k) fs) (rows_by_loan make (kept_of read k)
       (with_rows x new fs)) (map (make x n) (read changed.before)) (map (make x n) (read account.loan))
-  read_around {A} make read place keyed =
-      subst (λ (b : List A × List A). AroundAt (place x n) (rows_by_loan make (kept_of read k) fs)
-      (rows_by_loan make (kept_of read k) (with_rows x new fs)) (map (make x n) b.0) (map (make x n) b.1))
-      (λ t. (of_account [] read (changed.was t), of_account [] read (changed.now t)))
+  read_around make read place keyed = rw (changed.was, changed.now) at
       (rows_around make (kept_of read k) place keyed x n (with_entries account.loan.entries) l new fs up at is)
 
   instalments_brought : all_steps (instalment_step x n rows) account.change.rows (instalment_rows k fs)
@@ -160,9 +153,7 @@ module _ (k : Catalogue) (x n : ℕ) (l : Ledger) (stage : Stage) (new : Rows) (
 
   schedule_brought : put_all by_instalment (map (instalment_in x n) (kept_of instalments_kept k then))
       (instalment_rows k fs) ≡ instalment_rows k (with_rows x new fs)
-  schedule_brought = fresh (account_in k then) (subst (λ old. AroundAt (loan_place x n) (instalment_rows k fs)
-      (instalment_rows k (with_rows x new fs)) (map (instalment_in x n) old)
-      (map (instalment_in x n) (kept_of instalments_kept k then))) (none_before instalments_kept k l before)
+  schedule_brought = fresh (account_in k then) (rw (none_before instalments_kept k l before) at
       (rows_around instalment_in (kept_of instalments_kept k) loan_place (λ x n y m a. refl) x n
       (with_stage stage) l new fs up at is))
     where

@@ -11,9 +11,8 @@ use Rattle.mf_model.specs.Institution.{Institution, Catalogue, ListedCharge, Lis
 use Rattle.mf_model.specs.Sound.{IsSound, is_staff}
 use Rattle.mf_model.specs.Store.{after_commit}
 use Rattle.mf_model.specs.declared.commit.Commit.TheVariants.{SetDay, AddCharge, AddProduct, RetireProduct}
-use Rattle.mf_store_sql.specs.Keep.{put_item}
 use Rattle.mf_store_sql.specs.Writes.{AllFit, after_all}
-use Rattle.mf_store_schema.specs.Rows.{by_meta, by_charge, by_product, is_row_of_product}
+use Rattle.mf_store_schema.specs.Rows.{by_charge, by_product, is_row_of_product}
 use Rattle.mf_store_schema.specs.Writes.{FitsLists, after_write}
 use Rattle.mf_store_schema.specs.declared.charges.ChargeRow.{ChargeRow}
 use Rattle.mf_store_schema.specs.declared.meta.MetaRow.{MetaRow}
@@ -22,8 +21,8 @@ use Rattle.mf_store_schema.specs.declared.writes.StoreWrite.{StoreWrite}
 use Rattle.mf_store_schema.specs.declared.writes.StoreWrite.TheVariants.{PutMeta, PutCharge, PutProduct}
 use Rattle.mf_store_values.proofs.BlockLemmas.{numbered-suc}
 use Rattle.mf_store_values.proofs.FlatLemmas.{put_listed, put_listed_last, find_listed}
-use Rattle.mf_store_values.specs.Flat.{tables_of, charge_as, product_as, instalment_in, share_in, instalments_kept}
-use Rattle.mf_store_values.specs.Flat.{shares_kept}
+use Rattle.mf_store_values.specs.Flat.{meta_on, tables_of, charge_as, product_as, instalment_in, share_in}
+use Rattle.mf_store_values.specs.Flat.{instalments_kept, shares_kept}
 use Rattle.mf_store_commits.proofs.AccountCommitLemmas.{TermsStand, rows_stand}
 use Rattle.mf_store_commits.specs.Becoming.{Becomes}
 use Rattle.mf_store_commits.specs.Suiting.{AllSuit}
@@ -49,10 +48,8 @@ grown writes h i before sound stand fits is = record {
 pub day_becomes : (day : ℕ) (i : Institution) (m : MetaRow) → IsSound i → IsSound (after_commit (SetDay day) i)
     → m.one ≡ 1 → m.schema ≡ 2 → m.day ≡ day_text day → Becomes (PutMeta m ∷ []) i (after_commit (SetDay day) i)
 day_becomes day i m before sound one schema text =
-    grown (PutMeta m ∷ []) (day_set day i.catalogue) i before sound (λ n t given. given) (refl, tt) (λ k. Some
-    (record (tables_of i) {
-      meta = put_item by_meta (record { one = one k; schema = schema k; day = text k }) (tables_of i).meta;
-    }))
+    let is : m ≡ meta_on day = λ k. record { one = one k; schema = schema k; day = text k } in
+    rw is (grown (PutMeta _ ∷ []) (day_set day i.catalogue) i before sound (λ n t given. given) (refl, tt) refl)
 
 pub charge_becomes : (c : ListedCharge) (i : Institution) (x : ChargeRow) → IsSound i
     → IsSound (after_commit (AddCharge c.name c.kind c.calc c.value) i) → x ≡ charge_as (length i.catalogue.charges + 1)

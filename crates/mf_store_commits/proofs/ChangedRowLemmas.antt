@@ -126,9 +126,8 @@ shares_changed x n before after_write change sound more is {all} {other} w =
     (settled_of_loan after_write) i) change.seqs s is.seqs.each has in (all.0, all.1))
     (λ k first last. dite (List-discrete decided_part (old k) (new k)) (λ alike. inl alike)
     (λ apart. inr (is.seqs.all k first last apart)))
-    (subst (λ ps. AroundAt (share_place x n) all other (map (share_in x n) ps)
-    (map (share_in x n) (shares_kept after_write))) (parts_longer old 1 (length before.entries) c more
-    (λ k low. none_settled before k sound (omega (arith, low)))) w)
+    (rw (parts_longer old 1 (length before.entries) c more (λ k low. none_settled before k sound (omega (arith, low))))
+    at w)
 
 -- ---- the writes
 

@@ -112,8 +112,8 @@ client_becomes x name i c before sound there is =
       fits = (refl, tt);
       is = ap Some (people_become x new i before refl
           (same_rows_of staff_in (λ rows. rows.staff) refl x new i.offices up refl)
-          (put_row_of client_in (λ rows. rows.clients) refl by_client (λ x n y m a b. refl) x name new i.offices up there
-          refl));
+          (put_row_of client_in (λ rows. rows.clients) refl by_client (λ x n y m a b. refl) x name new i.offices up
+          there refl));
     })
 
 pub staff_becomes : (x : ℕ) (name : List ℕ) (role : Role) (i : Institution) (s : StaffRow) → IsSound i
@@ -195,7 +195,7 @@ office_put ps new (f ∷ fs) up none = elim (cases_Bool (f.number == new.number)
         → AllByRecursion (λ y. by_office (office_under ps new) y ≡ Less) (map (office_under ps) gs)
     above n [] low h = tt
     above n (h ∷ hs) low up = (
-      (let high : n < h.number = up.0 in let less : nat_cmp new.number h.number ≡ Less = grind (arith, nat_tests) in less),
+      (let high = up.0 in let less : nat_cmp new.number h.number ≡ Less = grind (arith, nat_tests, low, high) in less),
       above n hs low up.1,
     )
 

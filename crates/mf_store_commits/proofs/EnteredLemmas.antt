@@ -21,7 +21,7 @@ use Rattle.mf_model.proofs.AccountLemmas.{account_is, account_sound}
 use Rattle.mf_model.proofs.Growing.{all_map, all_at}
 use Rattle.mf_model.proofs.StaffLemmas.{staff_are_callers}
 use Rattle.mf_model.specs.Accounts.{account_in}
-use Rattle.mf_model.specs.Institution.{Institution, Catalogue, Ledger, Rows, item_numbered, with_numbered, with_rows}
+use Rattle.mf_model.specs.Institution.{Institution, Ledger, Rows, item_numbered, with_numbered, with_rows}
 use Rattle.mf_model.specs.Loans.{with_entries, loan_entered}
 use Rattle.mf_model.specs.Receipts.{uses_from, AreApart}
 use Rattle.mf_model.specs.Sound.{IsSound, IsSoundLoan, IsSoundRows, IsEntryBy, AreEntriesBy, is_staff}
@@ -110,8 +110,7 @@ staff_after loan account i =
 -- a loan that is not disbursed has no entries
 pub no_entries : (loan : Account) (l : Ledger) (i : Institution) → IsSound i → ledger_at loan i ≡ Some l
     → disbursed_on l.loan.stage ≡ None → l.entries ≡ []
-no_entries loan l i sound there none = subst (λ d. AreEntriesBy i.catalogue.day (is_staff i.offices) l.loan.periods d
-    l.entries) none (loan_sound loan l i sound there).entries
+no_entries loan l i sound there none = rw none at ((loan_sound loan l i sound there).entries)
 
 -- where the institution is sound after a change of a loan's entries
 module _ (loan : Account) (account : KeptAccount) (l : Ledger) (i : Institution)
@@ -195,22 +194,21 @@ pub handed_changed : (loan : Account) (account : KeptAccount) (before : Disburse
     → account.loan ≡ record before { entries = account.loan.entries } → length before.entries
     ≤ length account.loan.entries → IsReplayed account → IsChange before account.loan account.change
     → IsChanged i.catalogue of.ledger account
-handed_changed loan account before i sound then of others more kept change = record {
-  before = before;
-  was = of.account;
-  now = now;
-  sound = account_sound k (is_staff i.offices) (rows_at loan.office i).clients of.ledger before sound.catalogue
-      (loan_sound loan of.ledger i sound of.there) of.account;
-  then = account_sound k (staff_after loan account i) (rows_at loan.office i).clients (with_entries account.loan.entries
-      of.ledger) account.loan sound.catalogue (loan_after loan account of.ledger i then of.there) now;
-  same = sym (ap (λ (r : DisbursedLoan). r.periods) others);
-  more = more;
-  kept = kept;
-  change = change;
-}
-  where
-    k : Catalogue
-    k = i.catalogue
-
-    now : account_in k (with_entries account.loan.entries of.ledger) ≡ Some account.loan
-    now = account_with k of.ledger before account.loan.entries of.account ∙ ap Some (sym others)
+handed_changed loan account before i sound then of others more kept change =
+    let k = i.catalogue in
+    let clients = (rows_at loan.office i).clients in
+    let now : account_in k (with_entries account.loan.entries of.ledger) ≡ Some account.loan =
+    account_with k of.ledger before account.loan.entries of.account ∙ ap Some (sym others) in
+    record {
+      before = before;
+      was = of.account;
+      now = now;
+      sound = account_sound k (is_staff i.offices) clients of.ledger before sound.catalogue
+          (loan_sound loan of.ledger i sound of.there) of.account;
+      then = account_sound k (staff_after loan account i) clients (with_entries account.loan.entries of.ledger)
+          account.loan sound.catalogue (loan_after loan account of.ledger i then of.there) now;
+      same = sym (ap (λ (r : DisbursedLoan). r.periods) others);
+      more = more;
+      kept = kept;
+      change = change;
+    }

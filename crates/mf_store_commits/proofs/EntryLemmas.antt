@@ -1,6 +1,6 @@
 -- The rows of entries: those of one loan, one by its number, one entry more, and one reversed.
 use Rattle.std.proofs.Common.{◌≡◌, ◌<◌, ◌≤◌, ◌+◌, ◌-◌, ℕ, zero, suc, true, List, [], ◌∷◌, ◌++◌, map, filter, length}
-use Rattle.std.proofs.Common.{Some, refl, sym, ap, ◌∙◌, arith, Less, Equal, Greater, nat_cmp, Bool, false, cond, ◌&&◌}
+use Rattle.std.proofs.Common.{Some, refl, sym, ap, ◌∙◌, arith, Less, Greater, nat_cmp, Bool, false, cond, ◌&&◌}
 use Rattle.std.proofs.Common.{find, None, IsSome, Ordering, is_eq, inl, inr}
 use Rattle.std.proofs.lemmas.Bool.{cases_Bool}
 use Rattle.std.proofs.lemmas.Bool.Decides.{nat_tests}
@@ -105,14 +105,11 @@ pub entry_put : (x n : ℕ) (e : Entry) (es : List Entry) (l : Ledger) (new : Ro
     (rows_of (office_at x fs)).loans → PutsEntry x n e l.entries es
     → put_item by_entry (entry_in x n e) (entry_rows fs) ≡ entry_rows (with_rows x new fs)
 entry_put x n e es l new fs up at is puts =
+    let cut = λ (s : EntryRow). then_assoc (nat_cmp x s.office) (nat_cmp n s.loan) (nat_cmp e.seq s.seq) in
     put_around by_entry (entry_in x n e) (λ s h. cut s ∙ ap (λ o. ordering_then o (nat_cmp e.seq s.seq)) h)
-    (λ s h. cut s ∙ ap (λ o. ordering_then o (nat_cmp e.seq s.seq)) h) (rows_around entry_in own_entries
-    (λ x n s. ordering_then (nat_cmp x s.office) (nat_cmp n s.loan)) (λ x n y m a. refl) x n (with_entries es) l new fs
-    up at is) puts
-  where
-    cut : (s : EntryRow) → by_entry (entry_in x n e) s
-        ≡ ordering_then (ordering_then (nat_cmp x s.office) (nat_cmp n s.loan)) (nat_cmp e.seq s.seq)
-    cut s = then_assoc (nat_cmp x s.office) (nat_cmp n s.loan) (nat_cmp e.seq s.seq)
+    (λ s h. cut s ∙ ap (λ o. ordering_then o (nat_cmp e.seq s.seq)) h)
+    (rows_around entry_in own_entries (λ x n s. ordering_then (nat_cmp x s.office) (nat_cmp n s.loan))
+    (λ x n y m a. refl) x n (with_entries es) l new fs up at is) puts
 
 -- ---- the row of an entry by its number, among the rows of all entries
 
@@ -125,11 +122,7 @@ find_filtered p q r is (x ∷ xs) = elim (cases_Bool (p x)) [
 ]
 
 three : (a b c : Ordering) → is_eq (ordering_then a (ordering_then b c)) ≡ (is_eq (ordering_then a b) && is_eq c)
-three Less b c = refl
-three Equal Less c = refl
-three Equal Equal c = refl
-three Equal Greater c = refl
-three Greater b c = refl
+three a b c = grind (arith, nat_tests)
 
 pub other_number : (s t : ℕ) → t < s → is_eq (nat_cmp s t) ≡ false
 other_number s t h = grind (arith, nat_tests)

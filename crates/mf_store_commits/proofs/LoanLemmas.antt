@@ -87,13 +87,12 @@ loan_becomes x l i r before sound there none is =
     let added : Ledger = record { loan = l; entries = [] } in
     let new = loan_added l (rows_at x i) in
     let up = before.tree.ascending in
-    record {
+    rw is (record {
       sound = sound;
       fits = (refl, tt);
-      is = ap Some (loans_become x new i before refl refl (ap (λ r. put_item by_loan r (tables_of i).loans) (is
-          ∙ ap (λ n. loan_in x (n + 1) l) (sym (length-map loans loan_of)))
-          ∙ put_row_of loan_in loans_of refl by_loan (λ x n y m a b. refl) x l new i.offices up there
-          (map-append loan_of loans (added ∷ [])))
+      is = ap Some (loans_become x new i before refl refl
+          (rw (← length-map loans loan_of) (put_row_of loan_in loans_of refl by_loan (λ x n y m a b. refl) x l new
+          i.offices up there (map-append loan_of loans (added ∷ []))))
           (same_by_loan entry_in own_entries x new i.offices up (one_more_loan entry_in own_entries added loans refl))
           (same_receipts_of x new i.offices up (uses_push 1 l loans))
           (same_by_loan instalment_in (kept_of instalments_kept i.catalogue) x new i.offices up
@@ -102,7 +101,7 @@ loan_becomes x l i r before sound there none is =
           (same_by_loan share_in (kept_of shares_kept i.catalogue) x new i.offices up
           (one_more_loan share_in (kept_of shares_kept i.catalogue) added loans
           (none_before shares_kept i.catalogue added none))));
-    }
+    })
 
 -- where a loan that was not disbursed comes to a stage, its row is put, and those of its instalments
 module _ (account : Account) (stage : Stage) (l : Ledger) (i : Institution) (before : IsSound i)
@@ -210,7 +209,7 @@ module _ (loan : Account) (account : KeptAccount) (l : Ledger) (i : Institution)
 
     row_put : put_item by_entry row (tables_of i).entries ≡ entry_rows now
     row_put = entry_put x loan.number e account.loan.entries l new i.offices before.tree.ascending there refl
-        (subst (PutsEntry x loan.number e l.entries) (sym are) (puts_last x loan.number e l.entries early))
+        (rw are (puts_last x loan.number e l.entries early))
 
     new_entry : IsNew by_entry row (tables_of i).entries
     new_entry = entry_by_number x loan.number e.seq l i before there ∙ number_free x loan.number e.seq l.entries early
@@ -244,8 +243,7 @@ module _ (loan : Account) (account : KeptAccount) (l : Ledger) (i : Institution)
     low = omega (arith, first, last)
 
     puts : PutsEntry x loan.number entry l.entries account.loan.entries
-    puts = subst (PutsEntry x loan.number entry l.entries) (sym marked)
-        (puts_reversed x loan.number 0 (seq - 1) l.entries numbers low)
+    puts = rw marked (puts_reversed x loan.number 0 (seq - 1) l.entries numbers low)
 
     here : IsThere by_entry (entry_in x loan.number entry) (tables_of i).entries
     here = rw (entry_by_number x loan.number entry.seq l i before there)

@@ -231,8 +231,7 @@ module _ (x n : ℕ) (e : Entry) (es : List Entry) (l : Ledger) (new : Rows) (fs
       at_rows : Around Any Any (receipts_carried fs) (receipts_carried (with_rows x new fs)) [] (receipt_in x used ∷ [])
       at_rows =
           let there = seen (λ rows. rows.loans) refl (λ y m k. uses_in m k.entries) x n l fs at in
-          subst (λ (all : List Office → List ReceiptRow). Around Any Any (all fs) (all (with_rows x new fs)) []
-          (receipt_in x used ∷ [])) (λ t gs. sym (in_carried gs) t) (within Any Any (office_around block Any Any x
+          rw (in_carried fs, in_carried (with_rows x new fs)) (within Any Any (office_around block Any Any x
           (λ y rows low. all_of Any (λ s. tt) (block y rows)) (λ y rows high. all_of Any (λ s. tt) (block y rows)) new
           fs up there) (around_mapped (receipt_in x) {block = []} {changed = used ∷ []} (record {
             first = entered.before;
@@ -248,6 +247,5 @@ module _ (x n : ℕ) (e : Entry) (es : List Entry) (l : Ledger) (new : Rows) (fs
       receipt_put =
           let others = others_found x r (receipts_carried fs) (found x r fs up ∙ ap (option_map (receipt_in x))
           receipt_free) in
-          ap (λ rows. put_item by_receipt (receipt_in x used) (sort_by by_receipt rows)) at_rows.old_is
-          ∙ put_among by_receipt by_receipt_total (receipt_in x used) at_rows.first at_rows.last
-          (subst (AreOthers x r) at_rows.old_is others) ∙ ap (sort_by by_receipt) (sym at_rows.new_is)
+          rw (at_rows.old_is, at_rows.new_is) (put_among by_receipt by_receipt_total (receipt_in x used) at_rows.first
+          at_rows.last (subst (AreOthers x r) at_rows.old_is others))

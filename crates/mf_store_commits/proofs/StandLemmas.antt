@@ -1,5 +1,5 @@
 -- What tables stand for after a query and after a commit, and the commit that writes make.
-use Rattle.std.proofs.Common.{◌≡◌, inl, inr, List, [], ◌∷◌, Some, Result, Ok, Err, OnOk, OnErr, IsTrue, sym, ap, ◌∙◌}
+use Rattle.std.proofs.Common.{◌≡◌, inl, inr, List, [], ◌∷◌, Some, Result, Ok, Err, OnOk, OnErr, IsTrue, ap, ◌∙◌}
 use Rattle.std.proofs.Common.{subst, arith, IfErr}
 use Rattle.std.proofs.lemmas.Result.{on_ok_weaker, on_err_weaker}
 use Rattle.sqlite.specs.Effect.{Database}
@@ -39,8 +39,8 @@ module _ {S : Type 0} (g : Ghosts S) where
       shuts = u.shuts;
       same = λ clean i s. record {
         sound = s.sound;
-        serves = λ live. let before = s.serves (u.was_open clean live) in subst (λ d. Serves schema_of Holds d
-            (Some (tables_of i))) (sym (u.same clean live before.schema_is)) before;
+        serves = λ live. let before = s.serves (u.was_open clean live) in
+            rw (u.same clean live before.schema_is) before;
       };
       stop = λ clean left l. record {
         ours = λ now live. let before = l.ours (u.premise now) (u.was_open now live) in ap (λ (d : Database). d.schema)
@@ -61,8 +61,8 @@ module _ {S : Type 0} (g : Ghosts S) where
           → IsSettled is → (j : Institution) → IsTabled g new j → LeavesTables g new (j ∷ [])
       made_leaves settled rests j s = record {
         ours = λ clean live. (s.serves live).schema_is;
-        whole = λ clean trees may. inl (subst (λ t. Holds t (Some (tables_of j))) (sym (settled trees rests.is_open may
-            ∙ ap (λ (d : Database). d.trees) rests.committed)) (s.serves rests.is_open).holds);
+        whole = λ clean trees may. inl (rw (settled trees rests.is_open may ∙ ap (λ (d : Database). d.trees)
+            rests.committed) (s.serves rests.is_open).holds);
       }
 
       -- whatever came of the call, the tables are this program's

@@ -1,6 +1,6 @@
 -- Rows by number, some of which are brought to what they are in another list: a loan's instalments, and its shares.
 use Rattle.std.proofs.Common.{◌≡◌, ◌<◌, ◌≤◌, ◌+◌, ◌-◌, ℕ, zero, suc, Bool, false, true, List, [], ◌∷◌, ◌++◌, map}
-use Rattle.std.proofs.Common.{filter, length, refl, sym, ap, ap₂, ◌∙◌, subst, arith, inl, inr, Ordering, Less, Equal}
+use Rattle.std.proofs.Common.{filter, length, refl, sym, ap, ap₂, ◌∙◌, arith, inl, inr, Ordering, Less, Equal}
 use Rattle.std.proofs.Common.{Greater, is_eq, nat_cmp, ◌⊎◌, get_or, not, take, append_assoc, add-one}
 use Rattle.std.proofs.lemmas.Bool.{cases_eq}
 use Rattle.std.proofs.lemmas.Bool.Decides.{nat_tests}
@@ -69,9 +69,9 @@ module _ {B R : Type 0} (d : B) (new : List B) (block : ℕ → B → List R) (o
       → AroundAt outer all other (blocks_from block 1 bs) (blocks_from block 1 new) → all_steps step ks all ≡ other
   steps_bring [] bs all other long but there w =
       around_same (λ s. outer s ≡ Greater) (λ s. outer s ≡ Less) w (ap (blocks_from block 1) (ext_get_or d bs new long
-      (λ i low. elim (but (i + 1) (omega arith) (omega (arith, low))) [
-        | inl same ↦ let place : i + 1 - 1 ≡ i = omega arith in
-            ap (λ j. get_or bs j d) (sym place) ∙ same ∙ ap (λ j. get_or new j d) place
+      (λ i low. let place : i + 1 - 1 ≡ i = omega arith in
+      elim (rw place at (but (i + 1) (omega arith) (omega (arith, low)))) [
+        | inl same ↦ same
         | inr named ↦ absurd (Contains-nil (i + 1) named)
       ])))
   steps_bring (k ∷ ks) bs all other long but there w =
@@ -92,8 +92,7 @@ module _ {B R : Type 0} (d : B) (new : List B) (block : ℕ → B → List R) (o
       (omega (arith, least)) (slice_get-get_or bs (k - 1) d (omega (arith, least, most, long))))))
       ∙ steps_bring ks cs mid (w.first ++ (blocks_from block 1 new ++ w.last)) (size ∙ long)
       (λ j low high. elim (cases_eq j k) [
-        | inl here ↦ inl (ap (λ i. get_or cs (i - 1) d) here ∙ get_or-set_same bs (k - 1) b d
-            (omega (arith, least, most, long)) ∙ ap (λ i. get_or new (i - 1) d) (sym here))
+        | inl here ↦ inl (rw here (get_or-set_same bs (k - 1) b d (omega (arith, least, most, long))))
         | inr apart ↦ elim (but j low (omega (arith, high, size))) [
           | inl same ↦ inl (get_or-set_other bs (k - 1) (j - 1) b d (λ e. apart (omega (arith, e, low, least))) ∙ same)
           | inr named ↦ elim (Contains-cons k ks j named) [
@@ -170,8 +169,7 @@ module _ (x n : ℕ) where
       (λ s h. in_loan k (row_at new k) s ∙ h) (λ s h. in_loan k (row_at new k) s ∙ h) v
       (put_over by_instalment (instalment_in x n (k, row_at new k)) (instalment_in x n (k, b)) []
       (own_key x n (nat_cmp k k) ∙ grind (arith, nat_tests)) tt)) ks old all other long but there
-      (subst (λ (rows : List Instalment → List InstalmentRow). AroundAt (loan_place x n) all other (rows old)
-      (rows new)) (λ t rows. blocks_mapped (instalment_in x n) pair 1 rows t) w)
+      (rw (blocks_mapped (instalment_in x n) pair 1 old, blocks_mapped (instalment_in x n) pair 1 new) at w)
 
   -- all rows of a loan that had none
   pub fresh_put_around : {all other : List InstalmentRow} (rows : List Instalment)
@@ -269,17 +267,12 @@ module _ (x n : ℕ) where
       steps_bring [] (listed new 1 c) entry_parts (share_place x n) (λ k s. nat_cmp k s.seq)
       (λ k m parts. all_mapped _ (share_in x n) (λ k t. (m, (k, t))) 1 (λ k t low. (own_place x n, refl)) parts)
       (share_step new) (λ s was before now least most v. replaced s was (new s)
-      (subst (λ is. AroundAt (key s) before now (entry_parts s was) (entry_parts s is))
-      (placed new s least (omega (arith, most, long))) v))
+      (rw (placed new s least (omega (arith, most, long))) at v))
       ss (listed old 1 c) all other (size ∙ sym long)
-      (λ s least most. elim (but s least (omega (arith, most, size))) [
-        | inl same ↦ inl (placed old s least (omega (arith, most, size)) ∙ same
-            ∙ sym (placed new s least (omega (arith, most, size))))
-        | inr named ↦ inr named
-      ])
+      (λ s least most. let low : s ≤ c = omega (arith, most, size) in
+      rw (placed old s least low, placed new s least low) (but s least low))
       (λ s has. let all = there s has in (all.0, omega (arith, all.1, long)))
-      (subst (λ (rows : (ℕ → List SettledPart) → List ShareRow). AroundAt (share_place x n) all other (rows old)
-      (rows new)) (λ t f. in_blocks f 1 c t) w)
+      (rw (in_blocks old 1 c, in_blocks new 1 c) at w)
     where
       placed : (f : ℕ → List SettledPart) (s : ℕ) → 1 ≤ s → s ≤ c → get_or (listed f 1 c) (s - 1) [] ≡ f s
       placed f s least most = at_listed f 1 c (s - 1) s (omega (arith, least, most)) (omega (arith, least))
