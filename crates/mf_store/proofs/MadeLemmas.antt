@@ -47,20 +47,32 @@ module _ {S : Type 0} (g : Ghosts S) where
       → MakesCommit g commit first (record { connection = new; known = e }) r
   made_by commit first mid new e writes news r kept becomes premise gives_up shuts is_open made left same stop learns
       still = record {
-    commits = record {
-      premise = λ clean. kept.premise (premise clean);
-      made = λ clean i s admitted. let now = premise clean in let at = kept.same now i s in
-          let b = becomes now i s admitted in on_ok_both r (λ m k. let t = m i (after_commit commit i) (tabled g mid i
-          at) b.0 in record { sound = t.sound; serves = t.serves; knows = k i (after_commit commit i) at.knows b.1 })
-          (made clean) learns;
-      kept = λ clean i s admitted. let now = premise clean in on_ok_weaker r (λ l. l i (after_commit commit i)
-          (tabled g mid i (kept.same now i s)) (becomes now i s admitted).0) (left clean);
-      same = λ clean i s. let at = kept.same (premise clean) i s in on_err_both r (λ m k. let t = m i (tabled g mid i
-          at) in record { sound = t.sound; serves = t.serves; knows = k i at.knows }) (same clean) still;
-      gives_up = gives_up;
-      stop = λ clean i is s admitted l. let now = premise clean in stop clean i (after_commit commit i) is (tabled g mid
-          i (kept.same now i s)) (becomes now i s admitted).0 (kept.stop now is l);
-    };
-    shuts = λ n o. shuts_alike g mid.connection new shuts n (kept.shuts n o);
-    stays_open = is_open;
-  }
+        commits = record {
+          premise = λ clean. kept.premise (premise clean);
+          made = λ clean i s admitted.
+              let now = premise clean in
+              let at = kept.same now i s in
+              let b = becomes now i s admitted in
+              let last = after_commit commit i in
+              on_ok_both r (λ m k. let t = m i last (tabled g mid i at) b.0 in record {
+                sound = t.sound;
+                serves = t.serves;
+                knows = k i last at.knows b.1;
+              }) (made clean) learns;
+          kept = λ clean i s admitted. let now = premise clean in on_ok_weaker r (λ l. l i (after_commit commit i)
+              (tabled g mid i (kept.same now i s)) (becomes now i s admitted).0) (left clean);
+          same = λ clean i s.
+              let at = kept.same (premise clean) i s in
+              on_err_both r (λ m k. let t = m i (tabled g mid i at) in record {
+                sound = t.sound;
+                serves = t.serves;
+                knows = k i at.knows;
+              }) (same clean) still;
+          gives_up = gives_up;
+          stop = λ clean i is s admitted l.
+              let now = premise clean in stop clean i (after_commit commit i) is (tabled g mid i (kept.same now i s))
+              (becomes now i s admitted).0 (kept.stop now is l);
+        };
+        shuts = λ n o. shuts_alike g mid.connection new shuts n (kept.shuts n o);
+        stays_open = is_open;
+      }

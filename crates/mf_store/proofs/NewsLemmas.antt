@@ -38,7 +38,7 @@ use Rattle.mf_store.specs.Learning.{Tells, account_stays, catalogue_told, counts
 use Rattle.mf_store.specs.declared.known.News.{News}
 use Rattle.mf_store.specs.declared.known.News.TheVariants.{Nothing, OfficeCounts, BusinessDay, Retirement}
 use Rattle.mf_store.specs.declared.known.News.TheVariants as news
-use Rattle.mf_store_commits.proofs.AccountRowLemmas.{TermsStand}
+use Rattle.mf_store_commits.proofs.AccountCommitLemmas.{TermsStand}
 use Rattle.mf_store_commits.proofs.CommitLemmas.{none_there, number_at, offices-with_rows, office_key_kept}
 use Rattle.mf_store.proofs.AccountLemmas.{account_kept, others_numbered}
 use Rattle.mf_store.proofs.CatalogueLemmas.{mapped, none_numbered}

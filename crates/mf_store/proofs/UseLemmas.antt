@@ -14,8 +14,7 @@ use Rattle.mf_model.specs.Store.{rows_at, use_at}
 use Rattle.mf_store_schema.specs.Rows.{is_row_of_entry}
 use Rattle.mf_store_values.specs.Flat.{entry_in, tables_of}
 use Rattle.mf_store_commits.proofs.EnteredLemmas.{loan_numbered}
-use Rattle.mf_store_commits.proofs.EntryLemmas.{AreNumbered, later_numbered}
-use Rattle.mf_store_commits.proofs.FoundLemmas.{has_seq, entry_by_number}
+use Rattle.mf_store_commits.proofs.EntryLemmas.{AreNumbered, later_numbered, has_seq, entry_by_number}
 use Rattle.mf_store.proofs.CatalogueLemmas.{found_all, some_is}
 use Rattle.mf_store.proofs.LoanLemmas.{IsLoanOf, counted, counted_there}
 

@@ -1,13 +1,10 @@
 pub mod StepLemmas
 pub mod ReceiptRowLemmas
 pub mod EntryLemmas
-pub mod FoundLemmas
 pub mod ChangedRowLemmas
 pub mod AccountCommitLemmas
-pub mod AccountRowLemmas
 pub mod CommitLemmas
 pub mod CatalogueLemmas
 pub mod EnteredLemmas
 pub mod LoanLemmas
-pub mod SuitLemmas
 pub mod StandLemmas

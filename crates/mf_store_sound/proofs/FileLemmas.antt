@@ -69,8 +69,8 @@ module _ (image : Image) (s : State) (shows : ShowsFile image s) where
   own_views (inr (inr first)) = ap (λ (k : Schema). k.views) first
 
   -- where the connection has the tables of the program, or none, so has the file
-  pub is_one : (s.now.schema ≡ no_schema) ⊎ IsKnown s.now.schema → (trees : Trees) (k : Schema) → HoldsDatabase image trees
-      → IsSound k trees → (k ≡ no_schema) ⊎ IsKnown k
+  pub is_one : (s.now.schema ≡ no_schema) ⊎ IsKnown s.now.schema → (trees : Trees) (k : Schema)
+      → HoldsDatabase image trees → IsSound k trees → (k ≡ no_schema) ⊎ IsKnown k
   is_one known trees k held sound =
       subst (λ (x : Schema). (x ≡ no_schema) ⊎ IsKnown x) (sym (seen trees k held sound (own_views known))) known
 

@@ -1,8 +1,7 @@
 use Rattle.std.proofs.Common.{false, ap, ◌∙◌}
 use Rattle.mf_model.specs.Institution.{ListedProduct}
 use Rattle.mf_store_values.specs.Flat.{product_as}
-use Rattle.mf_store_commits.proofs.CatalogueLemmas.{product_becomes}
-use Rattle.mf_store_commits.proofs.SuitLemmas.{product_suits}
+use Rattle.mf_store_commits.proofs.CatalogueLemmas.{product_becomes, product_suits}
 use Rattle.mf_store.proofs.catalogue.new_product.Goals as goal
 
 pub returns-clause-carries : goal.returns-clause-carries

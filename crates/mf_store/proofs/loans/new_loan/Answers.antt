@@ -1,7 +1,6 @@
 use Rattle.std.proofs.Common.{ap, ◌∙◌}
 use Rattle.mf_store_values.specs.Flat.{loan_in}
-use Rattle.mf_store_commits.proofs.LoanLemmas.{loan_becomes}
-use Rattle.mf_store_commits.proofs.SuitLemmas.{loan_suits}
+use Rattle.mf_store_commits.proofs.LoanLemmas.{loan_becomes, loan_suits}
 use Rattle.mf_store.proofs.loans.new_loan.Goals as goal
 
 pub returns-clause-carries : goal.returns-clause-carries

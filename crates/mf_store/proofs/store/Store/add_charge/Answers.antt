@@ -10,7 +10,8 @@ pub returns : goal.returns
 returns g c =
     let charge : ListedCharge = record
     { name = c.args.name; kind = c.args.kind; calc = c.args.calc; value = c.args.value } in
-    c.make.ensures _ _ c.in_ok-counts.ensures.asks.kept (λ clean i s admitted. let counts = c.in_ok-counts.ensures.value clean i s in (
+    c.make.ensures _ _ c.in_ok-counts.ensures.asks.kept (λ clean i s admitted.
+    let counts = c.in_ok-counts.ensures.value clean i s in (
       charge_becomes charge i c.in_ok-row.row s.sound admitted.sound (c.in_ok-row.ensures.row
           ∙ ap (λ (k : CatalogueCounts). charge_as (k.charges + 1) charge) counts),
       charge_tells charge i c.in_ok-counts.counts s.sound counts,

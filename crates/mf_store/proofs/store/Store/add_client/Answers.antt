@@ -9,7 +9,8 @@ use Rattle.mf_store.proofs.store.Store.add_client.Goals as goal
 pub returns : goal.returns
 returns g c =
     let office = c.get-office.ensures.value in
-    c.make.ensures _ _ c.in_ok-counts.ensures.asks.kept (λ clean i s admitted. let told = c.in_ok-counts.ensures.value clean i s in
+    c.make.ensures _ _ c.in_ok-counts.ensures.asks.kept (λ clean i s admitted.
+    let told = c.in_ok-counts.ensures.value clean i s in
     let here = ap (is_there i.offices) (sym office) ∙ told.0 in (
       client_becomes c.args.office c.args.name i _ s.sound admitted.sound here
           (same_client _ _ _ _ _ _ office (ap (λ (k : Counts). k.clients) told.1

@@ -15,7 +15,8 @@ returns g c =
     let loan = c.args.loan in
     let office = c.get-office.ensures.value in
     let undisbursed : is_some (disbursed_on loan.stage) ≡ false = search rules in
-    c.make.ensures _ _ c.in_ok-counts.ensures.asks.kept (λ clean i s admitted. let told = c.in_ok-counts.ensures.value clean i s in
+    c.make.ensures _ _ c.in_ok-counts.ensures.asks.kept (λ clean i s admitted.
+    let told = c.in_ok-counts.ensures.value clean i s in
     let carried = c.in_ok-write.ensures.carries i s.sound (subst (λ x. IsAdmitted (AddLoan x loan) i) (sym office)
     admitted) told.0 (ap (λ (k : Counts). k.loans + 1) told.1) (none_there (disbursed_on loan.stage) undisbursed) in (
       subst (λ x. Becomes (c.in_ok-write.write ∷ []) i (after_commit (AddLoan x loan) i)) office carried.becomes,

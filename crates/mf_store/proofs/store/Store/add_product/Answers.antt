@@ -5,7 +5,8 @@ use Rattle.mf_store.proofs.store.Store.add_product.Goals as goal
 
 pub returns : goal.returns
 returns g c =
-    c.make.ensures _ _ c.in_ok-counts.ensures.asks.kept (λ clean i s admitted. let counts = c.in_ok-counts.ensures.value clean i s in (
+    c.make.ensures _ _ c.in_ok-counts.ensures.asks.kept (λ clean i s admitted.
+    let counts = c.in_ok-counts.ensures.value clean i s in (
       (c.in_ok-write.ensures.carries i s.sound admitted (ap (λ (k : CatalogueCounts). k.products + 1) counts)).becomes,
       product_tells c.args.members i c.in_ok-counts.counts counts,
     ))

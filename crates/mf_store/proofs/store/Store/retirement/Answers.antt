@@ -2,8 +2,7 @@ use Rattle.std.proofs.Common.{true, ap, ◌∙◌}
 use Rattle.mf_model.specs.Institution.{ListedProduct, item_numbered}
 use Rattle.mf_store_values.specs.Flat.{product_as}
 use Rattle.mf_store_schema.specs.declared.products.ProductRow.{ProductRow}
-use Rattle.mf_store_commits.proofs.CatalogueLemmas.{retired_becomes}
-use Rattle.mf_store_commits.proofs.SuitLemmas.{retired_suits}
+use Rattle.mf_store_commits.proofs.CatalogueLemmas.{retired_becomes, retired_suits}
 use Rattle.mf_store.proofs.CatalogueLemmas.{known}
 use Rattle.mf_store.proofs.store.Store.retirement.Goals as goal
 
