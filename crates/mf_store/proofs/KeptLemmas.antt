@@ -2,7 +2,7 @@
 use Rattle.std.proofs.Common.{◌≡◌, ◌≢◌, ◌-◌, ◌∷◌, ℕ, zero, suc, Bool, true, false, true≢false, cond}
 use Rattle.std.proofs.Common.{List, [], take, Option, None, Some, Result, Ok, Err, OnOk, OnErr, IsSome, IsTrue, IfErr}
 use Rattle.std.proofs.Common.{IsOk, refl, sym, ap, ap₂, ◌∙◌, subst, arith, nat_eq, ◌==◌}
-use Rattle.std.specs.Option.{option_map, option_map_or}
+use Rattle.std.specs.Option.{is_some, option_map, option_map_or}
 use Rattle.std.specs.Prelude.{IfSome}
 use Rattle.std.specs.Map.{keys_of, lookup, lookup_entry, remove_entry}
 use Rattle.std.specs.List.{IsDistinct}
@@ -16,7 +16,10 @@ use Rattle.lru.specs.LruCache.{LruCache, lru_cache, put_entries}
 use Rattle.lru.proofs.CallerLemmas.{Contains-lookup_entry, lookup-put_entries}
 use Rattle.sqlite.specs.Held.{Held, state}
 use Rattle.sqlite_trees.specs.declared.store.Store.{Ghosts}
-use Rattle.mf_model.specs.Institution.{Institution}
+use Rattle.mf_model.specs.Institution.{Institution, Office, office_at}
+use Rattle.mf_model.specs.Tree.{is_there, parent_of}
+use Rattle.mf_office.specs.Keys.{key_of}
+use Rattle.sqlite_keyed.proofs.SliceLemmas.{is_some-map}
 use Rattle.mf_model.specs.declared.store.Counts.{Counts}
 use Rattle.mf_office.specs.declared.account.Account.{Account}
 use Rattle.mf_account.specs.Change.{KeptAccount}
@@ -169,12 +172,19 @@ accounts_learnt old new loan account r i ok err so known a =
     (account_key loan) account r ok err so (λ k x other. known (record { office = k.0; number = k.1 }) x)
     (account_key a)
 
--- an account that is known is the loan's
-pub account_known : {R : Type 0} (copy : R → KeptAccount) (f : Facts) (i : Institution) (loan : Account) (r : Option R)
-    → AreTrueOf f i → option_map copy r ≡ lookup (same_key (account_key loan)) f.accounts
-    → IfSome r (λ x. account_at loan i ≡ Some (copy x))
-account_known copy f i loan None known is = tt
-account_known copy f i loan (Some x) known is = known.accounts loan (copy x) (sym is)
+-- what holds of what is kept holds of what is read of it
+pub found_true : {R V : Type 0} (read : R → V) (P : V → Type 0) (kept : Option V) (r : Option R) → option_map read r
+    ≡ kept → ((v : V) → kept ≡ Some v → P v) → IfSome r (λ x. P (read x))
+found_true read P kept None is so = tt
+found_true read P kept (Some x) is so = so (read x) (sym is)
+
+-- an office whose key is known is there
+pub key_there : (f : Facts) (i : Institution) (x : ℕ) (kept : Option (List ℕ)) → AreTrueOf f i
+    → lookup (nat_eq x) f.keys ≡ kept → IsTrue (is_some kept) → is_there i.offices x ≡ true
+key_there f i x None known is some = absurd (true≢false (sym some))
+key_there f i x (Some k) known is some =
+    sym (is_some-map (λ (o : Office). key_of (parent_of i.offices) o.number) (office_at x i.offices))
+    ∙ ap is_some (known.keys x k is)
 
 -- what is found once a key is taken out
 taken_out : {V : Type 0} (old new : LruCache (ℕ × ℕ) V) (k : ℕ × ℕ) (cap : ℕ) → IsDistinct same_key (keys_of

@@ -1,49 +1,72 @@
--- From the calls to the commit.
-use Rattle.std.proofs.Common.{◌≡◌, List, [], ◌∷◌, Result, IfErr, OnOk, OnErr}
-use Rattle.std.proofs.lemmas.Result.{on_ok_weaker, on_err_weaker}
+-- From writes that were made, or not, to the commit.
+use Rattle.std.proofs.Common.{◌≡◌, List, [], ◌∷◌, Result, Ok, Err, IfErr, IsTrue, OnOk, OnErr}
+use Rattle.std.proofs.lemmas.Result.{on_ok_weaker}
+use Rattle.sqlite.specs.Held.{Held, state}
 use Rattle.sqlite_trees.specs.declared.store.Store.{Ghosts}
 use Rattle.mf_base.specs.declared.fault.Fault.{Fault}
 use Rattle.mf_base.specs.declared.fault.Fault.TheVariants.{F20}
 use Rattle.mf_model.specs.declared.commit.Commit.{Commit}
 use Rattle.mf_model.specs.Institution.{Institution}
-use Rattle.mf_model.specs.Store.{Commits, IsAdmitted, after_commit}
+use Rattle.mf_model.specs.Store.{IsAdmitted, after_commit}
+use Rattle.mf_store_schema.specs.Calls.{OnlyFaultsShut}
 use Rattle.mf_store_schema.specs.declared.writes.StoreWrite.{StoreWrite}
-use Rattle.mf_store.specs.Facts.{KnownStore}
+use Rattle.mf_store.specs.Facts.{Facts, KnownStore, AreTrueOf}
 use Rattle.mf_store.specs.Learning.{Tells}
 use Rattle.mf_store.specs.declared.known.News.{News}
-use Rattle.mf_store.specs.Stands.{StandsFor, IsClean, Leaves, IsOpen, Stays, FaultsAloneShut, MakesCommit}
+use Rattle.mf_store.specs.Stands.{StandsFor, IsClean, Stays, MakesCommit}
+use Rattle.mf_store_commits.specs.Tabled.{IsTabled, HasGoodDisk, LeavesTables}
 use Rattle.mf_store_commits.specs.Becoming.{Becomes}
+use Rattle.mf_store.proofs.KeptLemmas.{shuts_alike, tabled}
 
-module _ {S : Type 0} (g : Ghosts S) (commit : Commit) where
+on_ok_both : {A E P Q R : Type 0} (r : Result A E) → (P → Q → R) → OnOk r P → OnOk r Q → OnOk r R
+on_ok_both (Ok x) f p q = f p q
+on_ok_both (Err e) f p q = tt
+
+on_err_both : {A E P Q R : Type 0} (r : Result A E) → (P → Q → R) → OnErr r P → OnErr r Q → OnErr r R
+on_err_both (Ok x) f p q = tt
+on_err_both (Err e) f p q = f p q
+
+module _ {S : Type 0} (g : Ghosts S) where
   -- the call made its writes after look-ups
-  pub made_by : (old mid new : KnownStore S) (writes : List StoreWrite) (news : News) (r : Result (Unit {0}) Fault)
-      → Stays g old mid
-      → (IsClean g new → IsClean g mid) → IfErr r (λ fault. fault ≡ F20)
-      → (IsClean g new → OnOk r ((i j : Institution) → StandsFor g mid i → Becomes writes i j → Tells news i j
-      → StandsFor g new j))
-      → (IsClean g new → OnOk r ((i j : Institution) → StandsFor g mid i → Becomes writes i j → Leaves g new (j ∷ [])))
-      → (IsClean g new → OnErr r ((i : Institution) → StandsFor g mid i → StandsFor g new i))
-      → (IsClean g new → (i j : Institution) (is : List Institution) → StandsFor g mid i → Becomes writes i j
-      → Leaves g mid is → Leaves g new (j ∷ is))
-      → FaultsAloneShut g mid new → (IsClean g new → OnOk r (IsOpen g new))
-      → (IsClean g mid → (i : Institution) → StandsFor g old i → IsAdmitted commit i
+  pub made_by : (commit : Commit) (first mid : KnownStore S) (new : Held S) (e : Facts) (writes : List StoreWrite)
+      (news : News) (r : Result (Unit {0}) Fault) → Stays g first mid
+      → (IsClean g mid → (i : Institution) → StandsFor g first i → IsAdmitted commit i
       → Becomes writes i (after_commit commit i) × Tells news i (after_commit commit i))
-      → MakesCommit g commit old new r
-  made_by old mid new writes news r kept premise gives_up made left same stop shuts is_open becomes = record {
-    commits = made_commits;
-    shuts = λ n o. shuts n (kept.shuts n o);
-    stays_open = is_open;
-  }
-    where
-      made_commits : Commits (StandsFor g) (IsClean g) (Leaves g) commit old new r
-      made_commits = record {
-        premise = λ clean. kept.premise (premise clean);
-        made = λ clean i s admitted. let now = premise clean in on_ok_weaker r (λ m. let b = becomes now i s admitted in
-            m i (after_commit commit i) (kept.same now i s) b.0 b.1) (made clean);
-        kept = λ clean i s admitted. let now = premise clean in on_ok_weaker r (λ m. m i (after_commit commit i)
-            (kept.same now i s) (becomes now i s admitted).0) (left clean);
-        same = λ clean i s. on_err_weaker r (λ m. m i (kept.same (premise clean) i s)) (same clean);
-        gives_up = gives_up;
-        stop = λ clean i is s admitted l. let now = premise clean in stop clean i (after_commit commit i) is
-            (kept.same now i s) (becomes now i s admitted).0 (kept.stop now is l);
+      → (HasGoodDisk g new → IsClean g mid) → IfErr r (λ fault. fault ≡ F20)
+      → OnlyFaultsShut (state g mid.connection) (state g new)
+      → (HasGoodDisk g new → OnOk r (IsTrue (state g new).is_open))
+      → (HasGoodDisk g new → OnOk r ((i j : Institution) → IsTabled g mid.connection i → Becomes writes i j
+      → IsTabled g new j))
+      → (HasGoodDisk g new → OnOk r ((i j : Institution) → IsTabled g mid.connection i → Becomes writes i j
+      → LeavesTables g new (j ∷ [])))
+      → (HasGoodDisk g new → OnErr r ((i : Institution) → IsTabled g mid.connection i → IsTabled g new i))
+      → (HasGoodDisk g new → (i j : Institution) (is : List Institution) → IsTabled g mid.connection i
+      → Becomes writes i j → LeavesTables g mid.connection is → LeavesTables g new (j ∷ is))
+      → OnOk r ((i j : Institution) → AreTrueOf mid.known i → Tells news i j → AreTrueOf e j)
+      → OnErr r ((i : Institution) → AreTrueOf mid.known i → AreTrueOf e i)
+      → MakesCommit g commit first (record { connection = new; known = e }) r
+  made_by commit first mid new e writes news r kept becomes premise gives_up shuts is_open made left same stop learns
+      still = record {
+        commits = record {
+          premise = λ clean. kept.premise (premise clean);
+          made = λ clean i s admitted. on_ok_both r (λ m k.
+              let at = stands clean i s in
+              let b = becomes (premise clean) i s admitted in
+              let t = m i (after_commit commit i) (tabled g mid i at) b.0 in
+              record { sound = t.sound; serves = t.serves; knows = k i (after_commit commit i) at.knows b.1 }) (made clean)
+              learns;
+          kept = λ clean i s admitted. on_ok_weaker r (λ l. l i (after_commit commit i) (tabled g mid i (stands clean i s))
+              (becomes (premise clean) i s admitted).0) (left clean);
+          same = λ clean i s. on_err_both r (λ m k.
+              let t = m i (tabled g mid i (stands clean i s)) in
+              record { sound = t.sound; serves = t.serves; knows = k i (stands clean i s).knows }) (same clean) still;
+          gives_up = gives_up;
+          stop = λ clean i is s admitted l. stop clean i (after_commit commit i) is (tabled g mid i (stands clean i s))
+              (becomes (premise clean) i s admitted).0 (kept.stop (premise clean) is l);
+        };
+        shuts = λ n o. shuts_alike g mid.connection new shuts n (kept.shuts n o);
+        stays_open = is_open;
       }
+    where
+      stands : HasGoodDisk g new → (i : Institution) → StandsFor g first i → StandsFor g mid i
+      stands clean i s = kept.same (premise clean) i s

@@ -1,5 +1,5 @@
 -- What each commit tells of what may be known.
-use Rattle.std.proofs.Common.{◌≡◌, ◌≢◌, ◌+◌, ◌-◌, ℕ, map, find, Bool, true, false, cond, List, [], ◌∷◌, ◌++◌}
+use Rattle.std.proofs.Common.{◌≡◌, ◌≢◌, ◌+◌, ℕ, map, find, Bool, true, false, cond, List, [], ◌∷◌, ◌++◌}
 use Rattle.std.proofs.Common.{length, length-append, Option, None, Some, refl, sym, ap, ◌∙◌, subst, arith, ◌==◌}
 use Rattle.std.proofs.Common.{true≢false, not}
 use Rattle.std.specs.Option.{is_some, option_map}
@@ -42,7 +42,7 @@ use Rattle.mf_store_commits.proofs.AccountRowLemmas.{TermsStand}
 use Rattle.mf_store_commits.proofs.CommitLemmas.{none_there, number_at, offices-with_rows, office_key_kept}
 use Rattle.mf_store.proofs.AccountLemmas.{account_kept, others_numbered}
 use Rattle.mf_store.proofs.CatalogueLemmas.{mapped, none_numbered}
-use Rattle.mf_store.proofs.LookLemmas.{office_by_number}
+use Rattle.mf_store.specs.Looks.{office_by_number}
 use Rattle.mf_store_values.proofs.SoundLemmas.{own_rows}
 
 abbrev counts_in : Rows → Counts

@@ -1,4 +1,5 @@
 pub mod Counts
 pub mod Facts
 pub mod Learning
+pub mod Looks
 pub mod Stands

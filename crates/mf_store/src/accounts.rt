@@ -3,7 +3,7 @@
 //! resumed.
 
 ghost use Rattle.std.specs.Prelude.{◌≡◌, ◌≤◌, ◌-◌, ◌++◌, ℕ, List, [], length, map, option_map, true, Some, OnOk};
-ghost use Rattle.std.specs.Prelude.{IfOk, IfErr, IfSome};
+ghost use Rattle.std.specs.Prelude.{IfOk, IfErr};
 ghost use Rattle.std.specs.List.{AllByRecursion, list_any};
 ghost use Rattle.mf_alloc.specs.Sums.{AreWhole, AreWithin, is_open};
 ghost use Rattle.mf_base.specs.declared.fault.Fault.TheVariants.{F20};
@@ -27,7 +27,7 @@ use mf_model::{Loan, LoanLine, LoanList};
 use mf_office::{Account, OfficeNo};
 use mf_store_commits::put_schedule;
 use mf_store_schema::{EntryRow, StoreWrite};
-use mf_store_values::{entries_from, is_active, loan_in_row, or_give_up};
+use mf_store_values::{entries_from, is_active, is_principal_open, loan_in_row, or_give_up};
 use sqlite::{Alter, Row};
 use std::alloc::Global;
 
@@ -158,27 +158,9 @@ impl<S: Alter> Store<S> {
         put_schedule(alloc, office, number, fresh.rows(), writes)
     }
 
-    /// The account of a loan that is there and was disbursed on this day.
+    /// The account of a loan that is there and was disbursed on this day, taken out of what is known where it is known:
+    /// then none of its entries is read.
     fn disbursed_account(
-        &mut self,
-        alloc: Global,
-        account: Account,
-        loan: &Loan,
-        day: Day,
-    ) -> Result<LoanAccount, Fault>
-        ensures asks { AsksTables S.Store self.old self.new result }
-        ensures value { IsClean S.Store self.new → (i : Institution) → StandsFor S.Store self.old i → loan_at account i
-            ≡ Some loan.now
-            → disbursed_on loan.now.stage ≡ Some day
-            → IfOk result (λ resumed. account_at account i ≡ Some resumed) }
-    {
-        let Account { office, number } = account;
-        let rows = self.instalments_at(alloc, Account { office, number })?;
-        self.resume(alloc, Account { office, number }, loan, day, rows)
-    }
-
-    /// The same, taken out of what is known where it is known: then none of its entries is read.
-    fn take_or_resume(
         &mut self,
         alloc: Global,
         account: Account,
@@ -189,13 +171,14 @@ impl<S: Alter> Store<S> {
         ensures value { IsClean S.Store self.new → (i : Institution) → StandsFor S.Store self.old i → loan_at account i
             ≡ Some loan.now
             → disbursed_on loan.now.stage ≡ Some day
-            → IfOk result (λ found. account_at account i ≡ Some found) }
+            → IfOk result (λ resumed. account_at account i ≡ Some resumed) }
     {
         let Account { office, number } = account;
         if let Some(known) = self.take_account(Account { office, number }) {
             return Ok(known);
         }
-        self.disbursed_account(alloc, Account { office, number }, loan, day)
+        let rows = self.instalments_at(alloc, Account { office, number })?;
+        self.resume(alloc, Account { office, number }, loan, day, rows)
     }
 
     /// A loan with its account where it is disbursed, or None where there is no such loan.
@@ -215,7 +198,7 @@ impl<S: Alter> Store<S> {
         let Some(day) = loan.disbursal_day() else {
             return Ok(Some((loan, None)));
         };
-        let found = self.take_or_resume(alloc, Account { office, number }, &loan, day)?;
+        let found = self.disbursed_account(alloc, Account { office, number }, &loan, day)?;
         Ok(Some((loan, Some(found))))
     }
 
@@ -227,7 +210,8 @@ impl<S: Alter> Store<S> {
             → IfOk result (λ left. left ≡ true → list_any is_open (of_account [] (λ a. (state_of_loan a).rows)
             (account_in i.catalogue l)) ≡ true) }
     {
-        self.is_principal_open(account, periods)
+        let office = account.office.get();
+        is_principal_open(&mut self.connection, office, account.number.get(), periods)
     }
 
     /// The status of a loan that is there and was disbursed over so many periods. Most are told by the principal of
@@ -258,15 +242,6 @@ impl<S: Alter> Store<S> {
         or_give_up(settled_status(&entries, &rows))
     }
 
-    /// The status of a loan that is there, where its account is known.
-    fn known_status(&self, loan: Account) -> Option<u16>
-        ensures { (i : Institution) → StandsFor S.Store self.now i → (l : Ledger) → ledger_at loan i ≡ Some l
-            → IfSome result (λ status. status ≡ status_in i.catalogue l) }
-    {
-        let account = self.known_account(loan)?;
-        Some(account.status())
-    }
-
     /// The status of a loan that is there: its stage's number, or what its account says.
     fn status_of(&mut self, alloc: Global, account: Account, loan: &Loan) -> Result<u16, Fault>
         ensures asks { MayAskTables S.Store self.old self.new result }
@@ -278,8 +253,8 @@ impl<S: Alter> Store<S> {
             return Ok(loan.stage.status());
         }
         let Account { office, number } = account;
-        if let Some(status) = self.known_status(Account { office, number }) {
-            return Ok(status);
+        if let Some(known) = self.known().account(Account { office, number }) {
+            return Ok(known.status());
         }
         self.disbursed_status(alloc, Account { office, number }, loan.periods)
     }

@@ -15,7 +15,7 @@ use mf_base::{Day, Fault, Name};
 use mf_catalog::{Calc, ChargeDef, ChargeKind, Product, ProductMembers};
 use mf_model::CatalogueCounts;
 use mf_store_commits::{charge_row, product_row, retire};
-use mf_store_schema::{MetaRow, SCHEMA, StoreWrite, Text};
+use mf_store_schema::{ChargeRow, MetaRow, ProductRow, SCHEMA, StoreWrite, Text};
 use mf_store_values::{charge_from, product_from};
 use sqlite::Alter;
 use std::alloc::Global;
@@ -39,7 +39,7 @@ impl<S: Alter> Store<S> {
         ensures value { IsClean S.Store self.new → (i : Institution) → StandsFor S.Store self.old i
             → IfOk result (λ counts. counts ≡ catalogue_counts i) }
     {
-        if let Some(counts) = self.known_catalogue() {
+        if let Some(counts) = self.known().catalogue() {
             return Ok(counts);
         }
         let charges = self.last_number(Kind::Charges)?;
@@ -55,24 +55,11 @@ impl<S: Alter> Store<S> {
         ensures value { IsClean S.Store self.new → (i : Institution) → StandsFor S.Store self.old i
             → IfOk result (λ charge. charge ≡ charge_in i.catalogue number) }
     {
-        let Some(row) = self.find_charge(number)? else {
+        let Some(row) = self.find::<ChargeRow>(number)? else {
             return Ok(None);
         };
         let charge = charge_from(row)?;
         Ok(Some(charge))
-    }
-
-    /// A product as the tables keep it, or None where none has this number.
-    fn read_product(&mut self, number: u32) -> Result<Option<Product>, Fault>
-        ensures asks { AsksTables S.Store self.old self.new result }
-        ensures value { IsClean S.Store self.new → (i : Institution) → StandsFor S.Store self.old i
-            → IfOk result (λ product. product ≡ product_in i.catalogue number) }
-    {
-        let Some(row) = self.find_product(number)? else {
-            return Ok(None);
-        };
-        let product = product_from(row)?;
-        Ok(Some(product))
     }
 
     /// A product, or None where there is none with this number.
@@ -81,16 +68,15 @@ impl<S: Alter> Store<S> {
         ensures value { IsClean S.Store self.new → (i : Institution) → StandsFor S.Store self.old i
             → IfOk result (λ product. product ≡ product_in i.catalogue number) }
     {
-        if let Some(product) = self.known_product(number) {
+        if let Some(product) = self.known().product(number) {
             return Ok(Some(product));
         }
-        match self.read_product(number)? {
-            None => Ok(None),
-            Some(product) => {
-                self.learn_product(number, &product);
-                Ok(Some(product))
-            }
-        }
+        let Some(row) = self.find::<ProductRow>(number)? else {
+            return Ok(None);
+        };
+        let product = product_from(row)?;
+        self.learn_product(number, &product);
+        Ok(Some(product))
     }
 
     /// Makes this the business day.
@@ -153,7 +139,7 @@ impl<S: Alter> Store<S> {
             → IsAdmitted (RetireProduct product) i → IfOk result (λ write. Carries (RetireProduct product)
             (write ∷ []) i) }
     {
-        let Some(found) = self.find_product(product)? else {
+        let Some(found) = self.find::<ProductRow>(product)? else {
             return Err(Fault::F20);
         };
         let row = retire(found);

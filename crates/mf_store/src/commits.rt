@@ -25,11 +25,10 @@ impl<S: Alter> Store<S> {
         ensures value { IsClean S.Store self.new → (i : Institution) → StandsFor S.Store self.old i
             → IfOk result (λ there. there ≡ is_there i.offices number) }
     {
-        if self.knows_office(number) {
+        if self.known().has_key(number) {
             return Ok(true);
         }
-        let found = self.find_office(number)?;
-        Ok(found.is_some())
+        self.has_row::<OfficeRow>(number)
     }
 
     /// Adds an office under a parent that is there. Its number is free; where it isn't, the call gives up.

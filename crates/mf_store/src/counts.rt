@@ -12,10 +12,11 @@ use crate::store::Store;
 use mf_base::Fault;
 use mf_model::Counts;
 use mf_office::AccountNo;
+use mf_store_schema::{ChargeRow, ClientRow, LoanRow, ProductRow, StaffRow};
 use sqlite::Alter;
 
 /// What is numbered from 1: rows of one office, or of the catalogue.
-#[derive(Clone, Copy, PartialEq, Eq)]
+#[derive(Clone, Copy)]
 pub enum Kind {
     Staff(u32),
     Clients(u32),
@@ -37,11 +38,11 @@ impl<S: Alter> Store<S> {
             → IfOk result (λ there. IsTrue there ↔ ((1 ≤ number) × (number ≤ count_of kind i))) }
     {
         match kind {
-            Kind::Staff(office) => Ok(self.find_staff(office, number)?.is_some()),
-            Kind::Clients(office) => Ok(self.find_client(office, number)?.is_some()),
-            Kind::Loans(office) => Ok(self.find_loan(office, number)?.is_some()),
-            Kind::Charges => Ok(self.find_charge(number)?.is_some()),
-            Kind::Products => Ok(self.find_product(number)?.is_some()),
+            Kind::Staff(office) => self.has_row::<StaffRow>((office, number)),
+            Kind::Clients(office) => self.has_row::<ClientRow>((office, number)),
+            Kind::Loans(office) => self.has_row::<LoanRow>((office, number)),
+            Kind::Charges => self.has_row::<ChargeRow>(number),
+            Kind::Products => self.has_row::<ProductRow>(number),
         }
     }
 
@@ -117,7 +118,7 @@ impl<S: Alter> Store<S> {
         ensures value { IsClean S.Store self.new → (i : Institution) → StandsFor S.Store self.old i
             → IfOk result (λ counts. counts ≡ counts_at office i) }
     {
-        if let Some(counts) = self.known_counts(office) {
+        if let Some(counts) = self.known().counts(office) {
             self.learn(News::OfficeCounts(office, counts));
             return Ok(counts);
         }

@@ -13,6 +13,7 @@ use mf_model::{
 };
 use mf_office::{Account, Caller, Name, OfficeNo, Role};
 use mf_statement::InstalmentList;
+use mf_store_schema::{ClientRow, StaffRow};
 use mf_store_values::or_give_up;
 use sqlite::Alter;
 use std::alloc::Global;
@@ -21,18 +22,6 @@ impl<S: Alter> Store<S> {
     ghost use Rattle.mf_model.specs.Store.{role_of, counts_at, client_at};
     ghost use Rattle.mf_store.specs.Stands.{StandsFor, IsClean, AsksTables, MayAskTables};
 
-    /// The role of a caller as the tables keep it, or None where there is no such member of staff.
-    fn find_role(&mut self, caller: Caller) -> Result<Option<Role>, Fault>
-        ensures asks { AsksTables S.Store self.old self.new result }
-        ensures value { IsClean S.Store self.new → (i : Institution) → StandsFor S.Store self.old i
-            → IfOk result (λ role. role ≡ role_of caller i) }
-    {
-        match self.find_staff(caller.office.get(), caller.staff.get())? {
-            None => Ok(None),
-            Some(staff) => Ok(Some(or_give_up(Role::from_number(staff.role))?)),
-        }
-    }
-
     /// The role of a caller, or None where there is no such member of staff.
     pub fn caller(&mut self, caller: Caller) -> Result<Option<Role>, Fault>
         ensures asks { MayAskTables S.Store self.old self.new result }
@@ -40,17 +29,16 @@ impl<S: Alter> Store<S> {
             → IfOk result (λ role. role ≡ role_of caller i) }
     {
         let Caller { office, staff } = caller;
-        if let Some(role) = self.known_role(Caller { office, staff }) {
+        if let Some(role) = self.known().role(Caller { office, staff }) {
             self.learn_role(Caller { office, staff }, role);
             return Ok(Some(role));
         }
-        match self.find_role(Caller { office, staff })? {
-            None => Ok(None),
-            Some(role) => {
-                self.learn_role(Caller { office, staff }, role);
-                Ok(Some(role))
-            }
-        }
+        let Some(row) = self.find::<StaffRow>((office.get(), staff.get()))? else {
+            return Ok(None);
+        };
+        let role = or_give_up(Role::from_number(row.role))?;
+        self.learn_role(Caller { office, staff }, role);
+        Ok(Some(role))
     }
 
     /// How many staff, clients and loans an office has: one less than their next numbers.
@@ -68,7 +56,7 @@ impl<S: Alter> Store<S> {
         ensures value { IsClean S.Store self.new → (i : Institution) → StandsFor S.Store self.old i
             → IfOk result (λ name. name ≡ client_at client i) }
     {
-        match self.find_client(client.office.get(), client.number.get())? {
+        match self.find::<ClientRow>((client.office.get(), client.number.get()))? {
             None => Ok(None),
             Some(record) => Ok(Some(record.name.into_name())),
         }

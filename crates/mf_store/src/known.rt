@@ -1,13 +1,13 @@
 //! What a store knows beside its tables, so that it need not ask them again. A fact for which there is no memory isn't
 //! kept.
 
-ghost use Rattle.std.specs.Prelude.{◌≡◌, nat_eq, is_some, false, Some, None, [], IfOk, IfErr, IfSome, IsTrue};
-ghost use Rattle.std.specs.Prelude.{option_copied};
+ghost use Rattle.std.specs.Prelude.{◌≡◌, true, false, Some, None, [], IfOk, IfErr, IfSome, IsTrue};
 ghost use Rattle.std.specs.Map.{lookup};
 ghost use Rattle.mf_base.specs.declared.fault.Fault.TheVariants.{F20};
 ghost use Rattle.mf_model.specs.Institution.{Institution, product_in};
 ghost use Rattle.mf_account.specs.Change.{no_change};
-ghost use Rattle.mf_model.specs.Store.{role_of, account_at};
+ghost use Rattle.mf_model.specs.Store.{counts_at, catalogue_counts, role_of, account_at};
+ghost use Rattle.mf_model.specs.Tree.{is_there};
 ghost use Rattle.mf_store.specs.Facts.{AreTrueOf, caller_key, account_key, same_key, nothing_known};
 ghost use Rattle.mf_store.specs.declared.known.News.TheVariants as news;
 ghost use Rattle.mf_store_values.specs.Flat.{key_at};
@@ -165,42 +165,42 @@ impl Known {
 
     /// How many rows an office has.
     pub(crate) fn counts(&self, office: u32) -> Option<Counts>
-        ensures { result ≡ lookup (nat_eq office) self.now.counts }
+        ensures { (i : Institution) → AreTrueOf self.now i → IfSome result (λ counts. counts ≡ counts_at office i) }
     {
         self.counts.peek(&office).copied()
     }
 
     /// How many charges and products there are.
     pub(crate) fn catalogue(&self) -> Option<CatalogueCounts>
-        ensures { result ≡ self.now.catalogue }
+        ensures { (i : Institution) → AreTrueOf self.now i → IfSome result (λ counts. counts ≡ catalogue_counts i) }
     {
         self.catalogue
     }
 
     /// The business day.
     pub(crate) fn day(&self) -> Option<Day>
-        ensures { result ≡ self.now.day }
+        ensures { (i : Institution) → AreTrueOf self.now i → IfSome result (λ day. day ≡ i.catalogue.day) }
     {
         self.day
     }
 
     /// The role of a caller.
     pub(crate) fn role(&self, caller: Caller) -> Option<Role>
-        ensures { result ≡ lookup (same_key (caller_key caller)) self.now.roles }
+        ensures { (i : Institution) → AreTrueOf self.now i → IfSome result (λ role. role_of caller i ≡ Some role) }
     {
         self.roles.peek(&key_of(caller)).copied()
     }
 
     /// Whether an office's key is known, and so the office is there.
     pub(crate) fn has_key(&self, office: u32) -> bool
-        ensures { result ≡ is_some (lookup (nat_eq office) self.now.keys) }
+        ensures { (i : Institution) → AreTrueOf self.now i → IsTrue result → is_there i.offices office ≡ true }
     {
         self.keys.contains(&office)
     }
 
     /// The key of an office, where there is memory for it.
     pub(crate) fn key(&self, alloc: Global, office: u32) -> Option<Key>
-        ensures { IfSome result (λ key. lookup (nat_eq office) self.now.keys ≡ Some key) }
+        ensures { (i : Institution) → AreTrueOf self.now i → IfSome result (λ key. key_at office i ≡ Some key) }
     {
         match self.keys.peek(&office) {
             None => None,
@@ -210,7 +210,8 @@ impl Known {
 
     /// A product, where there is memory for it.
     pub(crate) fn product(&self, number: u32) -> Option<Product>
-        ensures { IfSome result (λ product. lookup (nat_eq number) self.now.products ≡ Some product) }
+        ensures { (i : Institution) → AreTrueOf self.now i
+            → IfSome result (λ product. product_in i.catalogue number ≡ Some product) }
     {
         match self.products.peek(&number) {
             None => None,
@@ -220,14 +221,16 @@ impl Known {
 
     /// The account of a loan.
     pub(crate) fn account(&self, loan: Account) -> Option<&LoanAccount>
-        ensures { option_copied result ≡ lookup (same_key (account_key loan)) self.now.accounts }
+        ensures { (i : Institution) → AreTrueOf self.now i
+            → IfSome result (λ account. account_at loan i ≡ Some account.now) }
     {
         self.accounts.peek(&key_of_loan(loan))
     }
 
     /// Takes out the account of a loan, where it is known. All else stays.
     pub(crate) fn take_account(&mut self, loan: Account) -> Option<LoanAccount>
-        ensures value { result ≡ lookup (same_key (account_key loan)) self.old.accounts }
+        ensures value { (i : Institution) → AreTrueOf self.old i
+            → IfSome result (λ account. account_at loan i ≡ Some account) }
         ensures gone { lookup (same_key (account_key loan)) self.new.accounts ≡ None }
         ensures same { (i : Institution) → AreTrueOf self.old i → AreTrueOf self.new i }
     {

@@ -17,7 +17,7 @@ use mf_base::Fault;
 use mf_model::{Counts, Loan, Stage};
 use mf_office::{Account, OfficeNo};
 use mf_store_commits::{loan_row, with_stage};
-use mf_store_schema::StoreWrite;
+use mf_store_schema::{LoanRow, StoreWrite};
 use mf_store_values::loan_from;
 use sqlite::Alter;
 use std::alloc::Global;
@@ -42,7 +42,7 @@ impl<S: Alter> Store<S> {
         ensures value { IsClean S.Store self.new → (i : Institution) → StandsFor S.Store self.old i
             → IfOk result (λ found. found ≡ loan_at loan i) }
     {
-        let Some(row) = self.find_loan(loan.office.get(), loan.number.get())? else {
+        let Some(row) = self.find::<LoanRow>((loan.office.get(), loan.number.get()))? else {
             return Ok(None);
         };
         let found = loan_from(row)?;

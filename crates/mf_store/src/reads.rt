@@ -1,17 +1,84 @@
-//! Look-ups by key, each one query.
+//! Rows by their keys, each one query, and the business day.
 
-ghost use Rattle.std.specs.Prelude.{◌≡◌, ◌≤◌, ℕ, IfOk, IfErr, Some};
+ghost use Rattle.std.specs.Prelude.{◌≡◌, ◌≤◌, ℕ, [], ◌∷◌, Option, Some, is_some, find, IfOk, IfErr};
 ghost use Rattle.mf_base.specs.declared.fault.Fault.TheVariants.{F20};
 ghost use Rattle.mf_base.specs.DayText.{last_day};
 ghost use Rattle.mf_model.specs.Institution.{Institution};
-ghost use Rattle.mf_store_values.specs.Flat.{meta_on, office_row_at, staff_row_at, client_row_at, charge_row_at};
-ghost use Rattle.mf_store_values.specs.Flat.{product_row_at, loan_row_at};
+ghost use Rattle.mf_model.specs.Sound.{IsSound};
+ghost use Rattle.mf_store_schema.specs.Rows.{is_row_of_meta, is_row_of_entry};
+ghost use Rattle.mf_store_values.specs.Flat.{meta_on, tables_of, office_row_at, staff_row_at, client_row_at};
+ghost use Rattle.mf_store_values.specs.Flat.{charge_row_at, product_row_at, loan_row_at};
+ghost use Rattle.mf_store.specs.Looks.{office_by_key, staff_by_key, client_by_key, charge_by_key, product_by_key};
+ghost use Rattle.mf_store.specs.Looks.{loan_by_key};
 
 use crate::known::News;
 use crate::store::Store;
 use mf_base::{Day, Fault};
-use mf_store_schema::{ChargeRow, ClientRow, LoanRow, MetaRow, OfficeRow, ProductRow, StaffRow};
+use mf_store_schema::{
+    ChargeRow, ClientRow, EntryRow, LoanRow, MetaRow, OfficeRow, ProductRow, StaffRow, Table,
+    find_row,
+};
 use sqlite::Alter;
+
+/// A table whose row under a key is that of something in an institution.
+pub(crate) trait InstitutionRow: Table {
+    ghost row_at: { Self.Key → Institution → Option Self };
+
+    ghost looked_up: { (key : Self.Key) (i : Institution) → IsSound i
+        → find (Self.is_at key) (Self.list (tables_of i)) ≡ row_at key i };
+}
+
+impl InstitutionRow for MetaRow {
+    ghost use Rattle.std.proofs.Common.{refl};
+
+    ghost row_at = { λ key i. find (is_row_of_meta key) (meta_on i.catalogue.day ∷ []) };
+
+    ghost looked_up = { λ key i sound. refl };
+}
+
+impl InstitutionRow for OfficeRow {
+    ghost row_at = { office_row_at };
+
+    ghost looked_up = { office_by_key };
+}
+
+impl InstitutionRow for StaffRow {
+    ghost row_at = { λ key. staff_row_at key.0 key.1 };
+
+    ghost looked_up = { staff_by_key };
+}
+
+impl InstitutionRow for ClientRow {
+    ghost row_at = { λ key. client_row_at key.0 key.1 };
+
+    ghost looked_up = { client_by_key };
+}
+
+impl InstitutionRow for ChargeRow {
+    ghost row_at = { charge_row_at };
+
+    ghost looked_up = { charge_by_key };
+}
+
+impl InstitutionRow for ProductRow {
+    ghost row_at = { product_row_at };
+
+    ghost looked_up = { product_by_key };
+}
+
+impl InstitutionRow for LoanRow {
+    ghost row_at = { λ key. loan_row_at key.0 key.1 };
+
+    ghost looked_up = { loan_by_key };
+}
+
+impl InstitutionRow for EntryRow {
+    ghost use Rattle.std.proofs.Common.{refl};
+
+    ghost row_at = { λ key i. find (is_row_of_entry key.0 key.1 key.2) (tables_of i).entries };
+
+    ghost looked_up = { λ key i sound. refl };
+}
 
 /// The day that the table meta holds.
 fn day_in(meta: Option<MetaRow>) -> Result<Day, Fault>
@@ -30,12 +97,23 @@ fn day_in(meta: Option<MetaRow>) -> Result<Day, Fault>
 impl<S: Alter> Store<S> {
     ghost use Rattle.mf_store.specs.Stands.{StandsFor, IsClean, AsksTables, MayAskTables};
 
-    pub(crate) fn find_meta(&mut self) -> Result<Option<MetaRow>, Fault>
+    /// The row under a key, if there is one.
+    pub(crate) fn find<T: InstitutionRow>(&mut self, key: T::Key) -> Result<Option<T>, Fault>
         ensures asks { AsksTables S.Store self.old self.new result }
         ensures value { IsClean S.Store self.new → (i : Institution) → StandsFor S.Store self.old i
-            → IfOk result (λ x. x ≡ Some (meta_on i.catalogue.day)) }
+            → IfOk result (λ row. row ≡ T.row_at key i) }
     {
-        self.find(1)
+        find_row(&mut self.connection, key)
+    }
+
+    /// Whether there is a row under a key.
+    pub(crate) fn has_row<T: InstitutionRow + Drop>(&mut self, key: T::Key) -> Result<bool, Fault>
+        ensures asks { AsksTables S.Store self.old self.new result }
+        ensures value { IsClean S.Store self.new → (i : Institution) → StandsFor S.Store self.old i
+            → IfOk result (λ there. there ≡ is_some (T.row_at key i)) }
+    {
+        let row = self.find::<T>(key)?;
+        Ok(row.is_some())
     }
 
     /// The business day.
@@ -44,64 +122,12 @@ impl<S: Alter> Store<S> {
         ensures value { IsClean S.Store self.new → (i : Institution) → StandsFor S.Store self.old i
             → IfOk result (λ day. day ≡ i.catalogue.day) }
     {
-        if let Some(day) = self.known_day() {
+        if let Some(day) = self.known().day() {
             return Ok(day);
         }
-        let found = self.find_meta()?;
+        let found = self.find::<MetaRow>(1)?;
         let day = day_in(found)?;
         self.learn(News::BusinessDay(day));
         Ok(day)
-    }
-
-    pub(crate) fn find_office(&mut self, number: u32) -> Result<Option<OfficeRow>, Fault>
-        ensures asks { AsksTables S.Store self.old self.new result }
-        ensures value { IsClean S.Store self.new → (i : Institution) → StandsFor S.Store self.old i
-            → IfOk result (λ x. x ≡ office_row_at number i) }
-    {
-        self.find(number)
-    }
-
-    pub(crate) fn find_staff(&mut self, office: u32, number: u32) -> Result<Option<StaffRow>, Fault>
-        ensures asks { AsksTables S.Store self.old self.new result }
-        ensures value { IsClean S.Store self.new → (i : Institution) → StandsFor S.Store self.old i
-            → IfOk result (λ x. x ≡ staff_row_at office number i) }
-    {
-        self.find((office, number))
-    }
-
-    pub(crate) fn find_client(
-        &mut self,
-        office: u32,
-        number: u32,
-    ) -> Result<Option<ClientRow>, Fault>
-        ensures asks { AsksTables S.Store self.old self.new result }
-        ensures value { IsClean S.Store self.new → (i : Institution) → StandsFor S.Store self.old i
-            → IfOk result (λ x. x ≡ client_row_at office number i) }
-    {
-        self.find((office, number))
-    }
-
-    pub(crate) fn find_charge(&mut self, number: u32) -> Result<Option<ChargeRow>, Fault>
-        ensures asks { AsksTables S.Store self.old self.new result }
-        ensures value { IsClean S.Store self.new → (i : Institution) → StandsFor S.Store self.old i
-            → IfOk result (λ x. x ≡ charge_row_at number i) }
-    {
-        self.find(number)
-    }
-
-    pub(crate) fn find_product(&mut self, number: u32) -> Result<Option<ProductRow>, Fault>
-        ensures asks { AsksTables S.Store self.old self.new result }
-        ensures value { IsClean S.Store self.new → (i : Institution) → StandsFor S.Store self.old i
-            → IfOk result (λ x. x ≡ product_row_at number i) }
-    {
-        self.find(number)
-    }
-
-    pub(crate) fn find_loan(&mut self, office: u32, number: u32) -> Result<Option<LoanRow>, Fault>
-        ensures asks { AsksTables S.Store self.old self.new result }
-        ensures value { IsClean S.Store self.new → (i : Institution) → StandsFor S.Store self.old i
-            → IfOk result (λ x. x ≡ loan_row_at office number i) }
-    {
-        self.find((office, number))
     }
 }

@@ -1,7 +1,7 @@
 //! What is shown of one loan: read off its account where that is known, else off its instalments while something of it
 //! is outstanding, else off its account.
 
-ghost use Rattle.std.specs.Prelude.{◌≡◌, [], true, Some, IfOk, IfErr, IfSome, IsOkUnless};
+ghost use Rattle.std.specs.Prelude.{◌≡◌, [], true, Some, IfOk, IsOkUnless};
 ghost use Rattle.mf_base.specs.declared.fault.Fault.TheVariants.{F20};
 ghost use Rattle.mf_statement.specs.Lines.{instalments_from};
 ghost use Rattle.std.specs.List.{list_any};
@@ -85,32 +85,6 @@ impl<S: Alter> Store<S> {
         Ok(Statement::of(loan, &Some(resumed)))
     }
 
-    /// A loan that is there as it is shown, where its account is known.
-    fn known_statement(&self, account: Account, loan: &Loan) -> Option<Statement>
-        ensures { (i : Institution) → StandsFor S.Store self.now i → (l : Ledger) → ledger_at account i ≡ Some l
-            → l.loan ≡ loan.now → IfSome result (λ told. told ≡ statement i.catalogue l) }
-    {
-        let known = self.known_account(account)?;
-        Some(Statement::with(loan, known.status(), known.balances()))
-    }
-
-    /// The instalments of a loan as they stand, where its account is known. The only error is F20, out of memory.
-    fn known_instalments(
-        &self,
-        alloc: Global,
-        account: Account,
-    ) -> Result<Option<InstalmentList>, Fault>
-        ensures value { (i : Institution) → StandsFor S.Store self.now i
-            → IfOk result (λ known. IfSome known (λ lines. Some lines ≡ instalments_at account i)) }
-        ensures gives_up { IfErr result (λ fault. fault ≡ F20) }
-    {
-        let Some(known) = self.known_account(account) else {
-            return Ok(None);
-        };
-        let lines = instalment_lines(alloc, known)?;
-        Ok(Some(lines))
-    }
-
     /// A loan as it is shown, or None where there is no such loan. Where its account isn't known its entries are read
     /// only where nothing of it is outstanding.
     pub fn statement(&mut self, alloc: Global, account: Account) -> Result<Option<Statement>, Fault>
@@ -125,8 +99,8 @@ impl<S: Alter> Store<S> {
         let Some(day) = loan.disbursal_day() else {
             return Ok(Some(Statement::of(&loan, &None)));
         };
-        if let Some(told) = self.known_statement(Account { office, number }, &loan) {
-            return Ok(Some(told));
+        if let Some(known) = self.known().account(Account { office, number }) {
+            return Ok(Some(Statement::with(&loan, known.status(), known.balances())));
         }
         let told = self.disbursed_statement(alloc, Account { office, number }, &loan, day)?;
         Ok(Some(told))
@@ -163,12 +137,12 @@ impl<S: Alter> Store<S> {
             → IfOk result (λ lines. lines ≡ instalments_at account i) }
     {
         let Account { office, number } = account;
-        let known = self.known_instalments(alloc, Account { office, number })?;
-        if known.is_none() {
+        let Some(known) = self.known().account(Account { office, number }) else {
             return self.read_instalments(alloc, Account { office, number });
-        }
+        };
+        let lines = instalment_lines(alloc, known)?;
         // Where it is shut, the store tells nothing of its loans, whatever it knows.
         self.see_open()?;
-        Ok(known)
+        Ok(Some(lines))
     }
 }

@@ -1,45 +1,37 @@
 //! The store: what it reads of its tables and knows beside them, how it is made and given back.
 
-ghost use Rattle.std.specs.Prelude.{◌≡◌, ◌<◌, ◌≤◌, List, [], ◌∷◌, length, true, false, Some, None, IsTrue, OnOk, OnErr};
-ghost use Rattle.std.specs.Prelude.{IfOk, IfErr, IfSome, map, filter, find, option_map, take};
+ghost use Rattle.std.specs.Prelude.{◌≡◌, ◌<◌, ◌≤◌, [], ◌∷◌, length, false, None, Some, IsTrue, IfOk, IfErr, IfSome};
+ghost use Rattle.std.specs.Prelude.{map, filter, option_map, take};
 ghost use Rattle.mf_base.specs.declared.fault.Fault.TheVariants.{F20};
 ghost use Rattle.mf_base.specs.DayText.{last_entered_day};
 ghost use Rattle.sqlite.specs.Held.{state};
 ghost use Rattle.mf_store_sql.specs.Writes.{Serves};
 ghost use Rattle.mf_model.specs.Institution.{Institution, newly_made, product_in};
-ghost use Rattle.mf_model.specs.Store.{counts_at, catalogue_counts, role_of, use_at, account_at};
+ghost use Rattle.mf_model.specs.Store.{IsAdmitted, after_commit, role_of, use_at, account_at};
+ghost use Rattle.mf_model.specs.declared.commit.Commit.{Commit};
 ghost use Rattle.mf_model.specs.declared.commit.Commit.TheVariants.{AddEntry, ReverseEntry};
-ghost use Rattle.mf_model.specs.Tree.{is_there};
 ghost use Rattle.mf_store_values.specs.Flat.{key_at, tables_of};
 ghost use Rattle.mf_store_values.specs.ReceiptRows.{receipt_in};
-ghost use Rattle.mf_store_schema.specs.Rows.{loan_row, office_row, is_loan_above, is_between_keys, is_instalment_in};
-ghost use Rattle.mf_store_schema.specs.Rows.{is_row_of_instalment};
-ghost use Rattle.mf_store_values.specs.Principal.{IsFirstOpen};
-ghost use Rattle.mf_arrears.specs.Line.{line_of_loans};
-ghost use Rattle.mf_store_values.specs.Arrears.{NumberedLoan, AreAbove, AreWholeLoans, rows_of_office, aged_loans};
-ghost use Rattle.mf_store_schema.specs.Calls.{OnlyFaultsShut};
+ghost use Rattle.mf_store_schema.specs.Rows.{loan_row, office_row, is_loan_above, is_between_keys};
 ghost use Rattle.mf_store_schema.specs.Writes.{schema_of, Holds};
-ghost use Rattle.mf_store.specs.Facts.{nothing_known};
+ghost use Rattle.mf_store.specs.Facts.{KnownStore, AreTrueOf, nothing_known};
 ghost use Rattle.mf_store.specs.Learning.{Tells};
-ghost use Rattle.mf_store_commits.specs.Tabled.{IsTabled, HasGoodDisk, LeavesTables, IsUnfounded};
-ghost use Rattle.mf_store.specs.Stands.{StandsFor, IsClean, Leaves, IsOpen, FaultsAloneShut, Stays, AsksTables};
-ghost use Rattle.mf_store.specs.Stands.{MakesCommit};
+ghost use Rattle.mf_store_commits.specs.Tabled.{IsTabled, HasGoodDisk, IsUnfounded};
+ghost use Rattle.mf_store.specs.Stands.{StandsFor, IsClean, Leaves, IsOpen, Stays, AsksTables, MakesCommit};
 ghost use Rattle.mf_store_commits.specs.Becoming.{Becomes};
 
 use crate::known::{Known, News};
 use mf_account::LoanAccount;
-use mf_arrears::OfficeLine;
 use mf_base::{Day, Fault};
 use mf_catalog::Product;
-use mf_model::{CatalogueCounts, Counts, laws};
-use mf_office::{Account, Caller, Key, OfficeNo, Role};
+use mf_model::laws;
+use mf_office::{Account, Caller, Key, Role};
 use mf_store_commits::{add_entry, first_writes, reverse_entry, write};
 use mf_store_schema::{
-    Listed, ReceiptRow, StoreWrite, Table, find_receipt, find_row, list_rows, loans_above,
-    offices_within,
+    Listed, ReceiptRow, StoreWrite, find_receipt, list_rows, loans_above, offices_within,
 };
 use mf_store_sql::apply;
-use mf_store_values::{NoLine, is_principal_open, line_of_office, see_open};
+use mf_store_values::see_open;
 use sqlite::{Alter, Connection, Row};
 use std::alloc::Global;
 use std::marker::Model;
@@ -47,7 +39,7 @@ use std::marker::Model;
 /// An institution in tables, and what is known of it beside them. No transaction is open between calls.
 #[derive(Drop)]
 pub struct Store<S: Alter> {
-    connection: Connection<S>,
+    pub(crate) connection: Connection<S>,
     known: Known,
 }
 
@@ -65,15 +57,6 @@ impl<S: Alter> Model for Store<S> {
 }
 
 impl<S: Alter> Store<S> {
-    /// The row under a key, if there is one.
-    pub(crate) fn find<T: Table>(&mut self, key: T::Key) -> Result<Option<T>, Fault>
-        ensures asks { AsksTables S.Store self.old self.new result }
-        ensures row { IsClean S.Store self.new → (i : Institution) → StandsFor S.Store self.old i
-            → IfOk result (λ x. x ≡ find (T.is_at key) (T.list (tables_of i))) }
-    {
-        find_row(&mut self.connection, key)
-    }
-
     /// The row of an office's receipt, if the office knows it.
     pub(crate) fn find_receipt(
         &mut self,
@@ -85,17 +68,6 @@ impl<S: Alter> Store<S> {
             → IfOk result (λ x. x ≡ option_map (receipt_in office) (use_at office receipt.now i)) }
     {
         find_receipt(&mut self.connection, office, receipt)
-    }
-
-    /// Whether anything is outstanding of the principal of a loan's instalment; not where there is no such instalment.
-    pub(crate) fn is_principal_open(&mut self, loan: Account, number: u32) -> Result<bool, Fault>
-        ensures asks { AsksTables S.Store self.old self.new result }
-        ensures left { IsClean S.Store self.new → (i : Institution) → StandsFor S.Store self.old i
-            → IfOk result (λ left. IsTrue left → IsFirstOpen (is_row_of_instalment loan.office loan.number number)
-            (tables_of i).instalments) }
-    {
-        let office = loan.office.get();
-        is_principal_open(&mut self.connection, office, loan.number.get(), number)
     }
 
     /// F20 where a fault has shut the store. No table is asked.
@@ -133,35 +105,6 @@ impl<S: Alter> Store<S> {
             (tables_of i).offices)) }
     {
         offices_within(&mut self.connection, low, high)
-    }
-
-    /// An office's line on a day, by one query over the instalments of its loans. No institution's loans come to too
-    /// much.
-    fn line_of_office(&mut self, office: OfficeNo, today: Day) -> Result<OfficeLine, NoLine>
-        ensures kept { Stays S.Store self.old self.new }
-        ensures open { IsClean S.Store self.new → OnOk result (IsOpen S.Store self.new) }
-        ensures sums { IsClean S.Store self.new → (i : Institution) → StandsFor S.Store self.old i
-            → IfErr result (λ why. why ≡ NoLine.Unread) }
-        ensures line { IsClean S.Store self.new → (i : Institution) → StandsFor S.Store self.old i
-            → (loans : List NumberedLoan) → AreAbove 0 loans → AreWholeLoans loans
-            → filter (is_instalment_in office) (tables_of i).instalments ≡ rows_of_office office loans
-            → IfOk result (λ line. line ≡ line_of_loans office (aged_loans today loans)) }
-    {
-        line_of_office(&mut self.connection, office, today)
-    }
-
-    /// The same, or F20.
-    pub(crate) fn read_line(&mut self, office: OfficeNo, today: Day) -> Result<OfficeLine, Fault>
-        ensures asks { AsksTables S.Store self.old self.new result }
-        ensures line { IsClean S.Store self.new → (i : Institution) → StandsFor S.Store self.old i
-            → (loans : List NumberedLoan) → AreAbove 0 loans → AreWholeLoans loans
-            → filter (is_instalment_in office) (tables_of i).instalments ≡ rows_of_office office loans
-            → IfOk result (λ line. line ≡ line_of_loans office (aged_loans today loans)) }
-    {
-        match self.line_of_office(office, today) {
-            Ok(line) => Ok(line),
-            Err(NoLine::Unread | NoLine::TooGreat) => Err(Fault::F20),
-        }
     }
 
     /// A new institution on this business day where there are no tables yet, made in one commit. The day is at most
@@ -227,65 +170,11 @@ impl<S: Alter> Store<S> {
         connection
     }
 
-    /// How many rows an office has, where that is known.
-    pub(crate) fn known_counts(&self, office: u32) -> Option<Counts>
-        ensures { (i : Institution) → StandsFor S.Store self.now i
-            → IfSome result (λ counts. counts ≡ counts_at office i) }
+    /// What it knows beside its tables.
+    pub(crate) fn known(&self) -> &Known
+        ensures { (i : Institution) → StandsFor S.Store self.now i → AreTrueOf result.now i }
     {
-        self.known.counts(office)
-    }
-
-    /// How many charges and products there are, where that is known.
-    pub(crate) fn known_catalogue(&self) -> Option<CatalogueCounts>
-        ensures { (i : Institution) → StandsFor S.Store self.now i
-            → IfSome result (λ counts. counts ≡ catalogue_counts i) }
-    {
-        self.known.catalogue()
-    }
-
-    /// The business day, where that is known.
-    pub(crate) fn known_day(&self) -> Option<Day>
-        ensures { (i : Institution) → StandsFor S.Store self.now i → IfSome result (λ day. day ≡ i.catalogue.day) }
-    {
-        self.known.day()
-    }
-
-    /// The role of a caller, where that is known.
-    pub(crate) fn known_role(&self, caller: Caller) -> Option<Role>
-        ensures { (i : Institution) → StandsFor S.Store self.now i → IfSome result (λ role. role_of caller i
-            ≡ Some role) }
-    {
-        self.known.role(caller)
-    }
-
-    /// Whether an office is known to be there.
-    pub(crate) fn knows_office(&self, office: u32) -> bool
-        ensures { (i : Institution) → StandsFor S.Store self.now i → IsTrue result → is_there i.offices office ≡ true }
-    {
-        self.known.has_key(office)
-    }
-
-    /// The key of an office, where that is known and there is memory for it.
-    pub(crate) fn known_key(&self, alloc: Global, office: u32) -> Option<Key>
-        ensures { (i : Institution) → StandsFor S.Store self.now i → IfSome result (λ key. key_at office i ≡ Some key) }
-    {
-        self.known.key(alloc, office)
-    }
-
-    /// A product, where that is known and there is memory for it.
-    pub(crate) fn known_product(&self, number: u32) -> Option<Product>
-        ensures { (i : Institution) → StandsFor S.Store self.now i
-            → IfSome result (λ product. product_in i.catalogue number ≡ Some product) }
-    {
-        self.known.product(number)
-    }
-
-    /// The account of a loan, where that is known.
-    pub(crate) fn known_account(&self, loan: Account) -> Option<&LoanAccount>
-        ensures { (i : Institution) → StandsFor S.Store self.now i
-            → IfSome result (λ account. account_at loan i ≡ Some account.now) }
-    {
-        self.known.account(loan)
+        &self.known
     }
 
     /// Takes in a caller's role.
@@ -334,27 +223,22 @@ impl<S: Alter> Store<S> {
         self.known.learn(news);
     }
 
-    /// Makes the writes in one commit, and takes in what is new; or neither.
+    /// Makes the writes in one commit, and takes in what is new; or neither. Where they make a commit's change of each
+    /// institution that the store stood for before it was asked, the call makes the commit.
     pub(crate) fn make(&mut self, writes: &[StoreWrite], news: News) -> Result<(), Fault>
         requires { 0 < length writes.now }
-        ensures premise { IsClean S.Store self.new → IsClean S.Store self.old }
-        ensures gives_up { IfErr result (λ fault. fault ≡ F20) }
-        ensures shuts { FaultsAloneShut S.Store self.old self.new }
-        ensures open { IsClean S.Store self.new → OnOk result (IsOpen S.Store self.new) }
-        ensures made { IsClean S.Store self.new
-            → OnOk result ((i j : Institution) → StandsFor S.Store self.old i → Becomes writes.now i j → Tells news i j
-            → StandsFor S.Store self.new j) }
-        ensures left { IsClean S.Store self.new → OnOk result ((i j : Institution) → StandsFor S.Store self.old i
-            → Becomes writes.now i j → Leaves S.Store self.new (j ∷ [])) }
-        ensures same { IsClean S.Store self.new → OnErr result ((i : Institution) → StandsFor S.Store self.old i
-            → StandsFor S.Store self.new i) }
-        ensures stop { IsClean S.Store self.new → (i j : Institution) (is : List Institution)
-            → StandsFor S.Store self.old i → Becomes writes.now i j
-            → Leaves S.Store self.old is → Leaves S.Store self.new (j ∷ is) }
+        ensures { (first : KnownStore S) (commit : Commit) → Stays S.Store first self.old
+            → (IsClean S.Store self.old → (i : Institution) → StandsFor S.Store first i → IsAdmitted commit i
+            → Becomes writes.now i (after_commit commit i) × Tells news i (after_commit commit i))
+            → MakesCommit S.Store commit first self.new result }
     {
-        write(&mut self.connection, writes)?;
-        self.known.learn(news);
-        Ok(())
+        match write(&mut self.connection, writes) {
+            Ok(()) => {
+                self.known.learn(news);
+                Ok(())
+            }
+            Err(fault) => Err(fault),
+        }
     }
 
     /// Adds the last entry of a loan's account to the loan, which has all the others and no more, and writes what that

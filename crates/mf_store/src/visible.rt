@@ -12,6 +12,7 @@ use crate::store::Store;
 use mf_base::Fault;
 use mf_model::{OfficeList, laws};
 use mf_office::{Key, OfficeNo, in_range};
+use mf_store_schema::OfficeRow;
 use mf_store_values::offices_from;
 use sqlite::Alter;
 use std::alloc::Global;
@@ -50,7 +51,7 @@ impl<S: Alter> Store<S> {
         ensures value { IsClean S.Store self.new → (i : Institution) → StandsFor S.Store self.old i
             → IfOk result (λ key. key ≡ key_at number i) }
     {
-        let Some(office) = self.find_office(number)? else {
+        let Some(office) = self.find::<OfficeRow>(number)? else {
             return Ok(None);
         };
         match Key::from_text(office.hkey.into_string()) {
@@ -65,7 +66,7 @@ impl<S: Alter> Store<S> {
         ensures value { IsClean S.Store self.new → (i : Institution) → StandsFor S.Store self.old i
             → IfOk result (λ key. key ≡ key_at number i) }
     {
-        if let Some(key) = self.known_key(alloc, number) {
+        if let Some(key) = self.known().key(alloc, number) {
             self.learn_key(alloc, number, &key);
             return Ok(Some(key));
         }

@@ -15,7 +15,8 @@ returns-in_err-account-clause-same c = rw (← c.self.view_is) (λ i known. acco
 pub returns-clause-value : goal.returns-clause-value
 returns-clause-value c =
     let found = rw c.key_of_loan.ensures at c.pop.ensures.value in
-    rw (← c.self.view_is) (sym c.in_ok-account.was ∙ found)
+    rw (← c.self.view_is) (λ i known. known.accounts c.args.loan c.in_ok-account.account (sym found
+    ∙ c.in_ok-account.was))
 
 pub returns-clause-gone : goal.returns-clause-gone
 returns-clause-gone c = account_gone c.self.inside.accounts c.pop.new.self (account_key c.args.loan)

@@ -2,7 +2,6 @@ use Rattle.std.proofs.Common.{length, sym, ap, ◌∙◌}
 use Rattle.mf_model.specs.Store.{rows_at}
 use Rattle.mf_model.specs.declared.store.Counts.{Counts}
 use Rattle.mf_model.specs.Tree.{is_there}
-use Rattle.mf_store.proofs.MadeLemmas.{made_by}
 use Rattle.mf_store_commits.proofs.CommitLemmas.{client_becomes, same_client}
 use Rattle.mf_store.proofs.NewsLemmas.{client_tells}
 use Rattle.mf_store.proofs.store.Store.add_client.Goals as goal
@@ -10,10 +9,8 @@ use Rattle.mf_store.proofs.store.Store.add_client.Goals as goal
 pub returns : goal.returns
 returns g c =
     let office = c.get-office.ensures.value in
-    made_by g.S.Store _ _ _ _ _ _ _ c.in_ok-counts.ensures.asks.kept c.make.ensures.premise c.make.ensures.gives_up
-    c.make.ensures.made c.make.ensures.left c.make.ensures.same c.make.ensures.stop c.make.ensures.shuts
-    c.make.ensures.open
-    (λ clean i s admitted. let told = c.in_ok-counts.ensures.value clean i s in
+    c.make.ensures _ _ c.in_ok-counts.ensures.asks.kept (λ clean i s admitted.
+    let told = c.in_ok-counts.ensures.value clean i s in
     let here = ap (is_there i.offices) (sym office) ∙ told.0 in (
       client_becomes c.args.office c.args.name i _ s.sound admitted.sound here
           (same_client _ _ _ _ _ _ office (ap (λ (k : Counts). k.clients) told.1

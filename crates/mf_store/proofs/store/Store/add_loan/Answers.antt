@@ -6,7 +6,6 @@ use Rattle.mf_model.specs.Store.{IsAdmitted, after_commit}
 use Rattle.mf_model.specs.Tree.{is_there}
 use Rattle.mf_model.specs.Stages.{disbursed_on}
 use Rattle.mf_store_commits.specs.Becoming.{Becomes}
-use Rattle.mf_store.proofs.MadeLemmas.{made_by}
 use Rattle.mf_store_commits.proofs.CommitLemmas.{none_there}
 use Rattle.mf_store.proofs.NewsLemmas.{loan_tells}
 use Rattle.mf_store.proofs.store.Store.add_loan.Goals as goal
@@ -16,10 +15,8 @@ returns g c =
     let loan = c.args.loan in
     let office = c.get-office.ensures.value in
     let undisbursed : is_some (disbursed_on loan.stage) ≡ false = search rules in
-    made_by g.S.Store _ _ _ _ _ _ _ c.in_ok-counts.ensures.asks.kept c.make.ensures.premise c.make.ensures.gives_up
-    c.make.ensures.made c.make.ensures.left c.make.ensures.same c.make.ensures.stop c.make.ensures.shuts
-    c.make.ensures.open
-    (λ clean i s admitted. let told = c.in_ok-counts.ensures.value clean i s in
+    c.make.ensures _ _ c.in_ok-counts.ensures.asks.kept (λ clean i s admitted.
+    let told = c.in_ok-counts.ensures.value clean i s in
     let carried = c.in_ok-write.ensures.carries i s.sound (subst (λ x. IsAdmitted (AddLoan x loan) i) (sym office)
     admitted) told.0 (ap (λ (k : Counts). k.loans + 1) told.1) (none_there (disbursed_on loan.stage) undisbursed) in (
       subst (λ x. Becomes (c.in_ok-write.write ∷ []) i (after_commit (AddLoan x loan) i)) office carried.becomes,

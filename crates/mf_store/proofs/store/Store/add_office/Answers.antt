@@ -2,7 +2,6 @@ use Rattle.std.proofs.Common.{◌≡◌, false, sym, ap, ◌∙◌, string_bytes
 use Rattle.mf_office.specs.Keys.{key_of, child_key}
 use Rattle.mf_model.specs.Institution.{office_at}
 use Rattle.mf_model.specs.Tree.{is_there, parent_of}
-use Rattle.mf_store.proofs.MadeLemmas.{made_by}
 use Rattle.mf_store_commits.proofs.CommitLemmas.{office_becomes, same_office, office_known, none_there}
 use Rattle.mf_store.proofs.KeptLemmas.{stays_then}
 use Rattle.mf_store.proofs.NewsLemmas.{office_tells}
@@ -14,11 +13,9 @@ returns g c =
     let text : string_bytes c.into_text.result ≡ child_key c.in-Some.above c.args.number =
     c.into_text.ensures ∙ c.in_ok-key.ensures.key in
     let parent = c.get-parent.ensures.value in
-    made_by g.S.Store _ _ _ _ _ _ _ (stays_then g.S.Store _ _ _ c.in_ok-taken.ensures.asks.kept
-    c.in_ok-above.ensures.asks.kept) c.make.ensures.premise c.make.ensures.gives_up
-    c.make.ensures.made c.make.ensures.left c.make.ensures.same c.make.ensures.stop c.make.ensures.shuts
-    c.make.ensures.open
-    (λ clean i s admitted. let before = c.in_ok-above.ensures.asks.kept.premise clean in
+    c.make.ensures _ _ (stays_then g.S.Store _ _ _ c.in_ok-taken.ensures.asks.kept
+    c.in_ok-above.ensures.asks.kept) (λ clean i s admitted.
+    let before = c.in_ok-above.ensures.asks.kept.premise clean in
     let known = office_known c.in_ok-above.field-0 c.in-Some.above c.get-parent.result i c.in-Some.is
     (c.in_ok-above.ensures.value clean i (c.in_ok-taken.ensures.asks.kept.same before i s)) in
     let none = none_there (office_at c.args.number i.offices) (ap (is_there i.offices) (sym c.get.ensures.value)

@@ -1,15 +1,12 @@
 use Rattle.std.proofs.Common.{◌+◌, ap}
 use Rattle.mf_model.specs.declared.store.CatalogueCounts.{CatalogueCounts}
-use Rattle.mf_store.proofs.MadeLemmas.{made_by}
 use Rattle.mf_store.proofs.NewsLemmas.{product_tells}
 use Rattle.mf_store.proofs.store.Store.add_product.Goals as goal
 
 pub returns : goal.returns
 returns g c =
-    made_by g.S.Store _ _ _ _ _ _ _ c.in_ok-counts.ensures.asks.kept c.make.ensures.premise c.make.ensures.gives_up
-    c.make.ensures.made c.make.ensures.left c.make.ensures.same c.make.ensures.stop c.make.ensures.shuts
-    c.make.ensures.open
-    (λ clean i s admitted. let counts = c.in_ok-counts.ensures.value clean i s in (
+    c.make.ensures _ _ c.in_ok-counts.ensures.asks.kept (λ clean i s admitted.
+    let counts = c.in_ok-counts.ensures.value clean i s in (
       (c.in_ok-write.ensures.carries i s.sound admitted (ap (λ (k : CatalogueCounts). k.products + 1) counts)).becomes,
       product_tells c.args.members i c.in_ok-counts.counts counts,
     ))

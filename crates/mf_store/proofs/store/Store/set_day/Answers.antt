@@ -1,17 +1,12 @@
 use Rattle.std.proofs.Common.{refl, ◌∙◌}
 use Rattle.mf_store_commits.proofs.CatalogueLemmas.{day_becomes}
-use Rattle.mf_store.proofs.MadeLemmas.{made_by}
 use Rattle.mf_store.proofs.KeptLemmas.{stays_same}
 use Rattle.mf_store.proofs.NewsLemmas.{day_tells}
 use Rattle.mf_store.proofs.store.Store.set_day.Goals as goal
 
 pub returns : goal.returns
 returns g c =
-    made_by g.S.Store _ _ _ _ _ _ _ (stays_same g.S.Store c.args.self.now) c.make.ensures.premise
-    c.make.ensures.gives_up
-    c.make.ensures.made c.make.ensures.left c.make.ensures.same c.make.ensures.stop c.make.ensures.shuts
-    c.make.ensures.open
-    (λ clean i s admitted. (
+    c.make.ensures _ _ (stays_same g.S.Store c.args.self.now) (λ clean i s admitted. (
       day_becomes c.args.day i _ s.sound admitted.sound refl refl (c.new.ensures ∙ c.in_ok-text.ensures.ok),
       day_tells c.args.day i,
     ))

@@ -2,18 +2,13 @@ use Rattle.std.proofs.Common.{sym, subst}
 use Rattle.mf_model.specs.declared.commit.Commit.TheVariants.{SetStage}
 use Rattle.mf_model.specs.Store.{after_commit}
 use Rattle.mf_store_commits.specs.Becoming.{Becomes}
-use Rattle.mf_store.specs.declared.known.News.TheVariants as news
-use Rattle.mf_store.proofs.MadeLemmas.{made_by}
 use Rattle.mf_store.proofs.NewsLemmas.{stage_tells}
 use Rattle.mf_store.proofs.store.Store.set_stage.Goals as goal
 
 pub returns : goal.returns
 returns g c =
     let commit = SetStage c.args.loan c.args.stage in
-    made_by g.S.Store _ _ _ _ _ _ _ c.in_ok-writes.ensures.kept c.make.ensures.premise c.make.ensures.gives_up
-    c.make.ensures.made c.make.ensures.left c.make.ensures.same c.make.ensures.stop c.make.ensures.shuts
-    c.make.ensures.open
-    (λ clean i s admitted. (
+    c.make.ensures _ _ c.in_ok-writes.ensures.kept (λ clean i s admitted. (
       subst (λ ws. Becomes ws i (after_commit commit i)) (sym c.deref.ensures.value)
           (c.in_ok-writes.ensures.carries clean i s admitted).becomes,
       stage_tells c.args.loan c.args.stage i,

@@ -1,8 +1,0 @@
-use Rattle.std.proofs.Common.{◌∙◌}
-use Rattle.std.proofs.lemmas.Result.{IfOk-weaker}
-use Rattle.mf_store.proofs.LookLemmas.{charge_by_key}
-use Rattle.mf_store.proofs.store.Store.find_charge.Goals as goal
-
-pub returns-clause-value : goal.returns-clause-value
-returns-clause-value g c clean i s = IfOk-weaker c.find.result _ _ (λ x is. is ∙ charge_by_key c.args.number i)
-    (c.find.ensures.row clean i s)
