@@ -52,14 +52,13 @@ module _ {S : Type 0} (g : Ghosts S) where
           made = λ clean i s admitted. on_ok_both r (λ m k.
               let at = stands clean i s in
               let b = becomes (premise clean) i s admitted in
-              let t = m i (after_commit commit i) (tabled g mid i at) b.0 in
-              record { sound = t.sound; serves = t.serves; knows = k i (after_commit commit i) at.knows b.1 }) (made clean)
-              learns;
-          kept = λ clean i s admitted. on_ok_weaker r (λ l. l i (after_commit commit i) (tabled g mid i (stands clean i s))
-              (becomes (premise clean) i s admitted).0) (left clean);
+              known (m i (after_commit commit i) (tabled g mid i at) b.0) (k i (after_commit commit i) at.knows b.1))
+              (made clean) learns;
+          kept = λ clean i s admitted. on_ok_weaker r (λ l. l i (after_commit commit i) (tabled g mid i (stands clean i
+              s)) (becomes (premise clean) i s admitted).0) (left clean);
           same = λ clean i s. on_err_both r (λ m k.
-              let t = m i (tabled g mid i (stands clean i s)) in
-              record { sound = t.sound; serves = t.serves; knows = k i (stands clean i s).knows }) (same clean) still;
+              let at = stands clean i s in
+              known (m i (tabled g mid i at)) (k i at.knows)) (same clean) still;
           gives_up = gives_up;
           stop = λ clean i is s admitted l. stop clean i (after_commit commit i) is (tabled g mid i (stands clean i s))
               (becomes (premise clean) i s admitted).0 (kept.stop (premise clean) is l);
@@ -70,3 +69,9 @@ module _ {S : Type 0} (g : Ghosts S) where
     where
       stands : HasGoodDisk g new → (i : Institution) → StandsFor g first i → StandsFor g mid i
       stands clean i s = kept.same (premise clean) i s
+
+      known : {i : Institution} → IsTabled g new i → AreTrueOf e i → StandsFor g (record {
+        connection = new;
+        known = e;
+      }) i
+      known t k = record { sound = t.sound; serves = t.serves; knows = k }
