@@ -13,7 +13,7 @@ use Rattle.mf_model.specs.Store.{IsHandedOn, account_at, account_of, after_commi
 use Rattle.mf_model.specs.Tree.{is_there}
 use Rattle.mf_model.specs.declared.commit.Commit.TheVariants.{AddEntry}
 use Rattle.mf_model.proofs.AccountLemmas.{IsRunning, account_is}
-use Rattle.mf_store_commits.proofs.AccountCommitLemmas.{TermsStand, account_with}
+use Rattle.mf_store_commits.proofs.AccountCommitLemmas.{account_with, TermsStand}
 use Rattle.mf_store_commits.proofs.EnteredLemmas.{IsAccountOf, account_of_loan}
 use Rattle.mf_store_values.proofs.FlatLemmas.{numbered-suc}
 use Rattle.mf_store_values.proofs.SoundLemmas.{own_rows}

@@ -1,12 +1,12 @@
 -- A loan as the report counts it, and offices' lines in turn.
 use Rattle.std.proofs.Common.{◌≡◌, ◌<◌, ◌+◌, ℕ, true, false, cond, ◌==◌, List, [], ◌∷◌, ◌++◌, map, length, take}
-use Rattle.std.proofs.Common.{get_or, Option, Some, None, refl, sym, ap, ap₂, ◌∙◌, arith}
+use Rattle.std.proofs.Common.{get_or, Option, Some, None, refl, sym, ap, ap₂, ◌∙◌, subst, arith}
 use Rattle.std.specs.List.{AllByRecursion, list_any}
 use Rattle.std.proofs.lemmas.Bool.Decides.{nat_tests}
 use Rattle.std.proofs.lemmas.List.{map_more}
 use Rattle.sqlite_keyed.proofs.ListLemmas.{all-filter}
 use Rattle.mf_office.specs.declared.office.Office.{Office as OfficeShown}
-use Rattle.mf_arrears.specs.Line.{line_of_loans}
+use Rattle.mf_arrears.specs.Line.{OfficeLine, line_of_loans}
 use Rattle.mf_alloc.specs.Sums.{Instalment, is_open}
 use Rattle.mf_model.specs.Accounts.{account_in, of_account, status_in}
 use Rattle.mf_model.specs.Stages.{stage_number}
@@ -80,8 +80,15 @@ lines_kept i (g ∷ gs) all = ap₂ ◌∷◌ (ap (λ o. line_of_loans g.number 
     (lines_kept i gs all.1)
 
 -- the lines of the offices that are seen, as these are shown, are the arrears that are seen
-pub lines_seen : (to : ℕ) (i : Institution) → Ascending i.offices
+lines_seen : (to : ℕ) (i : Institution) → Ascending i.offices
     → map (line_at i) (map office_shown (seen_by to i.offices))
     ≡ arrears_seen to i
 lines_seen to i up = lines_kept i (seen_by to i.offices) (all-filter (IsFoundIn i.offices) (λ (g : Office).
     is_at_or_below (parent_of i.offices) g.number to) i.offices (found_there i.offices up))
+
+-- the same of offices that were read
+pub lines_told : (to : ℕ) (i : Institution) (offices : List OfficeShown) (lines : List OfficeLine)
+    → Ascending i.offices → offices ≡ map office_shown (seen_by to i.offices) → lines ≡ map (line_at i) offices
+    → lines ≡ arrears_seen to i
+lines_told to i offices lines up are is = subst (λ (all : List OfficeLine). lines ≡ all) (lines_seen to i up)
+    (subst (λ (shown : List OfficeShown). lines ≡ map (line_at i) shown) are is)

@@ -21,6 +21,12 @@ pub known : {A R : Type 0} (make : A → R) (found : Option R) (row : R) (o : Op
     → found ≡ option_map make o → (a : A) × (o ≡ Some a) × (row ≡ make a)
 known make found row o is e = mapped make o row (sym e ∙ is)
 
+-- where no row was found, nothing is there
+pub unknown : {A R : Type 0} (make : A → R) (found : Option R) (o : Option A) → found ≡ None
+    → found ≡ option_map make o → None ≡ o
+unknown make found None is e = refl
+unknown make found (Some a) is e = absurd (let never : Some (make a) ≡ None = sym e ∙ is in cc)
+
 -- what holds of all holds of what is found
 pub found_all : {A : Type 0} (P : A → Type 0) (p : A → Bool) (xs : List A) (x : A) → find p xs ≡ Some x
     → AllByRecursion P xs → P x

@@ -259,9 +259,10 @@ unmade : {A E : Type 0} {P Q : Type 0} (r : Result A E) → (((C : Type 0) → I
 unmade (Ok x) f p = tt
 unmade (Err e) f p = f (λ C made. absurd (true≢false (sym made))) p
 
-pub any_err : {A E : Type 0} (r : Result A E) (P : Type 0) → P → OnErr r P
-any_err (Ok x) P p = tt
-any_err (Err e) P p = p
+-- what holds anyway holds where a call answers
+pub any_ok : {A E : Type 0} (r : Result A E) (P : Type 0) → P → OnOk r P
+any_ok (Ok x) P p = p
+any_ok (Err e) P p = tt
 
 module _ {S : Type 0} (g : Ghosts S) where
   pub shuts_alike : (old new : Held S) → OnlyFaultsShut (state g old) (state g new) → (n : ℕ) → IsOpenUntil g n old
@@ -287,12 +288,6 @@ module _ {S : Type 0} (g : Ghosts S) where
       → AsksTables g (record { connection = old; known = f }) (record { connection = new; known = f }) r
   known_asks old new f r u gives_up is_open =
       record { kept = known_stays old new f u; gives_up = gives_up; stays_open = is_open }
-
-  pub known_unmade : (old new : Held S) (f : Facts) → ((i : Institution) → IsTabled g old i → IsTabled g new i)
-      → (i : Institution) → StandsFor g (record { connection = old; known = f }) i
-      → StandsFor g (record { connection = new; known = f }) i
-  known_unmade old new f same i s = let t = same i (tabled g (record { connection = old; known = f }) i s) in
-      record { sound = t.sound; serves = t.serves; knows = s.knows }
 
   -- a commit over the tables that may change a loan's account, which is known then where the commit was made
   pub account_commits : (commit : Commit) (loan : Account) (account : KeptAccount) (old new : Held S) (f e : Facts)
@@ -339,6 +334,16 @@ module _ {S : Type 0} (g : Ghosts S) where
 
   pub clean_before : (mid new : Held S) → new ≡ mid → HasGoodDisk g new → HasGoodDisk g mid
   clean_before mid new tables clean = subst (λ h. HasGoodDisk g h) tables clean
+
+  -- what is known beside the same tables is less
+  pub learnt_stays : (old new : KnownStore S) → new.connection ≡ old.connection → ((i : Institution) → StandsFor g old i
+      → StandsFor g new i) → Stays g old new
+  learnt_stays old new tables same = record {
+    premise = λ clean. clean_before old.connection new.connection tables clean;
+    shuts = λ n o. subst (λ h. IsOpenUntil g n h) (sym tables) o;
+    same = λ clean i s. same i s;
+    stop = λ clean is l. subst (λ h. LeavesTables g h is) (sym tables) l;
+  }
 
   -- a call that answers with what was read, and takes it in
   pub learnt_asks : {R : Type 0} {x : R} (old mid new : KnownStore S) (IsSo : Institution → Type 0) → Stays g old mid

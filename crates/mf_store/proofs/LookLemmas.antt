@@ -1,6 +1,7 @@
 -- Numbers without gaps.
-use Rattle.std.proofs.Common.{◌≡◌, ◌≤◌, ◌↔◌, ℕ, IsTrue, List, length, Option, sym, ap, ◌∙◌, subst, arith}
+use Rattle.std.proofs.Common.{◌≡◌, ◌≤◌, ◌↔◌, ℕ, Bool, IsTrue, List, length, Result, IfOk, sym, ◌∙◌, subst, arith}
 use Rattle.std.specs.Option.{option_map, is_some}
+use Rattle.std.proofs.lemmas.Result.{IfOk-weaker}
 use Rattle.sqlite_keyed.proofs.SliceLemmas.{is_some-map}
 use Rattle.mf_model.specs.Institution.{Institution, item_numbered}
 use Rattle.mf_model.specs.Sound.{IsSound, is_staff}
@@ -9,11 +10,11 @@ use Rattle.mf_store.specs.declared.counts.Kind.{Kind}
 use Rattle.mf_store.specs.declared.counts.Kind.TheVariants.{Staff, Clients, Loans, Charges, Products}
 use Rattle.mf_store_values.proofs.SoundLemmas.{office_sound, has_number}
 
--- a number under which a row is found is one of those that there are
-pub there_by : {X Y : Type 0} (f : X → Y) (xs : List X) (n : ℕ) → IsTrue (is_some (option_map f (item_numbered xs n)))
-    ↔ ((1 ≤ n) × (n ≤ length xs))
-there_by f xs n = subst (λ b. IsTrue b ↔ ((1 ≤ n) × (n ≤ length xs))) (sym (is_some-map f (item_numbered xs n)))
-    (has_number xs n)
+-- whether a row is found under a number tells whether it is one of those that there are
+pub told_by : {X Y E : Type 0} (f : X → Y) (xs : List X) (n : ℕ) (r : Result Bool E) → IfOk r (λ there. there
+    ≡ is_some (option_map f (item_numbered xs n))) → IfOk r (λ there. IsTrue there ↔ ((1 ≤ n) × (n ≤ length xs)))
+told_by f xs n r = IfOk-weaker r _ _ (λ there is. subst (λ b. IsTrue b ↔ ((1 ≤ n) × (n ≤ length xs)))
+    (sym (is ∙ is_some-map f (item_numbered xs n))) (has_number xs n))
 
 -- there are no more than the limits allow
 pub count_limit : (kind : Kind) (i : Institution) → IsSound i → count_of kind i ≤ 999999

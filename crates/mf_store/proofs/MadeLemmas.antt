@@ -1,5 +1,5 @@
 -- From writes that were made, or not, to the commit.
-use Rattle.std.proofs.Common.{◌≡◌, List, [], ◌∷◌, Result, Ok, Err, IfErr, IsTrue, OnOk, OnErr, subst, sym}
+use Rattle.std.proofs.Common.{◌≡◌, List, [], ◌∷◌, Result, Ok, Err, IfErr, IsTrue, OnOk, OnErr}
 use Rattle.std.proofs.lemmas.Result.{on_ok_weaker}
 use Rattle.sqlite.specs.Held.{Held, state}
 use Rattle.sqlite_trees.specs.declared.store.Store.{Ghosts}
@@ -7,13 +7,13 @@ use Rattle.mf_base.specs.declared.fault.Fault.{Fault}
 use Rattle.mf_base.specs.declared.fault.Fault.TheVariants.{F20}
 use Rattle.mf_model.specs.declared.commit.Commit.{Commit}
 use Rattle.mf_model.specs.Institution.{Institution}
-use Rattle.mf_model.specs.Store.{Commits, IsAdmitted, after_commit}
+use Rattle.mf_model.specs.Store.{IsAdmitted, after_commit}
 use Rattle.mf_store_schema.specs.Calls.{OnlyFaultsShut}
 use Rattle.mf_store_schema.specs.declared.writes.StoreWrite.{StoreWrite}
 use Rattle.mf_store.specs.Facts.{Facts, KnownStore, AreTrueOf}
 use Rattle.mf_store.specs.Learning.{Tells}
 use Rattle.mf_store.specs.declared.known.News.{News}
-use Rattle.mf_store.specs.Stands.{StandsFor, IsClean, Leaves, Stays, MakesCommit}
+use Rattle.mf_store.specs.Stands.{StandsFor, IsClean, Stays, MakesCommit}
 use Rattle.mf_store_commits.specs.Tabled.{IsTabled, HasGoodDisk, LeavesTables}
 use Rattle.mf_store_commits.specs.Becoming.{Becomes}
 use Rattle.mf_store.proofs.KeptLemmas.{shuts_alike, tabled}
@@ -49,30 +49,29 @@ module _ {S : Type 0} (g : Ghosts S) where
       still = record {
         commits = record {
           premise = λ clean. kept.premise (premise clean);
-          made = λ clean i s admitted.
-              let now = premise clean in
-              let at = kept.same now i s in
-              let b = becomes now i s admitted in
-              let last = after_commit commit i in
-              on_ok_both r (λ m k. let t = m i last (tabled g mid i at) b.0 in record {
-                sound = t.sound;
-                serves = t.serves;
-                knows = k i last at.knows b.1;
-              }) (made clean) learns;
-          kept = λ clean i s admitted. let now = premise clean in on_ok_weaker r (λ l. l i (after_commit commit i)
-              (tabled g mid i (kept.same now i s)) (becomes now i s admitted).0) (left clean);
-          same = λ clean i s.
-              let at = kept.same (premise clean) i s in
-              on_err_both r (λ m k. let t = m i (tabled g mid i at) in record {
-                sound = t.sound;
-                serves = t.serves;
-                knows = k i at.knows;
-              }) (same clean) still;
+          made = λ clean i s admitted. on_ok_both r (λ m k.
+              let at = stands clean i s in
+              let b = becomes (premise clean) i s admitted in
+              known (m i (after_commit commit i) (tabled g mid i at) b.0) (k i (after_commit commit i) at.knows b.1))
+              (made clean) learns;
+          kept = λ clean i s admitted. on_ok_weaker r (λ l. l i (after_commit commit i) (tabled g mid i (stands clean i
+              s)) (becomes (premise clean) i s admitted).0) (left clean);
+          same = λ clean i s. on_err_both r (λ m k.
+              let at = stands clean i s in
+              known (m i (tabled g mid i at)) (k i at.knows)) (same clean) still;
           gives_up = gives_up;
-          stop = λ clean i is s admitted l.
-              let now = premise clean in stop clean i (after_commit commit i) is (tabled g mid i (kept.same now i s))
-              (becomes now i s admitted).0 (kept.stop now is l);
+          stop = λ clean i is s admitted l. stop clean i (after_commit commit i) is (tabled g mid i (stands clean i s))
+              (becomes (premise clean) i s admitted).0 (kept.stop (premise clean) is l);
         };
         shuts = λ n o. shuts_alike g mid.connection new shuts n (kept.shuts n o);
         stays_open = is_open;
       }
+    where
+      stands : HasGoodDisk g new → (i : Institution) → StandsFor g first i → StandsFor g mid i
+      stands clean i s = kept.same (premise clean) i s
+
+      known : {i : Institution} → IsTabled g new i → AreTrueOf e i → StandsFor g (record {
+        connection = new;
+        known = e;
+      }) i
+      known t k = record { sound = t.sound; serves = t.serves; knows = k }

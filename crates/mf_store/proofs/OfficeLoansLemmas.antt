@@ -11,6 +11,7 @@ use Rattle.mf_account.specs.Loan.{DisbursedLoan, IsSoundDisbursed, state_of_loan
 use Rattle.mf_account.proofs.ConserveLemmas.{principal-sound}
 use Rattle.mf_model.specs.Accounts.{account_in, of_account}
 use Rattle.mf_model.specs.Arrears.{active_in}
+use Rattle.mf_arrears.specs.Line.{AgedLoan, OfficeLine, line_of_loans}
 use Rattle.mf_model.specs.Institution.{Institution, Catalogue, Ledger}
 use Rattle.mf_model.specs.Sound.{IsSound, IsSoundLoan, is_staff}
 use Rattle.mf_model.specs.Store.{rows_at}
@@ -31,7 +32,7 @@ abbrev pub loans_from : Catalogue → ℕ → List Ledger → List NumberedLoan
 loans_from k n [] = []
 loans_from k n (l ∷ ls) = (n, kept_of instalments_kept k l) ∷ loans_from k (n + 1) ls
 
-pub above_from : (k : Catalogue) (m n : ℕ) (ls : List Ledger) → m < n → AreAbove m (loans_from k n ls)
+above_from : (k : Catalogue) (m n : ℕ) (ls : List Ledger) → m < n → AreAbove m (loans_from k n ls)
 above_from k m n [] low = tt
 above_from k m n (l ∷ ls) low = (low, above_from k n (n + 1) ls (omega arith))
 
@@ -55,7 +56,7 @@ office_rows x i sound =
 abbrev pub HaveSound : Catalogue → List Ledger → Type 0
 HaveSound k ls = AllByRecursion (λ l. (a : DisbursedLoan) → account_in k l ≡ Some a → IsSoundDisbursed a) ls
 
-pub office_accounts : (x : ℕ) (i : Institution) → IsSound i → HaveSound i.catalogue (rows_at x i).loans
+office_accounts : (x : ℕ) (i : Institution) → IsSound i → HaveSound i.catalogue (rows_at x i).loans
 office_accounts x i sound =
     let k = i.catalogue in
     let rows = rows_at x i in
@@ -63,16 +64,33 @@ office_accounts x i sound =
     → IsSoundDisbursed a) (λ l is a at. account_sound k (is_staff i.offices) rows.clients l a sound.catalogue is at)
     rows.loans (office_sound k (is_staff i.offices) x i.offices sound.each).loans
 
-pub whole_from : (k : Catalogue) (n : ℕ) (ls : List Ledger) → HaveSound k ls → AreWholeLoans (loans_from k n ls)
+whole_from : (k : Catalogue) (n : ℕ) (ls : List Ledger) → HaveSound k ls → AreWholeLoans (loans_from k n ls)
 whole_from k n [] all = tt
 whole_from k n (l ∷ ls) all = (whole_kept (account_in k l) all.0, whole_from k (n + 1) ls all.1)
 
 -- they count as the report counts them
-pub aged_from : (k : Catalogue) (n : ℕ) (ls : List Ledger) → HaveSound k ls → aged_loans k.day (loans_from k n ls)
+aged_from : (k : Catalogue) (n : ℕ) (ls : List Ledger) → HaveSound k ls → aged_loans k.day (loans_from k n ls)
     ≡ active_in k ls
 aged_from k n [] all = refl
 aged_from k n (l ∷ ls) all = ap₂ ◌++◌ (ap (aged_rows k.day) (sums_kept (account_in k l))
     ∙ aged_told k.day (account_in k l) all.0) (aged_from k (n + 1) ls all.1)
+
+-- the loans of an office rise by number, and each is whole
+pub above_first : (x : ℕ) (i : Institution) → AreAbove 0 (loans_from i.catalogue 1 (rows_at x i).loans)
+above_first x i = above_from i.catalogue 0 1 (rows_at x i).loans (omega arith)
+
+pub whole_first : (x : ℕ) (i : Institution) → IsSound i → AreWholeLoans (loans_from i.catalogue 1 (rows_at x i).loans)
+whole_first x i sound = whole_from i.catalogue 1 (rows_at x i).loans (office_accounts x i sound)
+
+-- their line on the business day is the report's
+pub line_told : (x today : ℕ) (i : Institution) (line : OfficeLine) → IsSound i → today ≡ i.catalogue.day
+    → line ≡ line_of_loans x (aged_loans today (loans_from i.catalogue 1 (rows_at x i).loans))
+    → line ≡ line_of_loans x (active_in i.catalogue (rows_at x i).loans)
+line_told x today i line sound day is =
+    let loans = loans_from i.catalogue 1 (rows_at x i).loans in
+    let aged : aged_loans today loans ≡ active_in i.catalogue (rows_at x i).loans = ap (λ t. aged_loans t loans) day
+    ∙ aged_from i.catalogue 1 (rows_at x i).loans (office_accounts x i sound) in
+    subst (λ (counted : List AgedLoan). line ≡ line_of_loans x counted) aged is
 
 -- none of them is large, and they are few
 open_under : (rows : List Instalment) → open_in 3 rows ≤ sum_by (λ (row : Instalment). get_or row.owed 3 0) rows

@@ -1,31 +1,23 @@
 -- A sound institution is the only one with its rows: each value is read back off its row, and what stands under each
 -- number is found among the rows.
-use Rattle.std.proofs.Common.{◌≡◌, ◌-◌, ◌∙◌, ℕ, suc, List, [], ◌∷◌, map, find, filter, slice_get, Option}
+use Rattle.std.proofs.Common.{◌≡◌, ◌∙◌, ℕ, suc, List, [], ◌∷◌, map, find, filter, slice_get, Option}
 use Rattle.std.proofs.Common.{None, Some, refl, sym, ap}
 use Rattle.std.specs.List.{AllByRecursion}
 use Rattle.std.specs.Option.{option_map}
-use Rattle.mf_base.specs.Choices.{frequencies, frequency_number}
+use Rattle.mf_base.specs.Choices.{choice_numbered, frequencies, frequency_number}
 use Rattle.mf_base.specs.DayText.{day_text}
-use Rattle.mf_base.specs.declared.day.Freq.{Freq}
-use Rattle.mf_base.specs.declared.day.Freq.TheVariants.{Weeks, Months}
+use Rattle.mf_base.specs.contracts.frequency.FreqChoice.TheImpl.Laws as freq
 use Rattle.mf_catalog.specs.Names.{kinds, kind_number, calcs, calc_number, methods, method_number, strategies}
 use Rattle.mf_catalog.specs.Names.{strategy_number}
-use Rattle.mf_catalog.specs.declared.charge.ChargeKind.{ChargeKind}
-use Rattle.mf_catalog.specs.declared.charge.ChargeKind.TheVariants.{Disbursement, Instalment, Overdue, DueDate}
-use Rattle.mf_catalog.specs.declared.charge.Calc.{Calc}
-use Rattle.mf_catalog.specs.declared.charge.Calc.TheVariants as calc
-use Rattle.mf_catalog.specs.declared.terms.Method.{Method}
-use Rattle.mf_catalog.specs.declared.terms.Method.TheVariants as method
-use Rattle.mf_catalog.specs.declared.terms.StrategyName.{StrategyName}
-use Rattle.mf_catalog.specs.declared.terms.StrategyName.TheVariants.{MifosStandard, PrincipalFirst, InterestFirst}
-use Rattle.mf_catalog.specs.declared.terms.StrategyName.TheVariants.{DueFirst}
+use Rattle.mf_catalog.specs.contracts.names.ChargeKindChoice.TheImpl.Laws as charge_kind
+use Rattle.mf_catalog.specs.contracts.names.CalcChoice.TheImpl.Laws as calc
+use Rattle.mf_catalog.specs.contracts.names.MethodChoice.TheImpl.Laws as method
+use Rattle.mf_catalog.specs.contracts.names.StrategyNameChoice.TheImpl.Laws as strategy
 use Rattle.mf_office.specs.Roles.{roles, role_number}
-use Rattle.mf_office.specs.declared.staff.Role.{Role}
-use Rattle.mf_office.specs.declared.staff.Role.TheVariants.{Teller, Officer, Manager}
+use Rattle.mf_office.specs.contracts.roles.RoleChoice.TheImpl.Laws as role
 use Rattle.mf_account.specs.Names.{entry_kinds}
 use Rattle.mf_account.specs.declared.entry.Entry.{Entry}
-use Rattle.mf_account.specs.declared.entry.Kind.{Kind}
-use Rattle.mf_account.specs.declared.entry.Kind.TheVariants.{Repay, Fee, Penalty, Waive, WriteOff, Refund}
+use Rattle.mf_account.specs.contracts.names.KindChoice.TheImpl.Laws as entry_kind
 use Rattle.mf_office.specs.Texts.{IsCaller}
 use Rattle.mf_office.specs.Written.{caller_text}
 use Rattle.mf_office.specs.declared.caller.Caller.{Caller}
@@ -56,49 +48,18 @@ use Rattle.mf_store.specs.Looks.{staff_by_key, client_by_key, charge_by_key, pro
 
 -- ---- numbers that stand for choices
 
--- a number stands for one choice, where the choices are listed in the order of their numbers
-choice_same : {A : Type 0} (choices : List A) (number : A → ℕ) → ((x : A) → slice_get choices (number x - 1) ≡ Some x)
-    → (a b : A) → number a ≡ number b → a ≡ b
-choice_same choices number read a b e = some_is (sym (read b) ∙ ap (λ n. slice_get choices (n - 1)) (sym e) ∙ read a)
-
-role_read : (x : Role) → slice_get roles (role_number x - 1) ≡ Some x
-role_read Teller = refl
-role_read Officer = refl
-role_read Manager = refl
-
-kind_read : (x : ChargeKind) → slice_get kinds (kind_number x - 1) ≡ Some x
-kind_read Disbursement = refl
-kind_read Instalment = refl
-kind_read Overdue = refl
-kind_read DueDate = refl
-
-calc_read : (x : Calc) → slice_get calcs (calc_number x - 1) ≡ Some x
-calc_read calc.Flat = refl
-calc_read calc.OfAmount = refl
-calc_read calc.OfInterest = refl
-calc_read calc.OfBoth = refl
-
-method_read : (x : Method) → slice_get methods (method_number x - 1) ≡ Some x
-method_read method.Flat = refl
-method_read method.EqualPrincipal = refl
-method_read method.Fixed = refl
-
-frequency_read : (x : Freq) → slice_get frequencies (frequency_number x - 1) ≡ Some x
-frequency_read Weeks = refl
-frequency_read Months = refl
-
-strategy_read : (x : StrategyName) → slice_get strategies (strategy_number x - 1) ≡ Some x
-strategy_read MifosStandard = refl
-strategy_read PrincipalFirst = refl
-strategy_read InterestFirst = refl
-strategy_read DueFirst = refl
+-- a number stands for one choice
+choice_same : {A : Type 0} {Named : A → Type 0} (choices : List A) (number : A → ℕ) → ((x : A) → Named x
+    × (choice_numbered number choices (number x) ≡ Some x)) → (a b : A) → number a ≡ number b → a ≡ b
+choice_same choices number told a b e =
+    some_is (sym (told b).1 ∙ ap (choice_numbered number choices) (sym e) ∙ (told a).1)
 
 -- ---- values, by their rows
 
 staff_same : (x n : ℕ) (a b : Staff) → staff_in x n a ≡ staff_in x n b → a ≡ b
 staff_same x n a b e = λ t. record {
   name = (e t).name;
-  role = choice_same roles role_number role_read a.role b.role (λ k. (e k).role) t;
+  role = choice_same roles role_number role.told_apart-law a.role b.role (λ k. (e k).role) t;
 }
 
 client_same : (x n : ℕ) (a b : List ℕ) → client_in x n a ≡ client_in x n b → a ≡ b
@@ -107,8 +68,8 @@ client_same x n a b e = λ t. (e t).name
 charge_same : (n : ℕ) (a b : ListedCharge) → charge_as n a ≡ charge_as n b → a ≡ b
 charge_same n a b e = λ t. record {
   name = (e t).name;
-  kind = choice_same kinds kind_number kind_read a.kind b.kind (λ k. (e k).kind) t;
-  calc = choice_same calcs calc_number calc_read a.calc b.calc (λ k. (e k).calc) t;
+  kind = choice_same kinds kind_number charge_kind.told_apart-law a.kind b.kind (λ k. (e k).kind) t;
+  calc = choice_same calcs calc_number calc.told_apart-law a.calc b.calc (λ k. (e k).calc) t;
   value = amount_is a.value b.value (λ k. (e k).value) t;
 }
 
@@ -116,9 +77,10 @@ product_same : (n : ℕ) (a b : ListedProduct) → product_as n a ≡ product_as
 product_same n a b e = λ t. record {
   members = record {
     name = (e t).name;
-    method = choice_same methods method_number method_read a.members.method b.members.method (λ k. (e k).method) t;
+    method = choice_same methods method_number method.told_apart-law a.members.method b.members.method (λ k.
+        (e k).method) t;
     rate = (e t).rate;
-    freq = choice_same frequencies frequency_number frequency_read a.members.freq b.members.freq (λ k.
+    freq = choice_same frequencies frequency_number freq.told_apart-law a.members.freq b.members.freq (λ k.
         (e k).frequency) t;
     every = (e t).every;
     principal_grace = (e t).principal_grace;
@@ -129,8 +91,8 @@ product_same n a b e = λ t. record {
         amount_is a.members.max_principal b.members.max_principal (λ k. (e k).max_principal) t;
     min_periods = (e t).min_periods;
     max_periods = (e t).max_periods;
-    strategy = choice_same strategies strategy_number strategy_read a.members.strategy b.members.strategy (λ k.
-        (e k).strategy) t;
+    strategy = choice_same strategies strategy_number strategy.told_apart-law a.members.strategy b.members.strategy
+        (λ k. (e k).strategy) t;
     disbursement_charge = (e t).disbursement_charge;
     instalment_charge = (e t).instalment_charge;
     overdue_charge = (e t).overdue_charge;
@@ -179,14 +141,6 @@ offices_same i j rows (f ∷ fs) (g ∷ gs) p q h =
 
 -- ---- entries
 
-entry_kind_read : (x : Kind) → slice_get entry_kinds (entry_kind_number x - 1) ≡ Some x
-entry_kind_read Repay = refl
-entry_kind_read Fee = refl
-entry_kind_read Penalty = refl
-entry_kind_read Waive = refl
-entry_kind_read WriteOff = refl
-entry_kind_read Refund = refl
-
 caller_same : (a b : Caller) → IsCaller a → IsCaller b → caller_text a.office a.staff ≡ caller_text b.office b.staff
     → a ≡ b
 caller_same a b p q e = let one : Some a ≡ Some b = sym (caller_of-text (caller_text b.office b.staff) a p (sym e))
@@ -209,7 +163,7 @@ module _ (apart : (d e : ℕ) → day_text d ≡ day_text e → d ≡ e) where
   entry_same : (x n : ℕ) (a b : Entry) → IsCaller a.staff → IsCaller b.staff → entry_in x n a ≡ entry_in x n b → a ≡ b
   entry_same x n a b p q e = λ t. record {
     seq = (e t).seq;
-    kind = choice_same entry_kinds entry_kind_number entry_kind_read a.kind b.kind (λ k. (e k).kind) t;
+    kind = choice_same entry_kinds entry_kind_number entry_kind.told_apart-law a.kind b.kind (λ k. (e k).kind) t;
     day = apart a.day b.day (λ k. (e k).day) t;
     amount = amount_is a.amount b.amount (λ k. (e k).amount) t;
     instalment = (e t).instalment;

@@ -56,20 +56,20 @@ impl<S: Alter> Store<S> {
         }
     }
 
-    /// The terms that a product gives its loans, or None where there is no such product.
-    pub(crate) fn terms_of(&mut self, product: u32) -> Result<Option<Terms>, Fault>
+    /// The terms that a product gives its loans. Where there is no such product, the call gives up.
+    pub(crate) fn terms_of(&mut self, product: u32) -> Result<Terms, Fault>
         ensures asks { MayAskTables S.Store self.old self.new result }
         ensures value { IsClean S.Store self.new → (i : Institution) → StandsFor S.Store self.old i
-            → IfOk result (λ terms. terms ≡ terms_in i.catalogue product) }
+            → IfOk result (λ terms. terms_in i.catalogue product ≡ Some terms) }
     {
         let Some(product) = self.product(product)? else {
-            return Ok(None);
+            return Err(Fault::F20);
         };
         let members = product.members;
         let disbursement = self.named_charge(members.disbursement_charge)?;
         let instalment = self.named_charge(members.instalment_charge)?;
         let overdue = self.named_charge(members.overdue_charge)?;
-        Ok(Some(members.terms_with(disbursement, instalment, overdue)))
+        Ok(members.terms_with(disbursement, instalment, overdue))
     }
 
     /// The account of a loan that was disbursed on a day and has these entries. Where it can have none, the call gives
@@ -86,8 +86,7 @@ impl<S: Alter> Store<S> {
             → IfOk result (λ account. option_map account_by_replay (running_from loan.now entries.items (Some day)
             (terms_in i.catalogue loan.now.product)) ≡ Some account) }
     {
-        let named = self.terms_of(loan.product)?;
-        let terms = or_give_up(named)?;
+        let terms = self.terms_of(loan.product)?;
         let disbursed = mf_account::DisbursedLoan {
             terms,
             principal: loan.principal,
@@ -120,8 +119,7 @@ impl<S: Alter> Store<S> {
             → IfOk result (λ resumed. account_at account i ≡ Some resumed) }
     {
         let Account { office, number } = account;
-        let named = self.terms_of(loan.product)?;
-        let terms = or_give_up(named)?;
+        let terms = self.terms_of(loan.product)?;
         let entries = self.entries_at(alloc, Account { office, number })?;
         let parts = self.parts_at(alloc, Account { office, number })?;
         let disbursed = mf_account::DisbursedLoan {

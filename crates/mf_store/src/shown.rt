@@ -56,8 +56,7 @@ impl<S: Alter> Store<S> {
             → rows.now ≡ of_account [] (λ a. (state_of_loan a).rows) (account_in i.catalogue l)
             → IfOk result (λ sums. sums ≡ balances_in i.catalogue l) }
     {
-        let named = self.terms_of(loan.product)?;
-        let terms = or_give_up(named)?;
+        let terms = self.terms_of(loan.product)?;
         let found = open_balances(alloc, &terms, loan.principal, loan.periods, day, rows)?;
         or_give_up(found)
     }

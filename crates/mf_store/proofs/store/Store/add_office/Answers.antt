@@ -13,8 +13,9 @@ returns g c =
     let text : string_bytes c.into_text.result ≡ child_key c.in-Some.above c.args.number =
     c.into_text.ensures ∙ c.in_ok-key.ensures.key in
     let parent = c.get-parent.ensures.value in
-    c.make.ensures _ _ (stays_then g.S.Store _ _ _ c.in_ok-taken.ensures.asks.kept c.in_ok-above.ensures.asks.kept)
-    (λ clean i s admitted. let before = c.in_ok-above.ensures.asks.kept.premise clean in
+    c.make.ensures _ _ (stays_then g.S.Store _ _ _ c.in_ok-taken.ensures.asks.kept
+    c.in_ok-above.ensures.asks.kept) (λ clean i s admitted.
+    let before = c.in_ok-above.ensures.asks.kept.premise clean in
     let known = office_known c.in_ok-above.field-0 c.in-Some.above c.get-parent.result i c.in-Some.is
     (c.in_ok-above.ensures.value clean i (c.in_ok-taken.ensures.asks.kept.same before i s)) in
     let none = none_there (office_at c.args.number i.offices) (ap (is_there i.offices) (sym c.get.ensures.value)

@@ -1,8 +1,7 @@
-use Rattle.std.proofs.Common.{◌≡◌, Some, sym, ap, ◌∙◌}
+use Rattle.std.proofs.Common.{Some, sym, ap, ◌∙◌}
 use Rattle.std.specs.Option.{option_map}
-use Rattle.mf_model.specs.Institution.{Institution, item_numbered, product_in, product_of}
+use Rattle.mf_model.specs.Institution.{item_numbered, product_of}
 use Rattle.mf_store_values.specs.Flat.{product_as}
-use Rattle.mf_store.specs.Stands.{StandsFor, IsClean}
 use Rattle.mf_store.proofs.CatalogueLemmas.{known}
 use Rattle.mf_store.proofs.KeptLemmas.{learnt_asks, clean_before}
 use Rattle.mf_store.proofs.store.Store.product.Goals as goal

@@ -3,5 +3,7 @@ use Rattle.mf_store.proofs.store.Store.retire_product.Goals as goal
 
 pub returns : goal.returns
 returns g c =
-    c.make.ensures _ _ c.in_ok-write.ensures.asks.kept (λ clean i s admitted.
-    let carried = c.in_ok-write.ensures.carries clean i s admitted in (carried.becomes, retired_tells c.args.product i))
+    c.make.ensures _ _ c.in_ok-write.ensures.asks.kept (λ clean i s admitted. (
+      (c.in_ok-write.ensures.carries clean i s admitted).becomes,
+      retired_tells c.args.product i,
+    ))

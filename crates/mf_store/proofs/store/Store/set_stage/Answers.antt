@@ -2,7 +2,6 @@ use Rattle.std.proofs.Common.{sym, subst}
 use Rattle.mf_model.specs.declared.commit.Commit.TheVariants.{SetStage}
 use Rattle.mf_model.specs.Store.{after_commit}
 use Rattle.mf_store_commits.specs.Becoming.{Becomes}
-use Rattle.mf_store.specs.declared.known.News.TheVariants as news
 use Rattle.mf_store.proofs.NewsLemmas.{stage_tells}
 use Rattle.mf_store.proofs.store.Store.set_stage.Goals as goal
 

@@ -14,7 +14,7 @@ use Rattle.mf_store_commits.proofs.CommitLemmas.{none_there}
 use Rattle.mf_store.proofs.CatalogueLemmas.{known}
 use Rattle.mf_store_commits.proofs.EnteredLemmas.{no_entries}
 use Rattle.mf_store.proofs.KeptLemmas.{stays_then}
-use Rattle.mf_store_commits.proofs.LoanLemmas.{staged_becomes, stage_suits, loan_of}
+use Rattle.mf_store_commits.proofs.LoanLemmas.{staged_becomes, loan_of, stage_suits}
 use Rattle.mf_store.proofs.store.Store.stage_writes.Goals as goal
 
 pub returns-clause-kept : goal.returns-clause-kept
