@@ -1,5 +1,5 @@
 -- A store over tables of which one schema alone is the case.
-use Rattle.std.proofs.Common.{◌≡◌, ◌≢◌, ◌⊎◌, inl, inr, [], ◌∷◌, Result, Ok, Err, IfOk, IfErr, false, IsTrue, sym, ◌∙◌}
+use Rattle.std.proofs.Common.{◌≡◌, ◌⊎◌, inl, inr, [], ◌∷◌, Result, Ok, Err, IfOk, IfErr, false, IsTrue, sym, ◌∙◌}
 use Rattle.mf_base.specs.declared.fault.Fault.{Fault}
 use Rattle.mf_base.specs.declared.fault.Fault.TheVariants.{F19, F20}
 use Rattle.sqlite.specs.Held.{Held, state}

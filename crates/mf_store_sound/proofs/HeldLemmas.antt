@@ -1,6 +1,6 @@
 -- The rows of a sound institution are ones that records can hold: numbers of 32 bits, and texts in UTF-8.
 use Rattle.std.proofs.Common.{◌≡◌, ◌≤◌, ◌<◌, ◌+◌, ◌^◌, ◌/◌, ◌%◌, ◌==◌, inl, inr, pos, nat_le, ℕ, ℤ, zero, suc, Bool}
-use Rattle.std.proofs.Common.{true, false, cond, List, [], ◌∷◌, ◌++◌, map, length, slice_get, Option, Some, None, refl}
+use Rattle.std.proofs.Common.{true, false, List, [], ◌∷◌, ◌++◌, map, length, slice_get, Option, Some, None, refl}
 use Rattle.std.proofs.Common.{sym, ap, ◌∙◌, subst, arith, true≢false, codes}
 use Rattle.std.specs.Option.{option_map, is_some}
 use Rattle.std.specs.Prelude.{IfSome}
@@ -51,7 +51,7 @@ use Rattle.mf_account.specs.declared.entry.Kind.TheVariants as kind
 use Rattle.mf_alloc.specs.declared.row.Portion.{Portion}
 use Rattle.mf_alloc.specs.declared.row.Portion.TheVariants as portion
 use Rattle.mf_model.specs.Institution.{Institution, Catalogue, ListedCharge, Ledger, ListedProduct, Office, Rows, Staff}
-use Rattle.mf_model.specs.Institution.{office_at, item_numbered, charge_def, charge_in, product_of, product_in}
+use Rattle.mf_model.specs.Institution.{item_numbered, charge_def, charge_in, product_of, product_in}
 use Rattle.mf_account.specs.Receipts.{IsReceipt}
 use Rattle.mf_account.proofs.ReceiptLemmas.{receipt_is_text}
 use Rattle.mf_model.specs.Receipts.{uses_from, uses_in, use_of}
@@ -85,6 +85,7 @@ use Rattle.mf_store_sound.specs.Held.{CanHoldRows}
 use Rattle.mf_store_sound.specs.Schemas.{tables_under}
 use Rattle.mf_store_sound.proofs.NestedLemmas.{◌also◌}
 use Rattle.mf_store_sound.proofs.StoredLemmas.{all_parts}
+use Rattle.mf_model.proofs.SoundLemmas.{sound_tree}
 use Rattle.mf_model.proofs.StaffLemmas.{staff_are_callers}
 use Rattle.mf_store_values.proofs.FlatLemmas.{numbered-suc}
 use Rattle.mf_store_values.proofs.SoundLemmas.{has_number}
@@ -209,16 +210,6 @@ key_utf8 (suc n) parents low x h = go (parents x) refl (key_utf8 n parents low)
         (IsUtf8-append (decimal x) _ (IsUtf8-from_ascii (decimal x) (IsAscii-decimal x (omega (arith, h))))
         (IsUtf8-from_ascii (codes ".") (low_bytes (codes ".") (omega arith, tt))))
 
-there_low : (k : Catalogue) (staffed : Caller → Bool) (fs : List Office) → AllByRecursion (IsSoundOffice k staffed) fs
-    → (x : ℕ) → is_some (office_at x fs) ≡ true → x ≤ 9999
-there_low k staffed [] all x h = absurd (true≢false (sym h))
-there_low k staffed (f ∷ fs) all x h = go (f.number == x) refl h (there_low k staffed fs all.1 x)
-  where
-    go : (b : Bool) → (f.number == x) ≡ b → is_some (cond b (Some f) (office_at x fs)) ≡ true
-        → (is_some (office_at x fs) ≡ true → x ≤ 9999) → x ≤ 9999
-    go true e h more = let most = all.0.number.1 in let same : f.number ≡ x = grind (arith, nat_tests) in omega arith
-    go false e h more = more h
-
 own_skip : (f : Office) (whole gs : List Office) → Above f.number gs → AllByRecursion (λ (g : Office). parent_of whole
     g.number ≡ g.parent) gs → AllByRecursion (λ (g : Office). parent_of (f ∷ whole) g.number ≡ g.parent) gs
 own_skip f whole [] above all = tt
@@ -281,7 +272,7 @@ held_offices i sound = all_map (HasFields (table.offices).columns) office_row (t
     (each i.offices sound.each (own_parents i.offices sound.tree.ascending))
   where
     up : (x p : ℕ) → parent_of i.offices x ≡ Some p → p ≤ 9999
-    up x p e = there_low i.catalogue (is_staff i.offices) i.offices sound.each p (sound.tree.parents_there x p e)
+    up x p e = ((sound_tree i sound).numbered p (sound.tree.parents_there x p e)).1
 
     parent_low : (o : Option ℕ) (x : ℕ) → parent_of i.offices x ≡ o → IfSome o (λ n. n < 2 ^ 32)
     parent_low None x e = tt

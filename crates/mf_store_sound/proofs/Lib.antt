@@ -8,6 +8,7 @@ pub mod OfficeTreeLemmas
 pub mod LoanLemmas
 pub mod SealLemmas
 pub mod EnteredLemmas
+pub mod RisingLemmas
 pub mod StaffLemmas
 pub mod LoanPartLemmas
 pub mod OfficePartLemmas

@@ -1,11 +1,9 @@
 -- The rows of a sound institution rise by the key of their table.
-use Rattle.std.proofs.Common.{◌≡◌, ◌<◌, ◌≤◌, ◌+◌, ◌∙◌, ℕ, zero, suc, length, Bool, List, [], ◌∷◌, map, Option, None}
+use Rattle.std.proofs.Common.{◌≡◌, ◌<◌, ◌≤◌, ◌+◌, ℕ, zero, suc, length, Bool, List, [], ◌∷◌, map, Option, None}
 use Rattle.std.proofs.Common.{Some, refl, sym, subst, arith, Ordering, Less, nat_cmp}
 use Rattle.std.specs.List.{AllByRecursion}
 use Rattle.std.specs.Ordering.{ordering_then}
-use Rattle.std.proofs.lemmas.Bool.Decides.{nat_tests}
-use Rattle.sqlite_keyed.proofs.ListLemmas.{all_of, all-append, all-map, all_weaker, ascending-append}
-use Rattle.sqlite_keyed.proofs.ListLemmas.{ascending-map, ascending_weaker}
+use Rattle.sqlite_keyed.proofs.ListLemmas.{all_of, all-append, all_weaker, ascending-append}
 use Rattle.sqlite_trees.specs.Tree.{IsAscending}
 use Rattle.mf_office.specs.declared.caller.Caller.{Caller}
 use Rattle.mf_account.specs.Change.{settled_in}
@@ -22,41 +20,19 @@ use Rattle.mf_store_schema.specs.Rows.{by_meta, by_office, by_staff, by_client, 
 use Rattle.mf_store_schema.specs.Rows.{by_entry, by_receipt, by_instalment, by_share}
 use Rattle.mf_store_schema.specs.declared.offices.OfficeRow.{OfficeRow}
 use Rattle.mf_store_schema.proofs.OrderLemmas.{by_receipt_total}
-use Rattle.mf_store_values.specs.Flat.{numbered_from, tables_of, office_under, staff_in, client_in, charge_as}
+use Rattle.mf_store_values.specs.Flat.{tables_of, office_under, staff_in, client_in, charge_as}
 use Rattle.mf_store_values.specs.Flat.{product_as, loan_in, entry_in, instalment_in, share_in, instalments_kept}
-use Rattle.mf_store_values.specs.Flat.{placed_parts, parts_from, shares_kept, kept_of, loans_of, rows_of_loans}
-use Rattle.mf_store_values.specs.Flat.{rows_by_loan, own_entries}
+use Rattle.mf_store_values.specs.Flat.{placed_parts, parts_from, shares_kept, kept_of, loans_of}
+use Rattle.mf_store_values.specs.Flat.{own_entries}
 use Rattle.mf_store_values.specs.ReceiptRows.{receipts_carried}
 use Rattle.mf_store_values.proofs.ReceiptLemmas.{receipts_apart}
 use Rattle.mf_store_values.proofs.SortedLemmas.{first_less, rises_sorted}
 use Rattle.mf_store_sound.proofs.HeldLemmas.{AreNumberedFrom, numbers_by_place}
-use Rattle.mf_store_values.proofs.LoanRowLemmas.{all_loans, all_offices}
 use Rattle.mf_store_sound.proofs.ReceiptLemmas.{no_ties_of}
-use Rattle.mf_store_sound.proofs.StaffLemmas.{rows_rise}
+use Rattle.mf_store_sound.proofs.RisingLemmas.{lower, same_first, numbered_rise, rows_rise, by_loan_rise}
 use Rattle.mf_store_sound.proofs.StoredLemmas.{numbered_each}
 
--- ---- orders of keys
-
-lower : (n m : ℕ) → n < m → nat_cmp n m ≡ Less
-lower n m h = grind (arith, nat_tests)
-
-greater_number : (x n m : ℕ) (o : Ordering) → n < m → ordering_then (nat_cmp x x) (ordering_then (nat_cmp n m) o) ≡ Less
-greater_number x n m o h = grind (arith, nat_tests)
-
-same_number : (x n : ℕ) (o : Ordering) → ordering_then (nat_cmp x x) (ordering_then (nat_cmp n n) o) ≡ o
-same_number x n o = grind (arith, nat_tests)
-
--- ---- rows by one number
-
-module _ {A R : Type 0} (make : ℕ → A → R) (cmp : R → R → Ordering) (ranks : (n m : ℕ) (a b : A)
-    → cmp (make n a) (make m b) ≡ nat_cmp n m) where
-  numbered_rise : (n : ℕ) (xs : List A) → IsAscending (λ a b. cmp a b ≡ Less) (numbered_from make n xs)
-  numbered_rise n [] = tt
-  numbered_rise n (x ∷ xs) = (
-    numbered_each make (λ r. cmp (make n x) r ≡ Less) (n + 1) xs (λ m a later. ranks n m x a
-        ∙ lower n m (omega (arith, later))),
-    numbered_rise (n + 1) xs,
-  )
+-- ---- offices
 
 module _ (parents : ℕ → Option ℕ) where
   office_after : (f : Office) (fs : List Office) → Above f.number fs
@@ -68,46 +44,6 @@ module _ (parents : ℕ → Option ℕ) where
       (map (office_under parents) fs)
   under_rise [] up = tt
   under_rise (f ∷ fs) up = (office_after f fs up.0, under_rise fs up.1)
-
--- ---- rows by office, loan and what follows
-
-module _ {A R : Type 0} (make : ℕ → ℕ → A → R) (of : Ledger → List A) (cmp : R → R → Ordering) (key : A → A → Ordering)
-    (ranks : (x n y m : ℕ) (a b : A) → cmp (make x n a) (make y m b) ≡ ordering_then (nat_cmp x y)
-    (ordering_then (nat_cmp n m) (key a b))) where
-  abbrev Rises : List R → Type 0
-  Rises = IsAscending (λ a b. cmp a b ≡ Less)
-
-  abbrev AreRising : List A → Type 0
-  AreRising = IsAscending (λ a b. key a b ≡ Less)
-
-  one_loan : (x n : ℕ) (items : List A) → AreRising items → Rises (map (make x n) items)
-  one_loan x n items up =
-      ascending-map (λ a b. cmp a b ≡ Less) (make x n) items (ascending_weaker (λ a b. key a b ≡ Less)
-      (λ a b. cmp (make x n a) (make x n b) ≡ Less) (λ a b h. ranks x n x n a b ∙ same_number x n (key a b) ∙ h)
-      items up)
-
-  each_loan : (x n : ℕ) (ls : List Ledger) → AllByRecursion (λ (l : Ledger). AreRising (of l)) ls
-      → Rises (rows_of_loans make of x n ls)
-  each_loan x n [] up = tt
-  each_loan x n (l ∷ ls) up =
-      let rest = rows_of_loans make of x (n + 1) ls in
-      ascending-append (λ a b. cmp a b ≡ Less) (map (make x n) (of l)) rest (one_loan x n (of l) up.0)
-      (each_loan x (n + 1) ls up.1)
-      (all-map (λ r. AllByRecursion (λ s. cmp r s ≡ Less) rest) (make x n)
-      (λ a. all_loans make of (λ s. cmp (make x n a) s ≡ Less) x (n + 1) ls (λ m b low. ranks x n x m a b
-      ∙ greater_number x n m (key a b) (omega (arith, low)))) (of l))
-
-  -- the rows that each loan has rise, loan by loan and office by office, where those of one loan do
-  pub by_loan_rise : (fs : List Office) → Ascending fs → AllByRecursion (λ (f : Office). AllByRecursion (λ (l : Ledger).
-      AreRising (of l)) f.rows.loans) fs → Rises (rows_by_loan make of fs)
-  by_loan_rise [] up each = tt
-  by_loan_rise (f ∷ fs) up each =
-      let rest = rows_by_loan make of fs in
-      ascending-append (λ a b. cmp a b ≡ Less) (rows_of_loans make of f.number 1 f.rows.loans) rest
-      (each_loan f.number 1 f.rows.loans each.0) (by_loan_rise fs up.1 each.1)
-      (all_loans make of (λ r. AllByRecursion (λ s. cmp r s ≡ Less) rest) f.number 1 f.rows.loans (λ m a low.
-      all_offices make of (λ s. cmp (make f.number m a) s ≡ Less) f.number fs up.0
-      (λ y k b lt. ranks f.number m y k a b ∙ first_less f.number y (ordering_then (nat_cmp m k) (key a b)) lt)))
 
 -- ---- entries
 
@@ -155,9 +91,6 @@ kept_instalments_rise a = numbered_rise (λ n row. (n, row)) numbered_cmp (λ n 
 abbrev placed_cmp : ℕ × (ℕ × SettledPart) → ℕ × (ℕ × SettledPart) → Ordering
 placed_cmp a b = ordering_then (nat_cmp a.0 b.0) (nat_cmp a.1.0 b.1.0)
 
-same_entry : (seq : ℕ) (o : Ordering) → ordering_then (nat_cmp seq seq) o ≡ o
-same_entry seq o = grind (arith, nat_tests)
-
 all_parts : (Q : ℕ × (ℕ × SettledPart) → Type 0) (parts : ℕ → List SettledPart) (seq count : ℕ)
     → ((s : ℕ) (p : ℕ × SettledPart)
     → seq ≤ s → Q (s, p)) → AllByRecursion Q (parts_from parts seq count)
@@ -173,7 +106,7 @@ parts_rise parts seq zero = tt
 parts_rise parts seq (suc count) =
     let rest = parts_from parts (seq + 1) count in
     ascending-append (λ x y. placed_cmp x y ≡ Less) (placed_parts seq (parts seq)) rest
-    (numbered_rise (λ at part. (seq, (at, part))) placed_cmp (λ n m x y. same_entry seq (nat_cmp n m)) 1 (parts seq))
+    (numbered_rise (λ at part. (seq, (at, part))) placed_cmp (λ n m x y. same_first seq (nat_cmp n m)) 1 (parts seq))
     (parts_rise parts (seq + 1) count)
     (numbered_each (λ at part. (seq, (at, part))) (λ x. AllByRecursion (λ y. placed_cmp x y ≡ Less) rest) 1 (parts seq)
     (λ at part later. all_parts (λ y. placed_cmp (seq, (at, part)) y ≡ Less) parts (seq + 1) count (λ s q low.

@@ -3,7 +3,7 @@ use Rattle.std.proofs.Common.{◌≡◌, ◌<◌, ◌≤◌, ◌+◌, ◌-◌, �
 use Rattle.std.proofs.Common.{length, slice_get, None, Some, Ok, Err, refl, sym, ap, subst, arith}
 use Rattle.std.proofs.Common.{Ordering, Less, is_eq, nat_cmp, ◌==◌}
 use Rattle.std.proofs.Math.Bool.{or-false}
-use Rattle.std.specs.List.{AllByRecursion, list_any}
+use Rattle.std.specs.List.{list_any}
 use Rattle.std.specs.List.Sorted.{IsBinarySearchResult}
 use Rattle.std.specs.Option.{is_some}
 use Rattle.std.specs.Ordering.{ordering_then}
@@ -12,44 +12,15 @@ use Rattle.std.proofs.lemmas.Bool.{ne_eqb}
 use Rattle.std.proofs.lemmas.Bool.Decides.{nat_tests}
 use Rattle.std.proofs.lemmas.Cmp.{on_total, then_total, nat_cmp_total}
 use Rattle.std.proofs.lemmas.List.Folds.{list_any-append, list_any_at, list_any_none}
-use Rattle.sqlite_keyed.proofs.ListLemmas.{all_weaker, all-flat_map, ascending-append}
 use Rattle.sqlite_trees.specs.Tree.{IsAscending}
-use Rattle.mf_model.specs.Institution.{Office, Rows, Staff, office_at, item_numbered}
+use Rattle.mf_model.specs.Institution.{Office, Staff, office_at, item_numbered}
 use Rattle.mf_model.specs.Sound.{is_staff}
 use Rattle.mf_model.specs.Tree.{Above, Ascending}
 use Rattle.mf_store_schema.specs.Rows.{by_staff}
 use Rattle.mf_store_schema.specs.declared.staff.StaffRow.{StaffRow}
 use Rattle.mf_store_values.specs.Flat.{numbered_from, all_rows, staff_in}
-use Rattle.mf_store_values.proofs.SortedLemmas.{first_less}
+use Rattle.mf_store_sound.proofs.RisingLemmas.{rows_rise}
 use Rattle.mf_store_sound.proofs.SearchLemmas.{absent}
-use Rattle.mf_store_sound.proofs.StoredLemmas.{numbered_each}
-
--- ---- the rows rise by office and number
-
-module _ {A R : Type 0} (make : ℕ → ℕ → A → R) (of : Rows → List A) (cmp : R → R → Ordering)
-    (ranks : (x n y m : ℕ) (a b : A) → cmp (make x n a) (make y m b) ≡ ordering_then (nat_cmp x y) (nat_cmp n m)) where
-  abbrev IsAfter : ℕ → ℕ → A → R → Type 0
-  IsAfter x n a r = cmp (make x n a) r ≡ Less
-
-  -- rows of a greater office come later, and so do those of the same under greater numbers
-  all_after : (x n : ℕ) (a : A) (fs : List Office) → Above x fs → AllByRecursion (IsAfter x n a) (all_rows make of fs)
-  all_after x n a fs up = all-flat_map (IsAfter x n a) _ fs (all_weaker _ _ (λ f lt. numbered_each (make f.number)
-      (IsAfter x n a) 1 (of f.rows) (λ m b le. ranks x n f.number m a b ∙ first_less x f.number (nat_cmp n m) lt))
-      fs up)
-
-  block_rises : (x n : ℕ) (xs : List A) → IsAscending (λ a b. cmp a b ≡ Less) (numbered_from (make x) n xs)
-  block_rises x n [] = tt
-  block_rises x n (a ∷ xs) = (
-    numbered_each (make x) (IsAfter x n a) (n + 1) xs (λ m b le. ranks x n x m a b
-        ∙ (let later : ordering_then (nat_cmp x x) (nat_cmp n m) ≡ Less = grind (arith, nat_tests) in later)),
-    block_rises x (n + 1) xs,
-  )
-
-  pub rows_rise : (fs : List Office) → Ascending fs → IsAscending (λ a b. cmp a b ≡ Less) (all_rows make of fs)
-  rows_rise [] up = tt
-  rows_rise (f ∷ fs) up =
-      ascending-append _ _ _ (block_rises f.number 1 (of f.rows)) (rows_rise fs up.1)
-      (numbered_each (make f.number) _ 1 (of f.rows) (λ n a le. all_after f.number n a fs up.0))
 
 -- ---- one row by its key
 

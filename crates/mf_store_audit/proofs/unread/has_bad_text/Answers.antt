@@ -1,5 +1,4 @@
-use Rattle.std.proofs.Common.{◌+◌, arith, subst, sym, ◌∙◌, true≢false}
-use Rattle.sqlite.specs.Order.{column}
+use Rattle.std.proofs.Common.{arith, subst, sym, ◌∙◌, true≢false}
 use Rattle.mf_store_audit.specs.Unread.{IsBadText}
 use Rattle.mf_store_audit.proofs.UnreadLemmas.{below_more, none_bad, has_none}
 use Rattle.mf_store_audit.proofs.unread.has_bad_text.Goals.{in-Ok+else-is_bad_text, in_default}
