@@ -70,7 +70,8 @@ module _ {A R : Type 0} (make : ℕ → ℕ → A → R) (of : Ledger → List A
   one_loan : (x n : ℕ) (items : List A) → AreRising items → Rises (map (make x n) items)
   one_loan x n items up =
       ascending-map (λ a b. cmp a b ≡ Less) (make x n) items (ascending_weaker (λ a b. key a b ≡ Less)
-      (λ a b. cmp (make x n a) (make x n b) ≡ Less) (λ a b h. ranks x n x n a b ∙ same_first x (ordering_then (nat_cmp n n) (key a b)) ∙ same_first n (key a b) ∙ h)
+      (λ a b. cmp (make x n a) (make x n b) ≡ Less) (λ a b h. ranks x n x n a b
+      ∙ same_first x (ordering_then (nat_cmp n n) (key a b)) ∙ same_first n (key a b) ∙ h)
       items up)
 
   each_loan : (x n : ℕ) (ls : List Ledger) → AllByRecursion (λ (l : Ledger). AreRising (of l)) ls
