@@ -6,6 +6,7 @@ import time
 
 PATIENCE = 2  # seconds that one node is waited for
 WRITER, LOG, KEPT, LAST = "microloan/writer", "microloan/log/", "microloan/kept/", "~"
+INSTITUTION = "microloan/institution"
 
 
 class Lost(Exception):
@@ -51,9 +52,11 @@ class Etcd:
         text = base64.b64decode
         return [(text(row["key"]).decode(), text(row.get("value", "")), int(row["create_revision"])) for row in rows]
 
-    def put_where(self, revisions, puts, lease=0):
-        """Puts all, where each of these keys was made at this revision (0: isn't there); tells whether it did."""
+    def put_where(self, revisions, puts, lease=0, there=()):
+        """Puts all, where each of these keys was made at this revision (0: isn't there), and those of `there` stand;
+        tells whether it did."""
         compare = [{"key": encoded(key), "target": "CREATE", "create_revision": at} for key, at in revisions]
+        compare += [{"key": encoded(key), "target": "CREATE", "result": "GREATER"} for key in there]
         puts = [{"key": encoded(key), "value": encoded(value), "lease": lease} for key, value in puts]
         asked = {"compare": compare, "success": [{"request_put": put} for put in puts]}
         return self.call("/kv/txn", asked).get("succeeded", False)

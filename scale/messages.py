@@ -79,5 +79,5 @@ def serve(address, port, answer):
     the response; many threads call it."""
     server = Server((address, port), Handler)
     server.answer = answer
-    threading.Thread(target=server.serve_forever, daemon=True).start()
+    threading.Thread(target=server.serve_forever, args=(0.05,), daemon=True).start()
     return server

@@ -1,0 +1,217 @@
+"""The desk of a replica: `microloan batch` over a file, the number of the log's line that it was fed last, and the
+folder that keeps copies of the file.
+
+Of the folder only what this module made is ever deleted: `kept-NUMBER` (a copy), `part` (a copy that was not finished)
+and `run-XXXXXXXX` (the file of a process), and of these only such as hold a desk's files and nothing else.
+"""
+import fcntl
+import hashlib
+import json
+import os
+import re
+import shutil
+import sqlite3
+import subprocess
+import tempfile
+import time
+
+from messages import GIVEN_UP
+
+TOP = os.path.dirname(os.path.dirname(os.path.abspath(__file__)))
+PROGRAM = os.environ.get("MICROLOAN", os.path.join(TOP, "microloan"))
+FILE, PLACE = "desk.db", "place.json"
+FILES = {FILE, FILE + "-wal", PLACE, PLACE + ".new"}
+NOTE_EVERY = 1  # seconds between two notes of a run's place
+MADE = re.compile("kept-[0-9]+|part|run-[a-z0-9_]{8}")
+
+
+class DeskFailed(Exception):
+    """The number of the desk is not known."""
+
+
+class Refused(Exception):
+    """This folder and this log don't belong together, or the folder is in use: a person has to look."""
+
+
+class Place:
+    """Where a copy stands: of which institution it is, how many lines of the log it holds, and the sum of the last of
+    them (None at 0). It lies beside the copy, so that it goes wherever the copy is taken."""
+
+    def __init__(self, institution, number=0, line=None):
+        self.institution, self.number, self.line = institution, number, line
+
+    @staticmethod
+    def beside(folder):
+        """The place of a copy; none where there is no such file, as beside an institution that was brought here."""
+        try:
+            with open(os.path.join(folder, PLACE), encoding="utf-8") as file:
+                told = json.load(file)
+            return Place(told["institution"], told["number"], told["line"])
+        except FileNotFoundError:
+            return None
+        except (ValueError, KeyError, TypeError):
+            raise Refused(f"{os.path.join(folder, PLACE)} can't be read") from None
+
+    def write(self, folder):
+        path = os.path.join(folder, PLACE)
+        with open(path + ".new", "w", encoding="utf-8") as file:
+            json.dump(vars(self), file)
+        os.replace(path + ".new", path)
+
+
+def sum_of(value):
+    """The sum by which a line of the log is known again; None for no line."""
+    return None if value is None else hashlib.sha256(value).hexdigest()
+
+
+def sum_of_rows(folder):
+    """The sum of all rows of a copy's tables, whatever the order in which they were written."""
+    with tempfile.TemporaryDirectory() as scratch:
+        for name in FILES & set(os.listdir(folder)):
+            shutil.copy(os.path.join(folder, name), scratch)
+        tables = sqlite3.connect(os.path.join(scratch, FILE))
+        try:
+            found = hashlib.sha256()
+            names = tables.execute("select name from sqlite_schema where type = 'table' order by name").fetchall()
+            for (name,) in names:
+                columns = len(tables.execute(f'pragma table_info("{name}")').fetchall())
+                order = ",".join(str(column) for column in range(1, columns + 1))
+                found.update(name.encode())
+                for row in tables.execute(f'select * from "{name}" order by {order}'):
+                    found.update(repr(row).encode())
+            return found.hexdigest()
+        except sqlite3.DatabaseError as why:
+            raise Refused(f"{os.path.join(folder, FILE)} is no institution: {why}") from None
+        finally:
+            tables.close()
+
+
+class Folder:
+    """The folder of a replica, which this process alone uses until it ends."""
+
+    def __init__(self, path):
+        self.path = path
+        os.makedirs(path, exist_ok=True)
+        self.lock = os.open(self.path_of("lock"), os.O_RDWR | os.O_CREAT, 0o600)
+        try:
+            fcntl.flock(self.lock, fcntl.LOCK_EX | fcntl.LOCK_NB)
+        except OSError:
+            raise Refused(f"another process uses {path}") from None
+        self.kept = max([int(name[5:]) for name in self.made() if name.startswith("kept-")], default=0)
+
+    def path_of(self, name):
+        return os.path.join(self.path, name)
+
+    def copy(self):
+        """The folder of the newest copy; none where nothing was kept or brought here."""
+        copy = self.path_of(f"kept-{self.kept}")
+        return copy if os.path.isdir(copy) else None
+
+    def made(self):
+        """What this module made here: a folder under one of its names, with a desk's files and nothing else."""
+        with os.scandir(self.path) as entries:
+            folders = [entry for entry in entries if MADE.fullmatch(entry.name) and entry.is_dir(follow_symlinks=False)]
+        return [folder.name for folder in folders if FILES.issuperset(os.listdir(folder.path))]
+
+    def runs(self):
+        """The files of processes that had followed the log to its end, each with the place that it reached at least."""
+        found = {name: Place.beside(self.path_of(name)) for name in self.made() if name.startswith("run-")}
+        return {name: place for name, place in found.items() if place}
+
+    def sweep(self, runs):
+        """Deletes what is older than the newest copy, and the files of processes that died before they had followed the
+        log to its end: these hold nothing that the log doesn't. Others stay unless they are named."""
+        stay = {f"kept-{self.kept}"} | (set(self.runs()) - runs)
+        for name in self.made():
+            if name not in stay:
+                shutil.rmtree(self.path_of(name), ignore_errors=True)
+
+    def take(self, run, place):
+        """Makes a run's file, whose process has ended, the newest copy, whole or not at all."""
+        part, before = self.path_of("part"), self.copy()
+        place.write(run)
+        os.rename(run, part)
+        for path in [os.path.join(part, name) for name in os.listdir(part)] + [part]:
+            with_file(path, os.fsync)
+        os.rename(part, self.path_of(f"kept-{place.number}"))
+        with_file(self.path, os.fsync)
+        self.kept = place.number
+        if before:
+            shutil.rmtree(before)
+
+
+def with_file(path, act):
+    number = os.open(path, os.O_RDONLY)
+    try:
+        act(number)
+    finally:
+        os.close(number)
+
+
+class Desk:
+    """`microloan batch` over a copy of the folder's newest copy."""
+
+    def __init__(self, folder, institution):
+        self.folder, self.institution = folder, institution
+        self.earlier = set(folder.runs())  # to be kept until a newer copy stands
+        copy = folder.copy()
+        place = (copy and Place.beside(copy)) or Place(institution)
+        self.number, self.line = place.number, place.line
+        self.asked_at = None  # since when it owes an answer
+        folder.sweep(runs=set())
+        self.start()
+
+    def start(self):
+        """Begins with the newest copy, in a folder of its own: the process of a run that was killed may still be
+        ending in its. It is open, however long that takes, once it has answered a reading."""
+        self.run = tempfile.mkdtemp(prefix="run-", dir=self.folder.path)
+        self.noted_at = None
+        words, copy = [PROGRAM, "batch", "--file", os.path.join(self.run, FILE)], self.folder.copy()
+        if copy:
+            shutil.copytree(copy, self.run, dirs_exist_ok=True, ignore=shutil.ignore_patterns(PLACE))
+            words.append("--existing")
+        self.process = subprocess.Popen(words, stdin=subprocess.PIPE, stdout=subprocess.PIPE, start_new_session=True)
+        self.answer(b"1/1 GET /business-day")
+
+    def answer(self, line):
+        """The reply to a reading, or to a line that `feed` counts."""
+        self.asked_at = time.monotonic()
+        try:
+            self.process.stdin.write(line + b"\n")
+            self.process.stdin.flush()
+        except OSError:
+            raise DeskFailed("it ended") from None
+        reply = self.process.stdout.readline()
+        self.asked_at = None
+        if not reply.endswith(b"\n") or reply.startswith(GIVEN_UP):
+            raise DeskFailed(f"it answered {reply[:40]}")
+        return reply[:-1]
+
+    def feed(self, value, line):
+        """The reply to the next line of the log, which stands there as `value`."""
+        reply = self.answer(line)
+        self.number, self.line = self.number + 1, sum_of(value)
+        return reply
+
+    def is_silent(self, seconds):
+        """Whether it has owed an answer for longer than so many seconds."""
+        asked_at = self.asked_at
+        return asked_at is not None and time.monotonic() - asked_at > seconds
+
+    def note(self):
+        """Notes now and then how far the file is at least. It is called first where the desk has followed the log to
+        its end, and from then on the file is worth keeping (`Folder.runs`)."""
+        if self.noted_at is None or time.monotonic() - self.noted_at > NOTE_EVERY:
+            Place(self.institution, self.number, self.line).write(self.run)
+            self.noted_at = time.monotonic()
+
+    def keep(self):
+        """Ends the process and keeps a copy of its file. Files of earlier processes are older than that."""
+        self.process.stdin.close()
+        if self.process.wait() != 0:
+            raise DeskFailed(f"it ended with status {self.process.returncode}")
+        if self.number > self.folder.kept:
+            self.folder.take(self.run, Place(self.institution, self.number, self.line))
+        if self.noted_at is not None:
+            self.folder.sweep(runs=self.earlier | {os.path.basename(self.run)})
+            self.earlier = set()
