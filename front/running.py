@@ -68,11 +68,6 @@ def answer_lines(path, lines):
     return done.stdout
 
 
-def is_readable_by_workers(path):
-    words = ["setpriv", f"--reuid={WORKERS}", f"--regid={WORKERS}", "--clear-groups", "test", "-r", path]
-    return subprocess.run(words, check=False).returncode == 0
-
-
 class Serve:
     """`microloan serve` over a file."""
 
@@ -118,7 +113,8 @@ class Nginx:
         self.folder = folder
         self.port = port
         self.desk_port = desk_port
-        self.pages = pages or os.path.join(FRONT, "pages")
+        self.source = pages or os.path.join(FRONT, "pages")
+        self.pages = os.path.join(folder, "pages")
         self.people = os.path.join(folder, "people")
         self.log = os.path.join(folder, "messages.log")
         self.process = None
@@ -130,10 +126,8 @@ class Nginx:
         os.makedirs(self.people, mode=0o750, exist_ok=True)
         if is_root:
             os.chown(self.people, 0, grp.getgrnam(WORKERS).gr_gid)
-            if not is_readable_by_workers(os.path.join(self.pages, "index.html")):
-                copy = os.path.join(self.folder, "pages")
-                shutil.rmtree(copy, ignore_errors=True)
-                self.pages = shutil.copytree(self.pages, copy)
+        shutil.rmtree(self.pages, ignore_errors=True)
+        subprocess.run([os.path.join(FRONT, "lay-pages"), "--pages", self.source, self.pages], check=True, umask=0o022)
         for name in ("passwords", "staff.map"):
             path = os.path.join(self.people, name)
             if not os.path.exists(path):

@@ -109,8 +109,11 @@ class Reader:
         return self.driver.execute_script(text, *values)
 
     def module(self, text):
-        """What an asynchronous script answers, which may import modules of the pages."""
-        begin = "const done = arguments[arguments.length - 1]; (async () => {"
+        """What an asynchronous script answers. `load` loads a module of the pages by its path."""
+        begin = (
+            "const done = arguments[arguments.length - 1]; const files = document.querySelector('script[type=module]');"
+            "const load = (path) => import(new URL(path, files.src)); (async () => {"
+        )
         return self.driver.execute_async_script(f"{begin} {text} }})().then(done, (error) => done(String(error)))")
 
     # what stands there

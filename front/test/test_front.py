@@ -1,6 +1,7 @@
 """Tests of the front: who gets through, as whom, and what is told when the program can't be reached."""
 import concurrent.futures
 import contextlib
+import gzip
 import http.server
 import json
 import os
@@ -194,7 +195,8 @@ class OtherSites(unittest.TestCase):
                 self.assertEqual(fields["Referrer-Policy"], "no-referrer")
                 self.assertEqual(fields["X-Frame-Options"], "DENY")
                 kept = "no-store" if path.startswith(("/api/", "/me")) else "no-cache"
-                self.assertEqual(fields["Cache-Control"], kept if "/lib/" not in path else "public, max-age=86400")
+                library = "public, max-age=86400, stale-while-revalidate=2592000"
+                self.assertEqual(fields["Cache-Control"], library if "/lib/" in path else kept)
                 self.assertEqual(fields["Server"], "nginx")
 
 
@@ -236,6 +238,39 @@ class Files(unittest.TestCase):
         self.assertEqual(status, 200)
         status, _, data = DESK.exchange("tom", "GET", "/", fields={"If-None-Match": fields["ETag"]})
         self.assertEqual((status, data), (304, b""))
+
+    def test_files_are_kept_by_their_sum(self):
+        """index.html names all files below one sum, where a browser keeps them; no other sum has files."""
+        text = DESK.exchange("tom", "GET", "/")[2].decode()
+        named = re.findall(r'="(/(?!lib/)[^"]+)"', text)
+        self.assertGreater(len(named), 2)
+        self.assertEqual(len({path.split("/")[2] for path in named}), 1, named)
+        for path in named:
+            with self.subTest(path):
+                status, fields, _ = DESK.exchange("tom", "GET", path)
+                self.assertEqual((status, fields["Cache-Control"]), (200, "private, max-age=31536000, immutable"))
+        other = re.sub(r"/files/[0-9a-f]+/", "/files/0123456789abcdef/", named[0])
+        self.assertEqual(DESK.exchange("tom", "GET", other)[0], 404)
+
+    def test_compressed(self):
+        """Pages, libraries and replies are sent compressed to who takes it."""
+        page = re.search(r'src="(/files/[^"]+/app.js)"', DESK.exchange("tom", "GET", "/")[2].decode())[1]
+        for path in (page, "/lib/chart/chart.min.js", "/api/reports/arrears"):
+            with self.subTest(path):
+                _, _, plain = DESK.exchange("head", "GET", path)
+                _, fields, data = DESK.exchange("head", "GET", path, fields={"Accept-Encoding": "gzip"})
+                self.assertEqual(fields["Content-Encoding"], "gzip")
+                self.assertEqual(gzip.decompress(data), plain)
+
+    def test_institution(self):
+        """What the institution tells of itself: an empty object as long as it has no such file."""
+        self.assertEqual(DESK.send("tom", "GET", "/institution.json"), (200, {}))
+        path = os.path.join(DESK.nginx.people, "institution.json")
+        with open(path, "w", encoding="utf-8") as file:
+            file.write('{"name":"Umoja"}')
+        self.addCleanup(os.remove, path)
+        self.assertEqual(DESK.send("tom", "GET", "/institution.json"), (200, {"name": "Umoja"}))
+        self.assertEqual(DESK.send(None, "GET", "/institution.json")[0], 401)
 
 
 class Messages(unittest.TestCase):

@@ -183,7 +183,7 @@ class Languages(unittest.TestCase):
         words = json.loads(
             it.module(
                 "const all = {}; for (const name of ['en', 'fr', 'es', 'sw'])"
-                " all[name] = (await import(`/words/${name}.js`)).default;"
+                " all[name] = (await load(`words/${name}.js`)).default;"
                 "return JSON.stringify(all)"
             )
         )
@@ -299,7 +299,7 @@ class Money(unittest.TestCase):
 
     def parsed(self, locale, texts):
         return self.it.module(
-            f"const {{ moneyFor }} = await import('/shared/money.js'); const money = moneyFor({json.dumps(locale)});"
+            f"const {{ moneyFor }} = await load('shared/money.js'); const money = moneyFor({json.dumps(locale)});"
             f"return {json.dumps(list(texts))}.map((text) => money.parse(text))"
             ".map((cents) => cents === null ? null : Number(cents))"
         )
@@ -313,7 +313,7 @@ class Money(unittest.TestCase):
         for locale, text in self.SHOWN.items():
             with self.subTest(locale):
                 shown = self.it.module(
-                    "const { moneyFor } = await import('/shared/money.js');"
+                    "const { moneyFor } = await load('shared/money.js');"
                     f"return moneyFor({json.dumps(locale)}).format(1000000000005n)"
                 )
                 self.assertIn(shown, text if isinstance(text, tuple) else (text,))
@@ -321,8 +321,8 @@ class Money(unittest.TestCase):
     def test_more_than_a_number_holds(self):
         """2^53 + 1 cents, and sums past it, keep their last digit."""
         shown = self.it.module(
-            "const { moneyFor, sum } = await import('/shared/money.js');"
-            "const { readJson } = await import('/shared/api.js');"
+            "const { moneyFor, sum } = await load('shared/money.js');"
+            "const { readJson } = await load('shared/api.js');"
             'const told = readJson(\'{"a":9007199254740993,"b":"9007199254740993 \\\\" 12",'
             '"c":[1,9007199254740993]}\');'
             "return [moneyFor('en').format(told.a), told.b, moneyFor('en').format(sum(told.c))]"

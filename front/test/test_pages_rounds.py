@@ -189,7 +189,7 @@ class Sheets(loans.Case):
         head = self.reader(it, "head")
         text = "\ufeffReceipt , LOAN,date,Amount\r\n" + "\r\n".join(bad + good) + "\r\n\r\n"
         read = head.module(
-            "const { readSheet } = await import('/views/round-sheet.js');"
+            "const { readSheet } = await load('views/round-sheet.js');"
             f"return readSheet({text!r}).map((line) => [line.result, line.isGood ? Number(line.cents) : null])"
         )
         self.assertEqual(read, [["F1", None]] * len(bad) + [[None, 1000000000000], [None, 705], [None, 150]])
