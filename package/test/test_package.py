@@ -12,6 +12,7 @@ import unittest
 import roots
 
 PASSWORD = "the head's password"
+RUNTIME = "/run/microloan"
 
 
 def setUpModule():
@@ -40,7 +41,7 @@ class Built(unittest.TestCase):
         words = f"dpkg --fsys-tarfile {shlex.quote(PACKAGE)} | tar xO ./etc/nginx/sites-available/microloan"
         site = subprocess.run(words, shell=True, stdout=subprocess.PIPE, text=True, check=True).stdout
         self.assertEqual(re.findall(r"@[A-Z_]+@", site), [])
-        self.assertIn("server 127.0.0.1:8180", site)
+        self.assertIn("server unix:/run/microloan-port/desk.sock ", site)
 
 
 @unittest.skipUnless(os.geteuid() == 0 and shutil.which("mmdebstrap"), "needs root and mmdebstrap")
@@ -63,12 +64,22 @@ class Installed(unittest.TestCase):
         settings = dict(line.split("=", 1) for line in unit.splitlines() if re.match("[A-Z]", line))
         user, mask = settings["User"], settings["UMask"]
         as_user = f"umask {mask}; exec setpriv --reuid={user} --regid={user} --clear-groups"
-        self.root.start(f"sh -c '{as_user} {settings['ExecStart']}'")
-        self.root.run(f"timeout 60 {settings['ExecStartPost']}")
+        self.root.run(f"install -d -m 700 -o {user} {RUNTIME}")
+        self.root.start(f"sh -c '{as_user} env RUNTIME_DIRECTORY={RUNTIME} {settings['ExecStart']}'")
+        port = self.root.run("cat /lib/systemd/system/microloan-port.socket")
+        address = re.search("ListenStream=(.*)", port)[1]
+        passed_on = "/lib/systemd/systemd-socket-proxyd 127.0.0.1:8180"
+        self.root.run(f"install -d {os.path.dirname(address)}")
+        self.root.start(f"systemd-socket-activate --listen={address} {passed_on}")
+        self.root.run(f"while ! chmod 660 {address}; do sleep 0.1; done; chgrp www-data {address}")
+        self.wait_until(lambda: ":1FF4 " in self.root.run("cat /proc/net/tcp"))
         self.root.run("nginx")
 
     def stop(self):
-        self.root.run("kill $(cat /run/nginx.pid); kill $(pidof microloan); while pidof microloan; do sleep 0.1; done")
+        self.root.run(
+            "kill $(cat /run/nginx.pid); kill $(pidof systemd-socket-proxyd systemd-socket-activate);"
+            "kill $(pidof microloan); while pidof microloan; do sleep 0.1; done"
+        )
 
     def modes(self, *paths):
         shown = self.root.run("stat -c '%n %a %U:%G' " + " ".join(paths))
@@ -85,8 +96,7 @@ class Installed(unittest.TestCase):
         said = self.install()
         self.assertIn("microloan: now run microloan-setup, as root", said)
         self.assertEqual(self.root.run("pidof microloan nginx", wanted=1), "")
-        for unit in ("microloan.service", "microloan-backup.service", "microloan-backup.timer"):
-            self.assertEqual(self.root.run(f"systemd-analyze verify --man=no /lib/systemd/system/{unit}"), "")
+        self.assertEqual(self.root.run("systemd-analyze verify --man=no /lib/systemd/system/microloan*[^@].*"), "")
         said = self.root.run("microloan-setup --user amina --day 2026-11-26", given=PASSWORD + "\n")
         self.assertIn("its business day is 2026-11-26", said)
         self.assertIn("amina signs in as 1/1", said)

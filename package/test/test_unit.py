@@ -15,7 +15,12 @@ PASSWORD = "the head's password"
 FILE = "/var/lib/microloan/desk.db"
 EMPTY_LOG = 41  # bytes of a log that holds no commit, at most
 LIMIT, MOST_ENTERED = 600000, 200  # bytes of a file, and clients that are entered until it is reached
-MOST_EXPOSED = 2.0  # of ten, as systemd-analyze counts
+MOST_EXPOSED = 1.0  # of ten, as systemd-analyze counts
+FAILS_WITHIN = 2.0  # seconds that a start takes which can't succeed
+HOOK = """#!/bin/sh
+printf '%s\\n' "$1" >>/root/told
+cat >>/root/told-more
+"""
 
 
 @unittest.skipUnless(os.geteuid() == 0 and shutil.which("mmdebstrap"), "needs root and mmdebstrap")
@@ -30,10 +35,16 @@ class Unit(unittest.TestCase):
         if cls.root.fault:
             raise unittest.SkipTest(f"no systemd runs here: {cls.root.fault}")
         shutil.copy(package, os.path.join(cls.root.path, "root/microloan.deb"))
-        cls.root.run("apt-get -qq update && apt-get -qq install -y /root/microloan.deb 2>&1", network=True)
+        cls.root.run("apt-get -qq update && apt-get -qq install -y /root/microloan.deb curl 2>&1", network=True)
+        hook = "/etc/microloan/hooks/alert"
+        cls.root.run(f"cat >{hook} && chmod 755 {hook} && touch /root/told", given=HOOK)
         said = cls.root.run("microloan-setup --user amina --day 2026-11-26", given=PASSWORD + "\n")
         if "the desk answers at http://127.0.0.1:8190" not in said:
             raise AssertionError(said)
+
+    def setUp(self):
+        """So many starts as the tests need would end at the start limit."""
+        self.root.run("systemctl reset-failed microloan; systemctl start microloan; truncate -s 0 /root/told")
 
     def shown(self, *names):
         """What systemd shows of the service, by name."""
@@ -97,18 +108,84 @@ class Unit(unittest.TestCase):
             self.skipTest("the service was started again before it was stopped")
         self.root.run(f"cp {FILE}-wal /root/kept-wal && printf x | dd of={FILE}-wal bs=1 seek=10 conv=notrunc")
         self.root.run("systemctl start microloan", wanted=1)
-        self.root.run("systemctl stop microloan")
+        self.assertEqual(self.shown("ActiveState")["ActiveState"], "failed")
         said = self.root.run("journalctl --no-pager --unit=microloan")
         self.assertIn("its header is damaged, and nothing of it would count", said)
         self.root.run(f"cat /root/kept-wal >{FILE}-wal && systemctl reset-failed microloan; systemctl start microloan")
         self.assertEqual(self.name_of(client), "In a damaged log")
 
-    def test_no_institution_is_no_start(self):
+    def test_a_start_that_fails_is_failed_and_tells_why(self):
+        """Within two seconds, with the line of `microloan why`; the institution is told, and nothing is tried again."""
+        damage = f"printf ABCD | dd of={FILE} bs=1 seek=20000 conv=notrunc status=none"
+        others = f"import sqlite3; sqlite3.connect('{FILE}').execute('create table other (x)')"
+        cases = (
+            (f"rm {FILE}", "is missing or empty"),
+            (f": >{FILE}", "is missing or empty"),
+            (damage, "damaged: a page is not as it was written"),
+            (f"chmod 000 {FILE}", "no permission to read it"),
+            (f'rm {FILE} && python3 -c "{others}" && chown microloan: {FILE}', "a database of something else"),
+        )
+        for number, (spoil, line) in enumerate(cases):
+            with self.subTest(line):
+                self.root.run(f"systemctl stop microloan; cp -a /var/lib/microloan /root/kept{number}")
+                self.root.run(f"{spoil} && truncate -s 0 /root/told")
+                began = time.monotonic()
+                self.root.run("systemctl start microloan", wanted=1)
+                took = time.monotonic() - began
+                self.assertLess(took, FAILS_WITHIN)
+                self.assertEqual(self.shown("ActiveState", "NRestarts"), {"ActiveState": "failed", "NRestarts": "0"})
+                self.assertIn("microloan.service", self.root.run("systemctl --failed --no-legend --no-pager"))
+                said = self.root.run("journalctl --no-pager --output=cat --unit=microloan --lines=8")
+                self.assertIn(line, said)
+                self.assertNotIn("F20", said)
+                self.wait_until(lambda: line in self.root.run("cat /root/told"))
+                self.root.run(f"rm -r /var/lib/microloan && cp -a /root/kept{number} /var/lib/microloan")
+                self.root.run("systemctl reset-failed microloan; systemctl start microloan")
+        self.assertEqual(self.ask("GET", "/api/business-day")[0], 200)
+
+    def test_crashes_again_and_again_end(self):
+        """It is started again after each, until the start limit; then it is failed, and the institution is told."""
+        crash = "systemctl kill --signal=KILL --kill-who=main microloan; true"
+        end = time.monotonic() + 120
+        while self.shown("ActiveState")["ActiveState"] != "failed":
+            self.assertLess(time.monotonic(), end)
+            self.root.run(crash)
+            time.sleep(0.1)
+        self.assertGreater(int(self.shown("NRestarts")["NRestarts"]), 3)
+        self.wait_until(lambda: "microloan: failed" in self.root.run("cat /root/told"))
+
+    def test_thirty_starts(self):
+        """Started thirty times it is there each time: whether the program still runs is never mistaken."""
+        for _ in range(6):
+            self.root.run("for n in 1 2 3 4 5; do systemctl restart microloan || exit 1; done")
+            self.root.run("systemctl reset-failed microloan")
+        self.assertEqual(self.shown("NRestarts", "ActiveState"), {"NRestarts": "0", "ActiveState": "active"})
+
+    def test_nobody_of_this_machine_is_past_the_front(self):
+        """Neither by the port nor by the socket, but for root and the front; another program on the port meets nobody."""
+        ask = "curl --silent --show-error --max-time 5 --header 'X-Staff: 1/1'"
+        by_port, by_socket = "http://127.0.0.1:8180/business-day", "http://desk/business-day"
+        socket = "--unix-socket /run/microloan-port/desk.sock"
+        for user, words, status in (
+            ("nobody", by_port, 7), ("root", by_port, 7), ("nobody", f"{socket} {by_socket}", 7),
+            ("www-data", f"{socket} {by_socket}", 0), ("root", f"{socket} {by_socket}", 0),
+        ):
+            with self.subTest(f"{user} {words}"):
+                as_user = f"setpriv --reuid={user} --regid=$(id -g {user}) --clear-groups"
+                said = self.root.run(f"{as_user} {ask} {words}", wanted=status)
+                self.assertEqual('{"day":"' in said, status == 0)
+        self.root.run("cd /tmp && timeout 60 python3 -m http.server 8180 --bind 127.0.0.1 >/dev/null 2>&1 & sleep 1")
+        self.root.run("systemctl restart microloan")
+        self.assertEqual(self.ask("GET", "/api/business-day")[0], 200)
         self.root.run("systemctl stop microloan")
-        self.root.run(f"mv {FILE} {FILE}.kept && mv {FILE}-wal {FILE}-wal.kept")
-        self.root.run("systemctl start microloan", wanted=1)
-        self.assertEqual(self.root.run("ls /var/lib/microloan"), "desk.db-wal.kept\ndesk.db.kept\n")
-        self.root.run(f"mv {FILE}.kept {FILE} && mv {FILE}-wal.kept {FILE}-wal && systemctl start microloan")
+        self.assertEqual(self.ask("GET", "/api/business-day"), (502, {"front": "down"}))
+
+    def test_a_message_starts_no_desk_that_was_stopped(self):
+        self.root.run("systemctl stop microloan")
+        for _ in range(5):
+            self.assertEqual(self.ask("GET", "/api/business-day"), (502, {"front": "down"}))
+        self.assertEqual(self.shown("ActiveState")["ActiveState"], "inactive")
+        self.root.run("systemctl start microloan")
         self.assertEqual(self.ask("GET", "/api/business-day")[0], 200)
 
     def test_a_limit_on_a_file_s_size(self):
