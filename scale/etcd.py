@@ -2,6 +2,7 @@
 import base64
 import http.client
 import json
+import ssl
 import time
 
 PATIENCE = 2  # seconds that one node is waited for
@@ -22,28 +23,73 @@ def key_of(number):
     return f"{LOG}{number:012}"
 
 
+def add_words(words):
+    """The options by which a program reaches etcd."""
+    words.add_argument("--etcd", required=True, help="the nodes, each as host:port")
+    words.add_argument("--etcd-ca", help="the file of the authority that signed the nodes' certificates: TLS")
+    words.add_argument("--etcd-cert", help="the file of this program's certificate, where etcd asks for one")
+    words.add_argument("--etcd-key", help="the file of that certificate's key")
+    words.add_argument("--etcd-user", help="a file with a name, a colon and a password, where etcd asks for them")
+
+
+class Access:
+    """How etcd is reached: its nodes, TLS, and who asks."""
+
+    def __init__(self, nodes, context=None, user=None):
+        self.nodes, self.context, self.user = nodes, context, user
+
+    @staticmethod
+    def of_words(asked):
+        context = user = None
+        if asked.etcd_ca:
+            context = ssl.create_default_context(cafile=asked.etcd_ca)
+            if asked.etcd_cert:
+                context.load_cert_chain(asked.etcd_cert, asked.etcd_key)
+        if asked.etcd_user:
+            with open(asked.etcd_user, encoding="utf-8") as file:
+                user = file.readline().rstrip("\n").split(":", 1)
+        return Access(asked.etcd.split(","), context, user)
+
+    def connection(self, node):
+        if self.context:
+            return http.client.HTTPSConnection(node, timeout=PATIENCE, context=self.context)
+        return http.client.HTTPConnection(node, timeout=PATIENCE)
+
+
 class Etcd:
     """Whichever node answers, until an event says that this process is to end."""
 
-    def __init__(self, nodes, stopping):
-        self.nodes, self.stopping, self.connection = list(nodes), stopping, None
+    def __init__(self, access, stopping):
+        self.access, self.nodes, self.stopping = access, list(access.nodes), stopping
+        self.connection = self.token = None
 
     def call(self, path, body):
         """Asks one node after the other until one answers. So a call may be carried out more than once."""
         while not self.stopping.is_set():
             try:
-                self.connection = self.connection or http.client.HTTPConnection(self.nodes[0], timeout=PATIENCE)
-                self.connection.request("POST", "/v3" + path, json.dumps(body))
-                reply = self.connection.getresponse()
-                told = json.loads(reply.read())
-                if reply.status < 500:  # 400 and above: it has no such lease, say
+                if self.access.user and not self.token:
+                    name, password = self.access.user
+                    self.token = self.exchange("/auth/authenticate", {"name": name, "password": password})[1]["token"]
+                status, told = self.exchange(path, body)
+                if status in (200, 404):  # 404: it has no such lease
                     return told
-            except (OSError, http.client.HTTPException, ValueError):
+                if status < 500 and status != 401:
+                    raise Lost(f"etcd refuses {path}: {told.get('error')}")
+            except (OSError, http.client.HTTPException, ValueError, KeyError):
                 pass
             self.connection = self.connection and self.connection.close()
+            self.token = None
             self.nodes.append(self.nodes.pop(0))
             time.sleep(0.05)
         raise Lost("told to end")
+
+    def exchange(self, path, body):
+        """The status and the reply of the first node to a call."""
+        self.connection = self.connection or self.access.connection(self.nodes[0])
+        fields = {"Authorization": self.token} if self.token else {}
+        self.connection.request("POST", "/v3" + path, json.dumps(body), fields)
+        reply = self.connection.getresponse()
+        return reply.status, json.loads(reply.read())
 
     def found(self, first, last=None, limit=0):
         """The keys from one to another, with the values and the revisions that made them, as a majority has them."""
