@@ -1,0 +1,3 @@
+pub mod ClassLemmas
+pub mod DayLemmas
+pub mod ReachLemmas
