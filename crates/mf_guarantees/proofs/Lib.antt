@@ -1,3 +1,5 @@
 pub mod ClassLemmas
 pub mod DayLemmas
 pub mod ReachLemmas
+pub mod RemainLemmas
+pub mod RequestLemmas

@@ -1,3 +1,4 @@
 pub mod Roles
 pub mod Ageing
 pub mod Reach
+pub mod Kept

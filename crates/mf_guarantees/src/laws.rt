@@ -11,11 +11,19 @@ ghost use Rattle.mf_model.specs.declared.request.Call.{Call};
 ghost use Rattle.mf_model.specs.Institution.{Institution, Change, Staff, office_at};
 ghost use Rattle.mf_model.specs.Tree.{IsTree, is_there, parent_of};
 ghost use Rattle.mf_guarantees.specs.Reach.{AreFrom};
+ghost use Rattle.mf_guarantees.specs.Kept.{AllRemains};
 ghost use Rattle.mf_model.specs.Desk.{change_in, outcome, staff_at};
 ghost use Rattle.mf_model.specs.Run.{Line, last};
 ghost use Rattle.mf_model.specs.Sound.{IsSound, AreInRange};
 ghost use Rattle.mf_guarantees.specs.Roles.{is_repayment};
 ghost use Rattle.mf_guarantees.specs.Ageing.{lateness, on_time};
+
+/// Whatever requests come, nothing is gone afterwards: every charge, product, office, member of staff, client, loan and
+/// entry stands where it stood. And nothing is rewritten, but for the business day, which never goes back, the stage of a
+/// loan, a product that is retired, and an entry that is reversed, both of which stay so.
+pub fn nothing_is_removed()
+    ensures { (i : Institution) (lines : List Line) → IsTree i.offices → AllRemains i (last lines i) }
+{}
 
 /// Whatever requests come, the business day never goes back.
 pub fn business_day_never_goes_back()
