@@ -1,5 +1,5 @@
 pub mod ClassLemmas
-pub mod DayLemmas
+pub mod MoneyLemmas
 pub mod ReachLemmas
 pub mod RemainLemmas
 pub mod RequestLemmas

@@ -2,3 +2,4 @@ pub mod Roles
 pub mod Ageing
 pub mod Reach
 pub mod Kept
+pub mod Money

@@ -1,6 +1,9 @@
 //! Guarantees in plain words. Each function does nothing: its contract is the law that the sentence above it tells.
 
-ghost use Rattle.std.specs.Prelude.{◌≡◌, ◌≤◌, ◌+◌, ℕ, List, Some, true, false, pos};
+ghost use Rattle.std.specs.Prelude.{◌≡◌, ◌≤◌, ◌<◌, ◌+◌, ℕ, List, Some, true, false, pos, sum};
+ghost use Rattle.mf_office.specs.declared.account.Account.{Account};
+ghost use Rattle.mf_account.specs.Balance.{balances_of};
+ghost use Rattle.mf_account.specs.Loan.{DisbursedLoan};
 ghost use Rattle.mf_office.specs.Tree.{is_at_or_below};
 ghost use Rattle.mf_office.specs.declared.caller.Caller.{Caller};
 ghost use Rattle.mf_office.specs.declared.staff.Role.TheVariants.{Teller};
@@ -15,6 +18,8 @@ ghost use Rattle.mf_guarantees.specs.Kept.{AllRemains};
 ghost use Rattle.mf_model.specs.Desk.{change_in, outcome, staff_at};
 ghost use Rattle.mf_model.specs.Run.{Line, last};
 ghost use Rattle.mf_model.specs.Sound.{IsSound, AreInRange};
+ghost use Rattle.mf_model.specs.Store.{ledger_at, account_of};
+ghost use Rattle.mf_guarantees.specs.Money.{IsAccountedFor};
 ghost use Rattle.mf_guarantees.specs.Roles.{is_repayment};
 ghost use Rattle.mf_guarantees.specs.Ageing.{lateness, on_time};
 
@@ -27,8 +32,22 @@ pub fn nothing_is_removed()
 
 /// Whatever requests come, the business day never goes back.
 pub fn business_day_never_goes_back()
-    ensures { (i : Institution) (lines : List Line) → IsSound i → AreInRange lines →
+    ensures { (i : Institution) (lines : List Line) → IsTree i.offices →
         i.catalogue.day ≤ (last lines i).catalogue.day }
+{}
+
+/// Whatever requests come, no cent of a loan that was paid out is made or lost: what was lent is repaid, written off or
+/// outstanding; what was owed of interest, fees and penalties is paid, waived, written off or outstanding; and what was
+/// repaid has paid something, is overpaid or was refunded. Money is overpaid only where nothing is outstanding.
+pub fn no_cent_is_made_or_lost()
+    ensures accounted { (i : Institution) (lines : List Line) (loan : Account) (account : DisbursedLoan) →
+        IsSound i → AreInRange lines →
+        account_of (last lines i).catalogue (ledger_at loan (last lines i)) ≡ Some account →
+        IsAccountedFor account }
+    ensures overpaid { (i : Institution) (lines : List Line) (loan : Account) (account : DisbursedLoan) →
+        IsSound i → AreInRange lines →
+        account_of (last lines i).catalogue (ledger_at loan (last lines i)) ≡ Some account →
+        0 < (balances_of account).overpaid → sum (balances_of account).outstanding ≡ 0 }
 {}
 
 /// What a teller sends changes something only where it is a repayment.
