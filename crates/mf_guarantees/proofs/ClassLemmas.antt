@@ -1,7 +1,7 @@
 -- The classes of an office's line add up.
-use Rattle.std.proofs.Common.{◌≡◌, ◌≤◌, ◌+◌, ◌*◌, ◌<◌, ◌/◌, ◌%◌, ℕ, Bool, true, false, List, [], ◌∷◌, refl, arith}
-use Rattle.std.proofs.Common.{sym, subst, ap, ◌∙◌, inl, inr}
-use Rattle.std.specs.Prelude.{sum_by, ◌==◌, if◌then◌else◌}
+use Rattle.std.proofs.Common.{◌≡◌, ◌≤◌, ◌+◌, ◌*◌, ◌<◌, ℕ, List, [], ◌∷◌, refl, arith}
+use Rattle.std.proofs.Common.{sym, subst, inl, inr}
+use Rattle.std.specs.Prelude.{sum_by, ◌==◌}
 use Rattle.std.proofs.lemmas.Bool.{cases_eq, cond_both}
 use Rattle.std.proofs.lemmas.List.Sums.{sum_by-cons}
 use Rattle.mf_base.specs.Rounding.{half_even}

@@ -3,3 +3,4 @@ pub mod MoneyLemmas
 pub mod ReachLemmas
 pub mod RemainLemmas
 pub mod RequestLemmas
+pub mod ReversalLemmas

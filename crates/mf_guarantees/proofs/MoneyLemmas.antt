@@ -1,7 +1,7 @@
 -- Where the money of a sound loan is.
-use Rattle.std.proofs.Common.{◌≡◌, ◌<◌, ◌+◌, ℕ, List, Some, sym, sum, arith}
-use Rattle.std.specs.Prelude.{slice_index}
+use Rattle.std.proofs.Common.{◌≡◌, ◌<◌, List, Some, sym, sum}
 use Rattle.mf_office.specs.declared.account.Account.{Account}
+use Rattle.mf_alloc.specs.Sums.{AreWithin}
 use Rattle.mf_account.specs.Balance.{balances_of}
 use Rattle.mf_account.specs.Loan.{DisbursedLoan, IsSoundDisbursed, state_of_loan, fee_of_loan}
 use Rattle.mf_account.proofs.ConserveLemmas.{balances-repaid, balances-principal, balances-apart, balances_by-whole}
@@ -38,3 +38,8 @@ pub apart_after : (lines : List Line) (i : Institution) (loan : Account) (accoun
     → AreInRange lines → account_of (last lines i).catalogue (ledger_at loan (last lines i)) ≡ Some account
     → 0 < (balances_of account).overpaid → sum (balances_of account).outstanding ≡ 0
 apart_after lines i loan account s r there = balances-apart account (sound_after lines i loan account s r there)
+
+pub within_after : (lines : List Line) (i : Institution) (loan : Account) (account : DisbursedLoan) → IsSound i
+    → AreInRange lines → account_of (last lines i).catalogue (ledger_at loan (last lines i)) ≡ Some account
+    → AreWithin (state_of_loan account).rows
+within_after lines i loan account s r there = (good-sound account (sound_after lines i loan account s r there)).within

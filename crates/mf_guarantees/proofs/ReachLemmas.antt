@@ -2,7 +2,7 @@
 use Rattle.std.proofs.Common.{◌≡◌, ◌≢◌, ℕ, Bool, true, false, cond, List, [], ◌∷◌, Option, Some, None, refl, sym, ap, ◌∙◌}
 use Rattle.std.specs.Prelude.{is_some}
 use Rattle.mf_office.specs.Tree.{is_at_or_below}
-use Rattle.mf_model.specs.Institution.{Institution, Office, office_at, Change, Catalogue_becomes, Rows_become}
+use Rattle.mf_model.specs.Institution.{Institution, office_at, Change, Catalogue_becomes, Rows_become}
 use Rattle.mf_model.specs.Institution.{Office_added, after, after_maybe, new_office}
 use Rattle.mf_model.specs.Desk.{plan, change_in, outcome}
 use Rattle.mf_model.specs.Run.{Line, next, last, from_office}
@@ -26,7 +26,10 @@ module _ (o y : ℕ) where
   changed (Catalogue_becomes catalogue) i t fit touching there outside = record { office = refl; outside = outside }
   changed (Rows_become x rows) i t fit touching there outside =
       let inside = sym (below_with_rows x rows i.offices x o) ∙ touching in
-      let other : y ≢ x = λ same. absurd (cc (sym inside ∙ ap (λ z. is_at_or_below (parent_of i.offices) z o) (sym same) ∙ outside)) in
+      let other : y ≢ x = λ same.
+      let at : is_at_or_below (parent_of i.offices) y o ≡ true =
+      ap (λ z. is_at_or_below (parent_of i.offices) z o) same ∙ inside in
+      cc in
       record {
         office = others_stay x y rows i.offices other;
         outside = below_with_rows x rows i.offices y o ∙ outside;

@@ -1,11 +1,11 @@
 -- Lists of which nothing is gone.
-use Rattle.std.proofs.Common.{◌≡◌, ◌≤◌, ℕ, zero, suc, ◌-◌, Bool, true, false, cond, List, [], ◌∷◌, ◌++◌, Option, Some}
-use Rattle.std.proofs.Common.{None, refl, sym, ap, ◌∙◌, subst, arith}
-use Rattle.std.specs.Prelude.{◌==◌, slice_get, slice_set}
+use Rattle.std.proofs.Common.{◌≡◌, ℕ, zero, suc, ◌-◌, Bool, true, false, cond, List, [], ◌∷◌, ◌++◌, Some}
+use Rattle.std.proofs.Common.{refl, ap, ◌∙◌, arith}
+use Rattle.std.specs.Prelude.{◌==◌, slice_get}
 use Rattle.mf_account.specs.declared.entry.Entry.{Entry}
-use Rattle.mf_account.specs.Standing.{entry_at, with_mark}
+use Rattle.mf_account.specs.Standing.{with_mark}
 use Rattle.mf_model.specs.declared.loan.Loan.{Loan}
-use Rattle.mf_model.specs.Institution.{Institution, Catalogue, ListedProduct, Ledger, Rows, Office, office_at}
+use Rattle.mf_model.specs.Institution.{Institution, Catalogue, ListedProduct, Ledger, Rows, Office}
 use Rattle.mf_model.specs.Institution.{with_numbered}
 use Rattle.mf_guarantees.specs.Kept.{Remain, IsSame, IsSameEntry, IsSameLoan, IsSameProduct, RowsRemain, OfficeRemains}
 use Rattle.mf_guarantees.specs.Kept.{CatalogueRemains, AllRemains}
@@ -65,9 +65,11 @@ then_entry a b c first next = record {
 mark_at : (es : List Entry) (i j : ℕ) (x : Entry) → slice_get es j ≡ Some x
     → (y : Entry) × (slice_get (with_mark es i true) j ≡ Some y) × IsSameEntry x y
 mark_at [] i j x h = absurd (cc)
-mark_at (e ∷ es) zero zero x h = let is : e ≡ x = cc in
-    (record x { reversed = true }, ap (λ (z : Entry). Some (record z { reversed = true })) is,
-    record { members = refl; reversal = λ h. refl })
+mark_at (e ∷ es) zero zero x h = let is : e ≡ x = cc in (
+  record x { reversed = true },
+  ap (λ (z : Entry). Some (record z { reversed = true })) is,
+  record { members = refl; reversal = λ h. refl },
+)
 mark_at (e ∷ es) zero (suc j) x h = (x, h, same_entry x)
 mark_at (e ∷ es) (suc i) zero x h = (x, h, same_entry x)
 mark_at (e ∷ es) (suc i) (suc j) x h = mark_at es i j x h

@@ -1,5 +1,5 @@
 -- What is asked of an institution takes nothing away.
-use Rattle.std.proofs.Common.{◌≡◌, ◌≢◌, ◌≤◌, ◌<◌, ℕ, Bool, true, false, cond, List, [], ◌∷◌, ◌++◌, length, Option, Some, None}
+use Rattle.std.proofs.Common.{◌≡◌, ℕ, Bool, true, false, cond, List, [], ◌∷◌, length, Option, Some, None}
 use Rattle.std.proofs.Common.{Result, Ok, Err, refl, sym, ap, ◌∙◌, subst, arith, inl, inr}
 use Rattle.std.specs.Prelude.{is_some, nat_lt, option_map}
 use Rattle.std.proofs.lemmas.Bool.{cases_eq, ltb-true}
@@ -14,7 +14,6 @@ use Rattle.mf_account.specs.declared.entry.Entry.{Entry}
 use Rattle.mf_account.specs.Loan.{DisbursedLoan}
 use Rattle.mf_account.specs.Refusals.{refusal_of, reversal_refused}
 use Rattle.mf_catalog.specs.declared.charge.ChargeDef.{ChargeDef}
-use Rattle.mf_model.specs.declared.loan.Loan.{Loan}
 use Rattle.mf_model.specs.declared.loan.Stage.{Stage}
 use Rattle.mf_model.specs.declared.request.Application.{Application}
 use Rattle.mf_model.specs.declared.request.CatalogueRequest.{CatalogueRequest}
@@ -34,14 +33,14 @@ use Rattle.mf_model.specs.declared.reply.Reply.{Reply}
 use Rattle.mf_model.specs.declared.reply.Reply.TheVariants.{DaySet, ProductMade, ProductRetired}
 use Rattle.mf_model.specs.Accounts.{account_in}
 use Rattle.mf_model.specs.Catalogue.{on_catalogue, day_set, charge_added, product_added, product_retired}
-use Rattle.mf_model.specs.Desk.{plan, on_office, of_catalogue, of_office, in_office, change_in, plan_effect}
+use Rattle.mf_model.specs.Desk.{plan, on_office, of_catalogue, of_office, in_office, change_in}
 use Rattle.mf_model.specs.Desk.{sender_effect, outcome}
-use Rattle.mf_model.specs.Institution.{Institution, Catalogue, ListedCharge, ListedProduct, Rows, Ledger, Office, Staff}
-use Rattle.mf_model.specs.Institution.{office_at, with_rows, with_office, new_office, item_numbered, charge_in, product_in}
+use Rattle.mf_model.specs.Institution.{Institution, Catalogue, Rows, Ledger, Office}
+use Rattle.mf_model.specs.Institution.{office_at, with_rows, new_office, item_numbered, charge_in, product_in}
 use Rattle.mf_model.specs.Institution.{Change, Catalogue_becomes, Rows_become, Office_added, after, after_maybe}
-use Rattle.mf_model.specs.Loans.{LedgerChange, with_stage, with_new_entry, with_reversal, unless_fault, fault_or, enter}
+use Rattle.mf_model.specs.Loans.{LedgerChange, with_stage, with_reversal, unless_fault, fault_or, enter}
 use Rattle.mf_model.specs.Loans.{none_first, fee_first, reverse, repeat_of, unless_known, on_loan, of_loan, in_loan}
-use Rattle.mf_model.specs.Loans.{loan_added, loan_changed, new_loan, lend, repayment, fee, posting}
+use Rattle.mf_model.specs.Loans.{loan_added, new_loan, lend, repayment, fee, posting}
 use Rattle.mf_model.specs.Offices.{staff_added, client_added}
 use Rattle.mf_model.specs.Outcomes.{next_of, with_value, with_found, where_found, unless_refused}
 use Rattle.mf_model.specs.Receipts.{Use, uses_from, used_before, repeated_seq}
@@ -53,10 +52,10 @@ use Rattle.mf_model.proofs.Runs.{IsTree_next}
 use Rattle.mf_model.proofs.StaffLemmas.{rows_found}
 use Rattle.mf_model.proofs.Steps.{known_line}
 use Rattle.mf_model.proofs.Views.{apart}
-use Rattle.mf_guarantees.specs.Kept.{Remain, IsSame, IsSameEntry, IsSameLoan, IsSameProduct, RowsRemain, OfficeRemains}
+use Rattle.mf_guarantees.specs.Kept.{IsSame, IsSameEntry, IsSameLoan, IsSameProduct, RowsRemain, OfficeRemains}
 use Rattle.mf_guarantees.specs.Kept.{CatalogueRemains, AllRemains}
 use Rattle.mf_guarantees.proofs.RemainLemmas.{remain_self, remain_push, remain_numbered, same_entry, entries_marked}
-use Rattle.mf_guarantees.proofs.RemainLemmas.{same_loan, same_product, rows_self, office_self, catalogue_self, all_self}
+use Rattle.mf_guarantees.proofs.RemainLemmas.{same_loan, same_product, office_self, catalogue_self, all_self}
 use Rattle.mf_guarantees.proofs.RemainLemmas.{all_then}
 
 -- what becomes of a loan takes nothing away
@@ -268,12 +267,13 @@ rows_changed i x f new there keeps = record { catalogue = catalogue_self i.catal
     each y g here = elim (cases_eq y x) [
       | inl same ↦
           let one : Some f ≡ Some g = sym there ∙ ap (λ z. office_at z i.offices) (sym same) ∙ here in
-          let is : f ≡ g = cc in
-          (record f { rows = new },
-          ap (λ z. office_at z (with_rows x new i.offices)) same ∙ rows_found x new i.offices
-          ∙ ap (option_map (λ (h : Office). record h { rows = new })) there,
-          subst (λ (z : Office). OfficeRemains z (record f { rows = new })) is
-          (record { number = refl; parent = refl; name = refl; rows = keeps }))
+          let is : f ≡ g = cc in (
+            record f { rows = new },
+            ap (λ z. office_at z (with_rows x new i.offices)) same ∙ rows_found x new i.offices
+                ∙ ap (option_map (λ (h : Office). record h { rows = new })) there,
+            subst (λ (z : Office). OfficeRemains z (record f { rows = new })) is
+                (record { number = refl; parent = refl; name = refl; rows = keeps }),
+          )
       | inr other ↦ (g, others_stay x y new i.offices other ∙ here, office_self g)
     ]
 
@@ -300,7 +300,7 @@ new_office_there i number parent name fit = record {
   offices = λ x f there. (
     f,
     old_stay (new_office number parent name) x i.offices (apart i.offices x number (ap is_some there) fit.free)
-    ∙ there,
+        ∙ there,
     office_self f,
   );
 }

@@ -1,5 +1,5 @@
 -- What remains of an institution, whatever is asked of it.
-use Rattle.std.specs.Prelude.{◌≡◌, ◌≤◌, ℕ, true, List, Option, Some, slice_get}
+use Rattle.std.specs.Prelude.{◌≡◌, ◌≤◌, ℕ, true, List, Some, slice_get}
 use Rattle.mf_account.specs.declared.entry.Entry.{Entry}
 use Rattle.mf_model.specs.Institution.{Institution, Catalogue, ListedProduct, Ledger, Rows, Office, office_at}
 

@@ -1,7 +1,8 @@
--- What a teller may change.
+-- Which requests are repayments, and which give money up.
 use Rattle.std.specs.Prelude.{Bool, true, false}
 use Rattle.mf_model.specs.declared.request.LoanRequest.{LoanRequest}
-use Rattle.mf_model.specs.declared.request.LoanRequest.TheVariants.{Repay}
+use Rattle.mf_model.specs.declared.request.LoanRequest.TheVariants.{Repay, Post, Reverse}
+use Rattle.mf_model.specs.declared.request.Posting.TheVariants.{Waiver, WriteOff, Refund}
 use Rattle.mf_model.specs.declared.request.Request.{Request}
 use Rattle.mf_model.specs.declared.request.Request.TheVariants as request
 
@@ -14,3 +15,16 @@ is_repayment_on_loan _ = false
 abbrev pub is_repayment : Request → Bool
 is_repayment (request.Loan loan asked) = is_repayment_on_loan asked
 is_repayment _ = false
+
+-- a request on a loan that gives money up, hands it back or takes an entry back
+abbrev pub is_concession_on_loan : LoanRequest → Bool
+is_concession_on_loan (Post (Waiver instalment portion)) = true
+is_concession_on_loan (Post WriteOff) = true
+is_concession_on_loan (Post Refund) = true
+is_concession_on_loan (Reverse entry) = true
+is_concession_on_loan _ = false
+
+-- a request that does so
+abbrev pub is_concession : Request → Bool
+is_concession (request.Loan loan asked) = is_concession_on_loan asked
+is_concession _ = false

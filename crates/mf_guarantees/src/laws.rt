@@ -1,17 +1,23 @@
 //! Guarantees in plain words. Each function does nothing: its contract is the law that the sentence above it tells.
 
-ghost use Rattle.std.specs.Prelude.{◌≡◌, ◌≤◌, ◌<◌, ◌+◌, ℕ, List, Some, true, false, pos, sum};
+ghost use Rattle.std.specs.Prelude.{◌≡◌, ◌≤◌, ◌<◌, ◌+◌, ◌++◌, ℕ, List, [], ◌∷◌, Some, None, true, false, pos};
+ghost use Rattle.std.specs.Prelude.{length, sum};
 ghost use Rattle.mf_office.specs.declared.account.Account.{Account};
 ghost use Rattle.mf_account.specs.Balance.{balances_of};
-ghost use Rattle.mf_account.specs.Loan.{DisbursedLoan};
+ghost use Rattle.mf_account.specs.Loan.{DisbursedLoan, state_of_loan};
+ghost use Rattle.mf_account.specs.Standing.{with_mark};
+ghost use Rattle.mf_account.specs.declared.entry.Entry.{Entry};
 ghost use Rattle.mf_office.specs.Tree.{is_at_or_below};
 ghost use Rattle.mf_office.specs.declared.caller.Caller.{Caller};
-ghost use Rattle.mf_office.specs.declared.staff.Role.TheVariants.{Teller};
-ghost use Rattle.mf_alloc.specs.Sums.{Instalment};
+ghost use Rattle.mf_office.specs.declared.staff.Role.TheVariants.{Teller, Manager};
+ghost use Rattle.mf_catalog.specs.declared.terms.Terms.{Terms};
+ghost use Rattle.mf_catalog.specs.Limits.{AreTermsWithinLimits};
+ghost use Rattle.mf_schedule.specs.Fresh.{IsLoanWithinLimits, due_day_of, fresh_schedule, total_principal};
+ghost use Rattle.mf_alloc.specs.Sums.{Instalment, AreWithin};
 ghost use Rattle.mf_arrears.specs.Ageing.{days_overdue};
 ghost use Rattle.mf_arrears.specs.Line.{AgedLoan, class_of, line_of_loans, par30_of};
 ghost use Rattle.mf_model.specs.declared.request.Call.{Call};
-ghost use Rattle.mf_model.specs.Institution.{Institution, Change, Staff, office_at};
+ghost use Rattle.mf_model.specs.Institution.{Institution, Catalogue, Change, Catalogue_becomes, Staff, office_at};
 ghost use Rattle.mf_model.specs.Tree.{IsTree, is_there, parent_of};
 ghost use Rattle.mf_guarantees.specs.Reach.{AreFrom};
 ghost use Rattle.mf_guarantees.specs.Kept.{AllRemains};
@@ -20,12 +26,16 @@ ghost use Rattle.mf_model.specs.Run.{Line, last};
 ghost use Rattle.mf_model.specs.Sound.{IsSound, AreInRange};
 ghost use Rattle.mf_model.specs.Store.{ledger_at, account_of};
 ghost use Rattle.mf_guarantees.specs.Money.{IsAccountedFor};
-ghost use Rattle.mf_guarantees.specs.Roles.{is_repayment};
-ghost use Rattle.mf_guarantees.specs.Ageing.{lateness, on_time};
+ghost use Rattle.mf_guarantees.specs.Roles.{is_repayment, is_concession};
+ghost use Rattle.mf_guarantees.specs.Ageing.{lateness, on_time, worked_loans};
+ghost use Rattle.mf_model.specs.declared.request.LoanRequest.TheVariants.{Repay, Post};
+ghost use Rattle.mf_model.specs.declared.request.Posting.TheVariants.{WriteOff};
+ghost use Rattle.mf_model.specs.declared.request.Repayment.{Repayment};
+ghost use Rattle.mf_model.specs.declared.request.Request.TheVariants.{Loan};
 
 /// Whatever requests come, nothing is gone afterwards: every charge, product, office, member of staff, client, loan and
-/// entry stands where it stood. And nothing is rewritten, but for the business day, which never goes back, the stage of a
-/// loan, a product that is retired, and an entry that is reversed, both of which stay so.
+/// entry stands where it stood. And nothing is rewritten, but for the business day, which never goes back, the stage of
+/// a loan, a product that is retired, and an entry that is reversed; the last two stay so.
 pub fn nothing_is_removed()
     ensures { (i : Institution) (lines : List Line) → IsTree i.offices → AllRemains i (last lines i) }
 {}
@@ -57,15 +67,58 @@ pub fn tellers_only_enter_repayments()
         change_in (outcome call i) ≡ Some change → is_repayment call.request ≡ true }
 {}
 
-/// Whatever the people of an office send, every office that isn't at or below theirs stays as it was, with all its rows.
+/// Only a manager gives money up, hands it back or takes an entry back: a waiver, a write-off, a refund or a reversal is
+/// accepted from nobody else.
+pub fn only_managers_concede()
+    ensures { (caller : Caller) (sender : Staff) (call : Call) (i : Institution) (change : Change) →
+        call.caller ≡ Some caller → staff_at i caller ≡ Some sender → is_concession call.request ≡ true →
+        change_in (outcome call i) ≡ Some change → sender.role ≡ Manager }
+{}
+
+/// Only a manager of the head office changes what all share: the business day, the charges and the products.
+pub fn only_the_head_changes_the_catalogue()
+    ensures role { (caller : Caller) (sender : Staff) (call : Call) (i : Institution) (catalogue : Catalogue) →
+        call.caller ≡ Some caller → staff_at i caller ≡ Some sender →
+        change_in (outcome call i) ≡ Some (Catalogue_becomes catalogue) → sender.role ≡ Manager }
+    ensures office { (caller : Caller) (sender : Staff) (call : Call) (i : Institution) (catalogue : Catalogue) →
+        call.caller ≡ Some caller → staff_at i caller ≡ Some sender →
+        change_in (outcome call i) ≡ Some (Catalogue_becomes catalogue) → caller.office ≡ 1 }
+{}
+
+/// Nobody unknown changes anything.
+pub fn strangers_change_nothing()
+    ensures nobody { (call : Call) (i : Institution) → call.caller ≡ None → change_in (outcome call i) ≡ None }
+    ensures unknown { (caller : Caller) (call : Call) (i : Institution) →
+        call.caller ≡ Some caller → staff_at i caller ≡ None → change_in (outcome call i) ≡ None }
+{}
+
+/// Whatever the people of an office send, every office that isn't at or below theirs stays as it was, with all its
+/// rows.
 pub fn offices_change_only_what_lies_below()
     ensures { (o y : ℕ) (i : Institution) (lines : List Line) → IsTree i.offices → AreFrom o lines →
         is_there i.offices y ≡ true → is_at_or_below (parent_of i.offices) y o ≡ false →
         office_at y (last lines i).offices ≡ office_at y i.offices }
 {}
 
-/// Of an office's loans, what is outstanding is what is on time and what is overdue in each class, and no cent else; and
-/// the portfolio at risk is at most 100 per cent.
+/// Whatever requests come, no portion of an instalment is paid, waived and written off beyond what is owed of it.
+pub fn nobody_pays_more_than_is_owed()
+    ensures { (i : Institution) (lines : List Line) (loan : Account) (account : DisbursedLoan) →
+        IsSound i → AreInRange lines →
+        account_of (last lines i).catalogue (ledger_at loan (last lines i)) ≡ Some account →
+        AreWithin (state_of_loan account).rows }
+{}
+
+/// An entry that is entered and then reversed leaves the sums of a loan as if it had never been entered.
+pub fn a_reversal_is_as_never_entered()
+    ensures { (loan : DisbursedLoan) (entry : Entry) →
+        let reversed : DisbursedLoan = record loan {
+          entries = with_mark (loan.entries ++ entry ∷ []) (length loan.entries) true;
+        } in
+        balances_of reversed ≡ balances_of loan }
+{}
+
+/// Of an office's loans, what is outstanding is what is on time and what is overdue in each class, and no cent else;
+/// and the portfolio at risk is at most 100 per cent.
 pub fn arrears_add_up()
     ensures classes { (office : ℕ) (loans : List AgedLoan) →
         let line = line_of_loans office loans in
@@ -79,4 +132,23 @@ pub fn arrears_grow_with_time()
     ensures class { (rows : List Instalment) (day more : ℕ) →
         lateness (class_of (pos (days_overdue rows day)))
         ≤ lateness (class_of (pos (days_overdue rows (day + more)))) }
+{}
+
+/// The schedule that a loan is paid out by comes to what was lent, to the cent, and its due days ascend.
+pub fn schedules_come_to_what_was_lent()
+    ensures principal { (terms : Terms) (principal periods day : ℕ) → IsLoanWithinLimits terms principal periods →
+        total_principal (fresh_schedule terms principal periods day) ≡ principal }
+    ensures due_days { (terms : Terms) (day earlier later : ℕ) → AreTermsWithinLimits terms → earlier < later →
+        due_day_of terms day earlier < due_day_of terms day later }
+{}
+
+/// Worked out: of 100.00 that is 31 days overdue and 200.00 that is on time a third is at risk; a repayment is no
+/// concession, and a write-off is one.
+pub fn worked_rows()
+    ensures at_risk { par30_of (line_of_loans 1 worked_loans) ≡ 3333 }
+    ensures on_time { on_time worked_loans ≡ 20000 }
+    ensures repayment { (loan : Account) (asked : Repayment) →
+        (is_repayment (Loan loan (Repay asked)) ≡ true) × (is_concession (Loan loan (Repay asked)) ≡ false) }
+    ensures write_off { (loan : Account) →
+        (is_repayment (Loan loan (Post WriteOff)) ≡ false) × (is_concession (Loan loan (Post WriteOff)) ≡ true) }
 {}
