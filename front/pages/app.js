@@ -2,9 +2,11 @@
 import {button, element, fill, link, spinner} from "./shared/elements.js";
 import {leavePage, Problem} from "./shared/api.js";
 import {beginSession, session, HEAD_OFFICE, MANAGER, OFFICER, TELLER} from "./shared/session.js";
-import {note} from "./shared/dialogs.js";
+import {followHistory, leaveDialog, note} from "./shared/dialogs.js";
+import {adoptOlder, unsentLines, whenDraftsChange} from "./shared/drafts.js";
+import {institution, learnInstitution} from "./shared/institution.js";
 import {refusalLine, showRefusal} from "./shared/refusals.js";
-import {officeNamed} from "./shared/desk.js";
+import {officeNamed, offices} from "./shared/desk.js";
 import {LANGUAGES, chooseLanguage, language, locale, say, showDay} from "./shared/words.js";
 import {today} from "./views/today.js";
 import {clients} from "./views/clients.js";
@@ -49,6 +51,7 @@ let shown = null;
 
 async function showPage() {
     leavePage();
+    leaveDialog();
     const {name, rest} = place();
     const page = element("div", {class: `page page-${name}`}, spinner(say("loading")));
     fill(main, page);
@@ -64,7 +67,10 @@ async function showPage() {
     }
     if (shown === page) {
         const title = page.querySelector("h1");
-        document.title = title ? `${title.firstChild.textContent} · microloan` : "microloan";
+        document.title = [title?.firstChild.textContent, institution.name].filter(Boolean).join(" · ");
+        // what stands at the foot of each printed page, beside its number (desk.css)
+        const foot = [institution.name, title?.firstChild.textContent].filter(Boolean).join(" · ");
+        document.documentElement.style.setProperty("--page-foot", JSON.stringify(foot));
         if (!isFirst && title && !page.contains(document.activeElement)) {
             title.focus({preventScroll: true});
         }
@@ -135,10 +141,18 @@ function topBar(officeName) {
         "header", {class: "bar d-print-none"},
         element(
             "nav", {class: "navbar navbar-expand-lg navbar-dark container-xl", "aria-label": say("ways")},
-            link("#/today", "microloan", {class: "navbar-brand"}), day, toggler, inner));
+            link("#/today", institution.name, {class: "navbar-brand"}), day, toggler, inner));
 }
 
-export function showNewDay() {
+// Each page tells which rounds have lines that were typed and not sent, and leads there.
+const unsent = element("div", {class: "unsent d-print-none", role: "status"});
+
+async function showUnsent() {
+    const lines = unsentLines(await offices());
+    fill(unsent, lines.map(({href, words}) => element("div", {class: "container-xl"}, link(href, words))));
+}
+
+function showNewDay() {
     document.getElementById("day-shown").textContent = showDay(session.day);
 }
 
@@ -163,11 +177,16 @@ async function begin() {
     document.documentElement.lang = language;
     fill(desk, element("div", {class: "container py-5"}, spinner(say("loading"))));
     try {
-        await beginSession();
+        await Promise.all([learnInstitution(), beginSession()]);
         const own = await officeNamed(session.office);
-        fill(desk, skipLink(), topBar(own?.name ?? ""), main);
+        const printed = element("div", {class: "institution d-none d-print-block"}, institution.name);
+        fill(desk, skipLink(), topBar(own?.name ?? ""), unsent, printed, main);
         document.documentElement.dataset.locale = locale;
         window.addEventListener("hashchange", showPage);
+        adoptOlder();
+        whenDraftsChange(() => showUnsent());
+        await showUnsent();
+        followHistory();
         window.addEventListener("desk-day", showNewDay);
         window.addEventListener("unhandledrejection", tellProblem);
         await showPage();

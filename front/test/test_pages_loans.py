@@ -100,7 +100,7 @@ class Way(Case):
             shown(zoe),
             (
                 "Waits for approval",
-                {"Principal": "1,000.00", "Outstanding": "0.00", "Paid": "0.00", "Next instalment": "–"},
+                {"Principal": "1,000.00", "Left to pay": "0.00", "Paid": "0.00", "Next instalment": "–"},
             ),
         )
         self.assertEqual(zoe.actions(), {"Withdraw", "Statement"})
@@ -126,11 +126,11 @@ class Way(Case):
             shown(ruth),
             (
                 "Active",
-                {"Principal": "1,000.00", "Outstanding": "1,020.00", "Paid": "0.00", "Next instalment": "343.33"},
+                {"Principal": "1,000.00", "Left to pay": "1,020.00", "Paid": "0.00", "Next instalment": "343.33"},
             ),
         )
         schedule = [
-            (row["Due"], row["Principal"], row["Interest"], row["Outstanding"]) for row in ruth.table("Schedule")
+            (row["Due"], row["Principal"], row["Interest"], row["Left to pay"]) for row in ruth.table("Schedule")
         ]
         self.assertEqual(
             schedule,
@@ -190,9 +190,9 @@ class Way(Case):
             head.figures(),
             {
                 "Active loans": "1",
-                "Outstanding": "1,000.00",
-                "Portfolio at risk": "100.00%",
-                "Principal overdue": "1,000.00",
+                "Outstanding principal": "1,000.00",
+                "PAR 30 (over 30 days)": "100.00%",
+                "Principal of overdue loans": "1,000.00",
             },
         )
         self.assertEqual(head.errors(), [])
@@ -202,6 +202,10 @@ class Way(Case):
         tom.fill("Amount", amount)
         tom.fill("Paid on", day)
         tom.fill("Receipt", receipt)
+        if day == "2024-02-29":
+            tom.press("Enter a repayment", ".modal.show")
+            self.assertIn("Type why, in 1 to 200 characters", tom.text(".modal"))
+            tom.fill("Reason", "the book came late")
         tom.send("Enter a repayment")
 
     def pay_back(self, it):
@@ -214,7 +218,7 @@ class Way(Case):
             shown(tom),
             (
                 "Active",
-                {"Principal": "1,000.00", "Outstanding": "320.00", "Paid": "700.00", "Next instalment": "320.00"},
+                {"Principal": "1,000.00", "Left to pay": "320.00", "Paid": "700.00", "Next instalment": "320.00"},
             ),
         )
         self.assertEqual(
@@ -239,7 +243,7 @@ class Way(Case):
         tom.send("Enter a repayment")
         self.assertEqual(
             shown(tom),
-            ("Closed", {"Principal": "1,000.00", "Outstanding": "0.00", "Paid": "1,020.00", "Next instalment": "–"}),
+            ("Closed", {"Principal": "1,000.00", "Left to pay": "0.00", "Paid": "1,020.00", "Next instalment": "–"}),
         )
         self.assertEqual(tom.actions(), {"Statement"})
         tom.press("Statement")
@@ -256,7 +260,9 @@ class Corrections(Case):
             ruth.go(LOAN)
             ruth.open_dialog("Enter a repayment")
             ruth.fill("Amount", "1,100.00")
-            ruth.send("Enter a repayment")
+            ruth.press("Enter a repayment", ".modal.show")
+            ruth.wait_for_dialog("1,100.00 is more than the 1,020.00 that is left to pay.")
+            ruth.send("Enter 1,100.00 all the same")
             self.assertEqual((ruth.badge(), ruth.figures()["Overpaid"]), ("Overpaid", "80.00"))
             self.assertEqual(ruth.actions(), {"Refund", "Statement"})
             ruth.open_dialog("Refund")
@@ -266,6 +272,7 @@ class Corrections(Case):
             # while the refund stands, it alone can be reversed
             self.assertEqual([one.get_attribute("aria-label") for one in ruth.all("table button")], ["Reverse entry 2"])
             ruth.open_dialog("Reverse")
+            ruth.fill("Reason", "not handed over")
             ruth.send("Reverse the entry")
             self.assertEqual((ruth.badge(), ruth.figures()["Overpaid"]), ("Overpaid", "80.00"))
             rows = ruth.all("tr.row-reversed")
@@ -287,8 +294,9 @@ class Corrections(Case):
             self.assertIn(
                 "Entry 1 of loan 0002-000001 (Repayment, 200.00, Feb 29, 2024) counts no more", ruth.text(".modal")
             )
+            ruth.fill("Reason", "another loan's")
             ruth.send("Reverse the entry")
-            balances = {row["Portion"]: row["Outstanding"] for row in ruth.table("Balances by portion")}
+            balances = {row["Portion"]: row["Left to pay"] for row in ruth.table("Balances by portion")}
             self.assertEqual(balances, {"Principal": "516.67", "Interest": "3.33", "Fees": "–", "Penalties": "–"})
             self.assertEqual(
                 entries(ruth),
@@ -303,6 +311,7 @@ class Corrections(Case):
             )
             ruth.open_dialog("Write off")
             self.assertIn("Gives up 520.00", ruth.text(".modal"))
+            ruth.fill("Reason", "moved away")
             ruth.send("Write off")
             self.assertEqual((ruth.badge(), ruth.figures()["Written off"]), ("Written off", "520.00"))
             self.assertEqual(ruth.actions(), {"Statement"})
@@ -331,13 +340,14 @@ class Corrections(Case):
                 ],
             )
             ruth.fill("What is waived", "instalment 1 · penalties 34.33")
+            ruth.fill("Reason", "a flood")
             ruth.send("Waive")
             told = it.send("ruth", "GET", "/api/loans/0002-000001/entries")[1]["entries"]
             self.assertEqual(
                 [(one["kind"], one["amount"], one["instalment"], one["portion"]) for one in told],
                 [("fee", 500, 3, None), ("penalty", 3433, 1, None), ("waiver", 3433, 1, "penalties")],
             )
-            self.assertEqual(ruth.figures()["Outstanding"], "1,025.00")
+            self.assertEqual(ruth.figures()["Left to pay"], "1,025.00")
             self.assertEqual(ruth.errors(), [])
 
 
@@ -392,6 +402,7 @@ class Lost(Case):
         with desk_with(PAID_OUT) as it:
             ruth = self.reader_who_loses(it, "ruth", LOAN)
             ruth.open_dialog("Write off")
+            ruth.fill("Reason", "moved away")
             ruth.script("window.losing = 'request'")
             self.assertIn("It was looked up: it was not done.", ruth.refused("Write off"))
             self.assertEqual(it.send("ruth", "GET", "/api/loans/0002-000001")[1]["status"], 300)
@@ -404,6 +415,7 @@ class Lost(Case):
         with desk_with(PAID_OUT) as it:
             ruth = self.reader_who_loses(it, "ruth", LOAN)
             ruth.open_dialog("Write off")
+            ruth.fill("Reason", "moved away")
             ruth.script(
                 "window.losing = 'reply'; const losing = window.fetch; window.fetch = (url, options) => { "
                 "const reply = losing(url, options); window.isDown ||= options.method === 'POST'; return reply; }"
@@ -452,6 +464,7 @@ class Lost(Case):
         with desk_with(PAID_OUT) as it:
             ruth = self.reader_who_loses(it, "ruth", LOAN)
             ruth.open_dialog("Write off")
+            ruth.fill("Reason", "moved away")
             ruth.script("window.losing = 'F20'")
             words = ruth.refused("Write off")
             self.assertIn("It was looked up: it was not done.", words)
@@ -476,6 +489,7 @@ class Lost(Case):
             ruth = self.reader(it, "ruth")
             ruth.go(LOAN)
             ruth.open_dialog("Write off")
+            ruth.fill("Reason", "moved away")
             ruth.script(
                 "const real = window.fetch; window.fetch = async (url, options) => { if (options.method === 'POST')"
                 "await new Promise((go) => { window.go = go; }); return real(url, options); }"
@@ -495,6 +509,7 @@ class Lost(Case):
             ruth.go(LOAN)
             it.stop_serve()
             ruth.open_dialog("Write off")
+            ruth.fill("Reason", "moved away")
             self.assertIn("The desk does not run at the moment.", ruth.refused("Write off"))
             it.start_serve()
             ruth.send("Write off")
@@ -520,6 +535,7 @@ class Others(Case):
             for one in (ruth, head):
                 one.go(LOAN)
             ruth.open_dialog("Reject")
+            ruth.fill("Reason", "no surety")
             head.open_dialog("Approve")
             head.send("Approve")
             self.assertIn("The status of the loan does not allow it.", ruth.refused("Reject"))
@@ -587,7 +603,7 @@ class Others(Case):
         head.open_dialog("New charge")
         head.fill("Name", "Papers")
         head.fill("Taken", "at disbursement")
-        head.fill("Reckoned as", "of the amount")
+        head.fill("Calculated as", "of the amount")
         head.fill("Amount or percent", "100.01")
         head.press("Enter the charge", ".modal")
         self.assertIn("From 0.01 to 100.00", head.text(".modal"))

@@ -22,7 +22,7 @@ export class Problem extends Error {
 }
 
 let running = 0;
-let waiting = [];
+let waiting = [];  // writings before readings
 
 // The page is marked while it asks for something.
 function count(more) {
@@ -30,13 +30,16 @@ function count(more) {
     document.documentElement.toggleAttribute("data-asking", running > 0);
 }
 
-// Each waits for its turn in the order of asking.
+// Each waits for its turn in the order of asking, but a writing doesn't wait behind readings.
 function turn(isReading) {
     if (running < MOST_AT_ONCE) {
         count(1);
         return Promise.resolve();
     }
-    return new Promise((go, refuse) => waiting.push({go, refuse, isReading}));
+    return new Promise((go, refuse) => {
+        const place = isReading ? waiting.length : waiting.filter((one) => !one.isReading).length;
+        waiting.splice(place, 0, {go, refuse, isReading});
+    });
 }
 
 async function inTurn(isReading, send) {
@@ -153,4 +156,8 @@ export function repay(loan, repayment) {
 
 export async function whoAmI() {
     return (await tryAgain(() => send("GET", "/me"))).body;
+}
+
+export async function institutionFile() {
+    return (await tryAgain(() => send("GET", "/institution.json"))).body;
 }

@@ -7,6 +7,8 @@ const LOANS_OF_A_PAGE = 100;
 const READ_AHEAD = 4;
 
 export const ACTIVE = 300;
+export const CLOSED = 600;
+export const OVERPAID = 700;
 
 function keptList(name) {
     return JSON.parse(sessionStorage.getItem(name) ?? "[]");
@@ -177,6 +179,17 @@ export async function loansOfClient(client) {
     return loans.filter((_, i) => owners[i] === numberOf(client));
 }
 
+// The last day of an office's closed loans' entries, as far as it was looked up: it doesn't change while they are
+// closed.
+export function lastDays(office) {
+    const days = keptList(`last-days-${office}`);
+    return {
+        of: (account) => days[numberOf(account) - 1] ?? "9999",  // it may be any day
+        keep: (account, day) => (days[numberOf(account) - 1] = day),
+        end: () => keepList(`last-days-${office}`, days)
+    };
+}
+
 // charges and products
 
 const catalogue = {
@@ -221,6 +234,15 @@ export function outstandingPortions(instalment, entryList) {
         }
     }
     return left;
+}
+
+// what is past due of the instalments that were due before a day: of principal, and in all
+export function overdueOf(instalments, entryList, day) {
+    const late = instalments.filter((one) => isOpen(one) && one.due < day);
+    return {
+        principal: late.reduce((all, one) => all + outstandingPortions(one, entryList).principal, 0n),
+        all: late.reduce((all, one) => all + BigInt(one.outstanding), 0n)
+    };
 }
 
 export function isOpen(instalment) {

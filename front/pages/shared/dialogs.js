@@ -1,7 +1,8 @@
-// Questions before something is done, and short notes afterwards.
-import {element, fill, freshId} from "./elements.js";
+// Questions before something is done, and short notes afterwards. A question belongs to the page that asks it: Back
+// closes it and changes nothing else, and nothing is sent once the page is gone.
+import {alertBox, button, element, fill, freshId} from "./elements.js";
 import {NotDone, NotKnown} from "./writing.js";
-import {refusalBox} from "./refusals.js";
+import {refusalBox, refusalLine} from "./refusals.js";
 import {readAll} from "./forms.js";
 import {say} from "./words.js";
 
@@ -27,46 +28,113 @@ function dialogParts({text, fields, action, isGrave}) {
     const cancel = element(
         "button", {type: "button", class: "btn btn-outline-secondary", "data-bs-dismiss": "modal"}, say("cancel"));
     const body = element(
-        "div", {class: "modal-body"}, [text].flat().map((words) => element("p", {}, words)),
+        "div", {class: "modal-body"}, [text].flat().map((words) => element("div", {class: "mb-3"}, words)),
         element("div", {class: "row g-3"}, Object.values(fields).map(({node}) => node)), trouble);
     const form = element(
         "form", {novalidate: true, class: "dialog-form"}, body,
         element("div", {class: "modal-footer"}, cancel, submit));
-    return {trouble, submit, form};
+    return {trouble, submit, cancel, form};
 }
 
+let shown = null;  // the dialog that is open
+
 // Asks before something is done. text: what it does, in words. fields: by name. send: is handed their values, and
-// carries it out. Answers what `send` answered, or null where the reader thought better of it. A refusal is shown in
-// the dialog, which stays open. It can't be closed while something is sent.
-export function ask({title, text = [], fields = {}, action, isGrave = false, send}) {
-    const {trouble, submit, form} = dialogParts({text, fields, action, isGrave});
-    const node = dialogNode({title, id: freshId("dialog"), form});
+// carries it out. check: is handed them first, and answers null, or { doubts, action } where it is to be asked once
+// more. Answers what `send` answered, or null where the reader thought better of it, or left the page. A refusal is
+// shown in the dialog, which stays open. It can't be closed while something is sent.
+export async function ask({title, text = [], fields = {}, action, isGrave = false, check = async () => null, send}) {
+    const parts = dialogParts({text, fields, action, isGrave});
+    const node = dialogNode({title, id: freshId("dialog"), form: parts.form});
     const asker = document.activeElement;
     document.body.append(node);
-    const modal = new bootstrap.Modal(node, {backdrop: "static"});
-    return new Promise((answer) => {
-        let result = null;
-        form.addEventListener("submit", async (event) => {
-            event.preventDefault();
-            const values = submit.disabled ? null : readAll(fields);
-            if (values !== null) {
-                result = await sent({send, values, trouble, submit, action});
-                if (result !== null) {
-                    modal.hide();
-                }
-            }
-        });
-        node.addEventListener("keydown", (event) => keepInside(event, node));
-        node.addEventListener("shown.bs.modal", () => (form.querySelector("input, select") ?? submit).focus());
-        node.addEventListener("hide.bs.modal", (event) => submit.disabled && event.preventDefault());
-        node.addEventListener("hidden.bs.modal", () => {
-            modal.dispose();
-            node.remove();
-            asker?.focus({preventScroll: true});
-            answer(result);
-        });
-        modal.show();
+    const dialog = {node, title, fields, action, isGrave, check, send, ...parts, place: location.hash, result: null};
+    dialog.modal = new bootstrap.Modal(node, {backdrop: "static"});
+    listen(dialog);
+    history.pushState({isDialog: true}, "");
+    shown = dialog;
+    dialog.modal.show();
+    await new Promise((end) => (dialog.end = end));
+    if (shown === dialog) {  // not closed by Back, and the page is still there
+        shown = null;
+        await stepBack();
+    }
+    dialog.modal.dispose();
+    node.remove();
+    asker?.focus({preventScroll: true});
+    return dialog.isGone ? null : dialog.result;
+}
+
+function listen(dialog) {
+    const {node, form, fields} = dialog;
+    const first = form.querySelector("input, select") ?? (dialog.isGrave ? dialog.cancel : dialog.submit);
+    form.addEventListener("submit", (event) => {
+        event.preventDefault();
+        const values = dialog.isBusy || dialog.isClosed ? null : readAll(fields);
+        if (values !== null) {
+            checkAndSend(dialog, values);
+        }
     });
+    form.addEventListener("input", () => dialog.isBusy || fill(dialog.trouble));
+    node.addEventListener("keydown", (event) => keepInside(event, node));
+    node.addEventListener("shown.bs.modal", () => first.focus());
+    node.addEventListener("hide.bs.modal", (event) => {
+        dialog.isClosed = !dialog.isBusy;
+        if (dialog.isBusy) {
+            event.preventDefault();
+        }
+    });
+    node.addEventListener("hidden.bs.modal", () => dialog.end());
+}
+
+// Bootstrap closes no dialog that is still opening: such a one is closed once it is open.
+function close(dialog) {
+    dialog.modal.hide();
+    if (!dialog.isClosed) {
+        dialog.node.addEventListener("shown.bs.modal", () => dialog.modal.hide(), {once: true});
+    }
+    dialog.isClosed = true;
+}
+
+// goes back over the entry in the browser's history that the dialog was opened with
+function stepBack() {
+    return new Promise((done) => {
+        window.addEventListener("popstate", done, {once: true});
+        history.back();
+    });
+}
+
+// Back closes the dialog, but for one that is sending: its entry in the history is made again.
+function whenBack() {
+    if (shown === null) {
+        return;
+    }
+    if (location.hash !== shown.place) {
+        leaveDialog();
+    } else if (shown.isBusy) {
+        history.pushState({isDialog: true}, "");
+    } else {
+        const dialog = shown;
+        shown = null;
+        close(dialog);
+    }
+}
+
+// Closes the dialog of a page that is gone. What it is sending already is told of in a note.
+export function leaveDialog() {
+    if (shown !== null) {
+        const dialog = shown;
+        shown = null;
+        dialog.isGone = true;
+        dialog.isBusy = false;
+        close(dialog);
+    }
+}
+
+export function followHistory() {
+    window.addEventListener("popstate", whenBack);
+    if (history.state?.isDialog) {  // the page was loaded anew while a dialog was open
+        history.back();
+    }
 }
 
 // The key Tab goes round within the dialog.
@@ -79,20 +147,62 @@ function keepInside(event, node) {
     }
 }
 
-async function sent({send, values, trouble, submit, action}) {
+async function checkAndSend(dialog, values) {
+    const doubt = await busyWith(dialog, say("checking"), () => dialog.check(values));
+    if (doubt === undefined || dialog.isGone) {
+        return;
+    }
+    if (doubt === null) {
+        await sendNow(dialog, values);
+    } else {
+        showDoubt(dialog, values, doubt);
+    }
+}
+
+// Asks once more, beside the fields: the button that carries it out all the same is another one, so that the key Enter
+// in a field asks again and sends nothing.
+function showDoubt(dialog, values, {doubts, action}) {
+    const sure = button(
+        action, () => dialog.isBusy || dialog.isClosed || sendNow(dialog, values), {class: "btn btn-danger"});
+    fill(dialog.trouble, alertBox("warning doubt", doubts, element("div", {class: "mt-2"}, sure)));
+    (dialog.form.querySelector("input") ?? sure).focus();
+    sure.scrollIntoView({block: "nearest"});
+}
+
+async function sendNow(dialog, values) {
+    const done = await busyWith(dialog, say("sending"), async () => (await dialog.send(values)) ?? {});
+    if (done === undefined) {
+        return;
+    }
+    dialog.result = done;
+    if (dialog.isGone) {
+        note(`${dialog.title}: ${say("left.done")}`);
+    } else {
+        close(dialog);
+    }
+}
+
+// What the work comes to, or undefined where it is refused: then the dialog tells why, and stays open.
+async function busyWith(dialog, words, work) {
+    const {submit, trouble} = dialog;
     fill(trouble);
+    dialog.isBusy = true;
     submit.disabled = true;
-    fill(submit, busyText(true, say("sending")));
-    let words = action;
+    fill(submit, busyText(true, words));
+    let after = dialog.action;
     try {
-        return (await send(values)) ?? {};
+        return await work();
     } catch (problem) {
         fill(trouble, element("div", {class: "mt-3"}, refusalBox(problem)));
-        words = wordsAfter(problem, action);
-        return null;
+        after = wordsAfter(problem, dialog.action);
+        if (dialog.isGone) {
+            note(`${dialog.title}: ${refusalLine(problem)}`);
+        }
+        return undefined;
     } finally {
+        dialog.isBusy = false;
         submit.disabled = false;
-        fill(submit, busyText(false, words));
+        fill(submit, busyText(false, after));
     }
 }
 

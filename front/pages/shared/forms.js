@@ -4,6 +4,8 @@ import {LEAST, MOST} from "./money.js";
 import {FIRST_DAY, LAST_DAY, isDay} from "./days.js";
 import {readMoney, say, showCount, showDay, showMoney} from "./words.js";
 
+const MOST_LETTERS = 200;
+
 // judge: answers { value } or { wrong: words } for the text of the input
 function field({label, input, hint, judge, wide}) {
     const id = freshId("field");
@@ -33,8 +35,28 @@ function textInput(attributes) {
         "input", {class: "form-control", type: "text", autocomplete: "off", spellcheck: "false", ...attributes});
 }
 
+// What stands in a field is selected once the field has the focus, so that typing replaces it. A press of the mouse
+// sets the caret only after the field got the focus.
+export function selectOnFocus(input) {
+    let isFirstPress = false;
+    input.addEventListener("focus", () => input.select());
+    input.addEventListener("pointerdown", () => {
+        isFirstPress = document.activeElement !== input;
+    });
+    input.addEventListener("click", () => {
+        if (isFirstPress && input.selectionStart === input.selectionEnd) {
+            input.select();
+        }
+        isFirstPress = false;
+    });
+}
+
 function isName(text) {
     return [...text].length >= 1 && [...text].length <= 100 && !/[\u0000-\u001f\u007f]/.test(text);
+}
+
+export function textField({label, hint}) {
+    return field({label, input: textInput({maxlength: MOST_LETTERS}), hint, judge: (text) => ({value: text.trim()})});
 }
 
 export function nameField({label, value = ""}) {
@@ -46,6 +68,7 @@ export function nameField({label, value = ""}) {
 export function moneyField({label, value = null, range = () => [LEAST, MOST], hint}) {
     const input =
         textInput({inputmode: "decimal", class: "form-control amount", value: value === null ? "" : showMoney(value)});
+    selectOnFocus(input);
     const judge = (text) => {
         const cents = readMoney(text);
         const [least, most] = range().map(BigInt);
@@ -107,6 +130,16 @@ export function receiptField({label, value}) {
     const isReceipt = (text) => /^[\u0021-\u007e]{1,40}$/.test(text);
     const judge = (text) => (isReceipt(text.trim()) ? {value: text.trim()} : {wrong: say("field.receipt.wrong")});
     return field({label, input: textInput({value}), hint: say("field.receipt.hint"), judge, wide: true});
+}
+
+// why something is done: it goes along with the request, and into the log of the front
+export function reasonField({isNeeded = () => true} = {}) {
+    const judge = (text) => {
+        const value = text.trim();
+        const isGood = [...value].length <= MOST_LETTERS && !/[\u0000-\u001f\u007f]/.test(value);
+        return isGood && (value !== "" || !isNeeded()) ? {value} : {wrong: say("field.reason.wrong")};
+    };
+    return field({label: say("reason"), input: textInput({}), hint: say("field.reason.hint"), judge, wide: true});
 }
 
 // the values of all fields by name, or null where one of them is wrong; the first wrong one gets the focus

@@ -5,7 +5,7 @@ import {say, sayCount, showDay, showMoney} from "./words.js";
 // columns: { words, kind, isHidden, isWide }: kind "number" is set right; a wide one has a line of its own on a phone.
 // rows, foot: made by `row`. On a phone each row becomes a block in which every cell stands behind its column's words;
 // the roles keep it a table for a screen reader.
-export function table({caption, columns, rows, foot}) {
+export function table({caption, columns, rows, foot, kind = ""}) {
     const titled = columns.map((column) => ({...column, words: capital(column.words)}));
     const head = titled.map(
         ({words, kind, isHidden}) => element(
@@ -13,7 +13,7 @@ export function table({caption, columns, rows, foot}) {
             isHidden ? element("span", {class: "visually-hidden"}, words) : words));
     const body = element("tbody", {role: "rowgroup"}, rows);
     const made = element(
-        "table", {class: "table table-hover align-middle mb-0", role: "table"},
+        "table", {class: `table table-hover align-middle mb-0 ${kind}`, role: "table"},
         element("caption", {class: "visually-hidden"}, caption),
         element("thead", {role: "rowgroup"}, element("tr", {role: "row"}, head)), body,
         foot && element("tfoot", {role: "rowgroup"}, foot));

@@ -1,20 +1,15 @@
-// The reader's language and locale. All words of a language stand in one file of words/, each under the same keys.
-import en from "../words/en.js";
-import fr from "../words/fr.js";
-import es from "../words/es.js";
-import sw from "../words/sw.js";
+// The reader's language and locale. All words of a language stand in one file of words/, each under the same keys; the
+// reader's alone is loaded.
 import {moneyFor} from "./money.js";
 import {daysFor} from "./days.js";
 
-const ALL = {
-    en,
-    fr,
-    es,
-    sw
-};
 const KEPT_AS = "language";
 
 export const LANGUAGES = [["en", "English"], ["fr", "Français"], ["es", "Español"], ["sw", "Kiswahili"]];
+
+function isKnown(name) {
+    return LANGUAGES.some(([one]) => one === name);
+}
 
 function browserLanguages() {
     return navigator.languages?.length ? navigator.languages : [navigator.language || "en"];
@@ -26,10 +21,10 @@ function mainPart(locale) {
 
 function chosen() {
     const kept = localStorage.getItem(KEPT_AS);
-    if (kept in ALL) {
+    if (isKnown(kept)) {
         return {language: kept, locale: browserLanguages().find((locale) => mainPart(locale) === kept) ?? kept};
     }
-    const known = browserLanguages().find((locale) => mainPart(locale) in ALL);
+    const known = browserLanguages().find((locale) => isKnown(mainPart(locale)));
     return {language: known ? mainPart(known) : "en", locale: browserLanguages()[0]};
 }
 
@@ -40,7 +35,7 @@ export function chooseLanguage(name) {
     location.reload();
 }
 
-const words = ALL[language];
+const {default: words} = await import(`../words/${language}.js`);
 const money = moneyFor(locale);
 const plural = new Intl.PluralRules(language);
 const counted = new Intl.NumberFormat(locale, {numberingSystem: "latn"});
@@ -62,6 +57,11 @@ export function hasWords(key) {
 export function sayCount(key, count, values = {}) {
     const form = plural.select(count) === "one" ? "one" : "other";
     return say(`${key}.${form}`, {count: showCount(count), ...values});
+}
+
+// without accents and in small letters, so that "jose" finds "José"
+export function plain(text) {
+    return text.normalize("NFD").replace(/\p{Mn}/gu, "").toLowerCase();
 }
 
 export const showMoney = money.format;

@@ -2,8 +2,19 @@
 import {card, element, emptyState, fill, link, spinner, button} from "../shared/elements.js";
 import {read} from "../shared/api.js";
 import {renewDay, session} from "../shared/session.js";
-import {ACTIVE, asTree, clientName, loan, loansOf, offices, openSince, schedule} from "../shared/desk.js";
-import {centsOfText} from "../shared/money.js";
+import {
+    ACTIVE,
+    asTree,
+    clientName,
+    entries,
+    loan,
+    loansOf,
+    offices,
+    openSince,
+    overdueOf,
+    schedule
+} from "../shared/desk.js";
+import {centsOfText, sum} from "../shared/money.js";
 import {daysBetween} from "../shared/days.js";
 import {say, showCount, showDay, showMoney, showPercent} from "../shared/words.js";
 import {amount, day, pageHead, row, table} from "../shared/tables.js";
@@ -68,7 +79,7 @@ function reportTable(tree, report) {
     const foot = row([{head: say("all")}, ...lineCells(report.all)], {class: "fw-semibold"});
     const columns = [
         {words: say("office")}, {words: say("loans.active"), kind: "number"},
-        {words: say("outstanding"), kind: "number"},
+        {words: say("outstanding.principal"), kind: "number"},
         ...CLASSES.map((name) => ({words: say(`class.${name}`), kind: "number"})), {words: say("par30"), kind: "number"}
     ];
     return table({caption: say("arrears.table"), columns, rows, foot}).node;
@@ -85,7 +96,7 @@ async function officeArrears(page, office, report) {
                                rows: [row([{head: `${office.number} ${office.name}`}, ...lineCells(line)])],
                                columns: [
                                    {words: say("office")}, {words: say("loans.active"), kind: "number"},
-                                   {words: say("outstanding"), kind: "number"},
+                                   {words: say("outstanding.principal"), kind: "number"},
                                    ...CLASSES.map((name) => ({words: say(`class.${name}`), kind: "number"})),
                                    {words: say("par30"), kind: "number"}
                                ],
@@ -99,13 +110,15 @@ async function officeArrears(page, office, report) {
 async function overdueLoans(office) {
     const active = (await loansOf(office)).filter(({status}) => status === ACTIVE);
     const seen = await Promise.all(active.map(async ({loan: account}) => {
-        const since = openSince(await schedule(account));
+        const instalments = await schedule(account);
+        const since = openSince(instalments);
         const days = since === null ? 0 : daysBetween(since, session.day);
         if (days <= 0) {
             return null;
         }
-        const told = await loan(account);
-        return {account, since, days, told, name: await clientName(told.client)};
+        const [told, entryList] = await Promise.all([loan(account), entries(account)]);
+        const overdue = overdueOf(instalments, entryList, session.day);
+        return {account, since, days, told, overdue, name: await clientName(told.client)};
     }));
     return seen.filter((one) => one !== null).sort((one, other) => other.days - one.days);
 }
@@ -121,13 +134,22 @@ function dot(name) {
 }
 
 function overdueTable(overdue) {
-    const rows = overdue.map(({account, since, days, told, name}) => row([
-                                 {head: link(`#/loan/${account}`, account)}, name, day(since),
-                                 {number: [dot(classOf(days)), showCount(days)]}, amount(told.outstanding.principal)
+    const rows = overdue.map((one) => row([
+                                 {head: link(`#/loan/${one.account}`, one.account)}, one.name, day(one.since),
+                                 {number: [dot(classOf(one.days)), showCount(one.days)]}, amount(one.overdue.principal),
+                                 amount(one.overdue.all), amount(one.told.outstanding.principal)
                              ]));
+    const foot = row(
+        [
+            {head: say("all")}, "", "", "", amount(sum(overdue.map((one) => one.overdue.principal))),
+            amount(sum(overdue.map((one) => one.overdue.all))),
+            amount(sum(overdue.map(({told}) => told.outstanding.principal)))
+        ],
+        {class: "fw-semibold"});
     const columns = [
-        {words: say("loan")}, {words: say("client")}, {words: say("open-since")},
-        {words: say("overdue.days"), kind: "number"}, {words: say("outstanding.principal"), kind: "number"}
+        {words: say("loan")}, {words: say("client")}, {words: say("overdue-since")},
+        {words: say("overdue.days"), kind: "number"}, {words: say("overdue.principal"), kind: "number"},
+        {words: say("overdue.all"), kind: "number"}, {words: say("outstanding.principal"), kind: "number"}
     ];
-    return table({caption: say("arrears.loans"), columns, rows}).node;
+    return table({caption: say("arrears.loans"), columns, rows, foot}).node;
 }

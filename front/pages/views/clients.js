@@ -1,13 +1,14 @@
 // An office's clients, found by name as one types; a new client.
 import {button, card, element, emptyState, fill, freshId, link, spinner} from "../shared/elements.js";
-import {change} from "../shared/api.js";
+import {change, readIfThere} from "../shared/api.js";
 import {may, OFFICER, session} from "../shared/session.js";
-import {accountOf, asTree, clientsOf, offices} from "../shared/desk.js";
-import {say, showCount} from "../shared/words.js";
+import {accountOf, asTree, clientsOf, isAccount, offices} from "../shared/desk.js";
+import {plain, say, showCount} from "../shared/words.js";
 import {officeChoice, pageHead, row, table} from "../shared/tables.js";
 import {ask, note} from "../shared/dialogs.js";
 import {nameField} from "../shared/forms.js";
 import {keptWriting, Writing} from "../shared/writing.js";
+import {showRefusal} from "../shared/refusals.js";
 
 const SHOWN_AT_MOST = 100;
 
@@ -36,7 +37,13 @@ export async function clients(page, office = session.office) {
         card(null, place));
     let known = [];
     let isWhole = false;
-    const show = () => showFound(place, number, known, search.value, isWhole);
+    const show = () => {
+        if (isAccount(search.value.trim())) {
+            showNumbered(place, search).catch((problem) => showRefusal(place, problem, show));
+        } else {
+            showFound(place, number, known, search.value, isWhole);
+        }
+    };
     search.addEventListener("input", show);
     await clientsOf(number, (list) => {
         known = list;
@@ -46,34 +53,42 @@ export async function clients(page, office = session.office) {
     show();
 }
 
-// without accents and in small letters, so that "jose" finds "José"
-function plain(text) {
-    return text.normalize("NFD").replace(/\p{Mn}/gu, "").toLowerCase();
-}
-
-function found(list, wanted) {
+function found(office, list, wanted) {
     const parts = plain(wanted).split(/\s+/).filter((part) => part !== "");
     return list.map((name, i) => ({name, number: i + 1})).filter(({name, number}) => {
-        const text = `${plain(name)} ${String(number).padStart(6, "0")}`;
+        const text = `${plain(name)} ${accountOf(office, number)}`;
         return parts.every((part) => text.includes(part));
     });
 }
 
-function showFound(place, office, list, wanted, isWhole) {
-    const all = found(list, wanted);
-    const rows = all.slice(0, SHOWN_AT_MOST).map(({name, number}) => {
-        const account = accountOf(office, number);
-        return row([{head: link(`#/client/${account}`, name)}, element("span", {class: "amount"}, account)]);
-    });
+// A whole number, as it is shown and printed, finds its client in whatever office.
+async function showNumbered(place, search) {
+    const account = search.value.trim();
+    const told = await readIfThere(`/clients/${account}`);
+    if (search.value.trim() === account) {
+        fill(place, told === null ? emptyState(say("clients.not-found")) : clientTable([[account, told.name]]));
+    }
+}
+
+function clientTable(pairs) {
+    const rows = pairs.map(
+        ([account, name]) =>
+            row([{head: link(`#/client/${account}`, name)}, element("span", {class: "amount"}, account)]));
     const columns = [{words: say("client")}, {words: say("number")}];
+    return table({caption: say("clients.title"), columns, rows}).node;
+}
+
+function showFound(place, office, list, wanted, isWhole) {
+    const all = found(office, list, wanted);
+    const pairs = all.slice(0, SHOWN_AT_MOST).map(({name, number}) => [accountOf(office, number), name]);
     const count = element(
         "p", {class: "text-muted mt-2 mb-0", role: "status"},
         isWhole ? say("clients.count", {found: showCount(all.length), all: showCount(list.length)}) : say("loading"),
         all.length > SHOWN_AT_MOST && ` ${say("clients.more", {count: showCount(SHOWN_AT_MOST)})}`);
-    if (rows.length === 0 && isWhole) {
+    if (pairs.length === 0 && isWhole) {
         fill(place, emptyState(say(list.length === 0 ? "clients.none" : "clients.not-found")), count);
     } else {
-        fill(place, table({caption: say("clients.title"), columns, rows}).node, count);
+        fill(place, clientTable(pairs), count);
     }
 }
 

@@ -2,10 +2,13 @@
 import {change, repay} from "../shared/api.js";
 import {MANAGER, OFFICER, TELLER, may, session} from "../shared/session.js";
 import * as desk from "../shared/desk.js";
-import {sum} from "../shared/money.js";
+import {daysBetween} from "../shared/days.js";
+import {percentageOf, sum} from "../shared/money.js";
+import {isAskedFor, proposed} from "../shared/institution.js";
+import {doubtsOf, doubtWords, knownOf, OLD_DAYS} from "../shared/repayments.js";
 import {say, showDay, showMoney, showPercent} from "../shared/words.js";
 import {ask, note} from "../shared/dialogs.js";
-import {choiceField, dayField, moneyField, receiptField} from "../shared/forms.js";
+import {choiceField, dayField, moneyField, reasonField, receiptField} from "../shared/forms.js";
 import {keptWriting, Writing} from "../shared/writing.js";
 
 const SEALS = ["write-off", "refund"];
@@ -19,7 +22,7 @@ export function loanActions(told, again) {
         }
     };
     offer(MANAGER, 100, "approve", stepTo("approve", 200));
-    offer(MANAGER, 100, "reject", stepTo("reject", 500, true), true);
+    offer(MANAGER, 100, "reject", reject, true);
     offer(OFFICER, 100, "withdraw", stepTo("withdraw", 400, true), true);
     offer(MANAGER, 200, "disburse", disburse);
     offer(MANAGER, 200, "undo-approval", stepTo("undo-approval", 100));
@@ -33,19 +36,20 @@ export function loanActions(told, again) {
 }
 
 // Asks, sends, tells that it was done and shows the loan anew. It is shown anew where nothing was done too: another may
-// have changed it meanwhile.
-async function carryOut({name, told, again, values = {}, fields = {}, isGrave = false, send}) {
+// have changed it meanwhile. Where `send` answers words as `told`, these are told.
+async function carryOut({name, told, again, values = {}, fields = {}, isGrave = false, text = [], check, send}) {
     const all = {loan: told.loan, client: told.name, ...values};
     const done = await ask({
         title: say(`do.${name}`),
-        text: say(`do.${name}.what`, all),
+        text: [say(`do.${name}.what`, all), ...text],
         fields,
         isGrave,
         action: say(`do.${name}`),
+        check,
         send
     });
     if (done !== null) {
-        note(say(`do.${name}.done`, all));
+        note(done.told ?? say(`do.${name}.done`, all));
     }
     await again();
     document.getElementById("title")?.focus({preventScroll: true});
@@ -61,6 +65,12 @@ function stepTo(step, status, isGrave = false) {
     };
 }
 
+function reject(told, again) {
+    const send = keptWriting(({reason}) => stepWriting(told, "reject", 500, {reason}));
+    const values = {amount: showMoney(told.principal)};
+    return carryOut({name: "reject", told, again, values, isGrave: true, fields: {reason: reasonField()}, send});
+}
+
 function stepWriting(told, step, status, body) {
     return new Writing({
         send: () => change("POST", `/loans/${told.loan}/${step}`, body),
@@ -71,38 +81,76 @@ function stepWriting(told, step, status, body) {
     });
 }
 
-function disburse(told, again) {
+async function disburse(told, again) {
     const fields = {
         day: dayField(
             {label: say("loan.paid-out"), value: session.day, most: session.day, hint: say("do.disburse.hint")})
     };
+    const charge = told.terms.disbursement_charge;
+    const text = charge === null ? [] : [handedOver(told, await desk.charge(charge))];
     const send = keptWriting(({day}) => stepWriting(told, "disburse", desk.ACTIVE, {day}));
-    return carryOut({name: "disburse", told, again, fields, values: {amount: showMoney(told.principal)}, send});
+    const sendAndTell = async (values) => {
+        await send(values);
+        const now = await desk.loan(told.loan).catch(() => null);
+        return {told: now === null ? say("do.disburse.done", {loan: told.loan, handed: "–"}) : handedOverInFact(now)};
+    };
+    const values = {amount: showMoney(told.principal)};
+    await carryOut({name: "disburse", told, again, fields, values, text, send: sendAndTell});
+}
+
+// What is kept as the fee of a pay-out, and what is handed over: known before it only where the fee isn't counted of
+// the interest, which the schedule has that is made at the pay-out.
+function handedOver(told, charge) {
+    const words = {charge: charge.name, percent: showPercent(charge.value)};
+    if (["percent-of-interest", "percent-of-amount-and-interest"].includes(charge.calc)) {
+        return say("do.disburse.fee-later", {...words, of: say(`calc.${charge.calc}`)});
+    }
+    const principal = BigInt(told.principal);
+    const fee = charge.calc === "flat" ? BigInt(charge.value) : percentageOf(principal, BigInt(charge.value));
+    return say("do.disburse.fee", {...words, fee: showMoney(fee), handed: showMoney(principal - fee)});
+}
+
+function handedOverInFact({loan, principal, disbursement_fee: fee}) {
+    const handed = showMoney(BigInt(principal) - BigInt(fee));
+    const words = {loan, fee: showMoney(fee), handed};
+    return say(BigInt(fee) > 0n ? "do.disburse.done-fee" : "do.disburse.done", words);
 }
 
 // a repayment: its receipt is made before it is sent, so it may be sent again
 
 function enterRepayment(told, again) {
     const due = sum(told.instalments.filter((one) => one.due <= session.day).map((one) => one.outstanding));
-    const next = told.instalments.find(desk.isOpen);
-    const proposed = due > 0n ? due : BigInt(next?.outstanding ?? 0);
+    const next = BigInt(told.instalments.find(desk.isOpen)?.outstanding ?? 0);
     const owed = desk.total(told.outstanding);
+    const reason = reasonField({isNeeded: () => isOld()});
     const fields = {
         amount: moneyField({
             label: say("amount"),
-            value: proposed,
+            value: proposed(due > 0n && isAskedFor(due) ? due : next, owed),
             hint: say("do.repayment.hint", {due: showMoney(due), owed: showMoney(owed)})
         }),
         day: dayField({label: say("do.repayment.day"), value: session.day, least: told.day, most: session.day}),
         receipt: receiptField({label: say("receipt"), value: desk.nextReceipt(told.loan)}),
+        reason,
     };
-    return carryOut({name: "repayment", told, again, fields, send: (values) => sendRepayment(told.loan, values)});
+    const isOld = () => daysBetween(fields.day.input.value || session.day, session.day) > OLD_DAYS;
+    const showReason = () => (reason.node.hidden = !isOld());
+    fields.day.input.addEventListener("input", showReason);
+    fields.day.input.addEventListener("change", showReason);
+    showReason();
+    const known = knownOf(told, told.entries);
+    const check = async (values) => asked(await doubtsOf({loan: told.loan, ...values}, known), values);
+    return carryOut({name: "repayment", told, again, fields, check, send: (values) => sendRepayment(told, values)});
 }
 
-async function sendRepayment(loan, repayment) {
+function asked(doubt, {amount}) {
+    return doubt && {doubts: doubtWords(doubt), action: say("do.repayment.sure", {amount: showMoney(amount)})};
+}
+
+async function sendRepayment({loan}, {reason, ...repayment}) {
     desk.keepReceipt(loan, repayment.receipt);
     try {
-        await repay(loan, repayment);
+        await repay(loan, reason === "" ? repayment : {...repayment, reason});
     } catch (problem) {
         if (problem.fault === "F15") {
             desk.endReceipt(loan);
@@ -110,6 +158,10 @@ async function sendRepayment(loan, repayment) {
         throw problem;
     }
     desk.endReceipt(loan);
+    const now = await desk.loan(loan).catch(() => null);  // it is entered, whether or not this reading succeeds
+    const left = now === null ? "–" : showMoney(desk.total(now.outstanding));
+    const words = {loan, amount: showMoney(repayment.amount), receipt: repayment.receipt, left};
+    return {told: say("do.repayment.done", words)};
 }
 
 // other entries: what tells later that one was entered is a new entry of this kind
@@ -186,25 +238,20 @@ async function enterWaiver(told, again) {
         note(say("do.waiver.none"));
         return;
     }
-    const fields = {what: choiceField({label: say("do.waiver.choose"), choices})};
-    const send = keptWriting(({what}) => {
+    const fields = {what: choiceField({label: say("do.waiver.choose"), choices, wide: true}), reason: reasonField()};
+    const send = keptWriting(({what, reason}) => {
         const [instalment, portion] = [Number(what.split(" ")[0]), what.split(" ")[1]];
         const isSame = (entry) => entry.instalment === instalment && entry.portion === portion;
-        return entryWriting(told, {path: "waivers", kind: "waiver", body: {instalment, portion}, isSame});
+        return entryWriting(told, {path: "waivers", kind: "waiver", body: {instalment, portion, reason}, isSame});
     });
     await carryOut({name: "waiver", told, again, fields, send});
 }
 
 function enterWriteOff(told, again) {
-    const send = keptWriting(() => entryWriting(told, {path: "write-off", kind: "write-off"}));
-    return carryOut({
-        name: "write-off",
-        told,
-        again,
-        isGrave: true,
-        values: {amount: showMoney(desk.total(told.outstanding))},
-        send
-    });
+    const send = keptWriting(
+        ({reason}) => entryWriting(told, {path: "write-off", kind: "write-off", body: {reason}}));
+    const values = {amount: showMoney(desk.total(told.outstanding))};
+    return carryOut({name: "write-off", told, again, isGrave: true, values, fields: {reason: reasonField()}, send});
 }
 
 function enterRefund(told, again) {
@@ -220,16 +267,16 @@ export function mayReverse(told, entry) {
 }
 
 export function reverseEntry(told, entry, again) {
-    const writing = new Writing({
-        send: () => change("POST", `/loans/${told.loan}/entries/${entry.entry}/reverse`),
+    const send = keptWriting(({reason}) => new Writing({
+        send: () => change("POST", `/loans/${told.loan}/entries/${entry.entry}/reverse`, {reason}),
         find: async () =>
             (await desk.entries(told.loan)).find((one) => one.entry === entry.entry && one.reversed) ?? null,
-    });
+    }));
     const values = {
         number: entry.entry,
         kind: say(`kind.${entry.kind}`),
         amount: showMoney(entry.amount),
         day: showDay(entry.day)
     };
-    return carryOut({name: "reverse", told, again, isGrave: true, values, send: () => writing.attempt()});
+    return carryOut({name: "reverse", told, again, isGrave: true, values, fields: {reason: reasonField()}, send});
 }

@@ -75,10 +75,10 @@ function warning(told) {
     if (told.overdue === 0) {
         return null;
     }
-    const due = told.instalments.filter((one) => one.due < session.day).map((one) => one.outstanding);
+    const {principal, all} = desk.overdueOf(told.instalments, told.entries, session.day);
     return alertBox(
         "danger", element("strong", {}, sayCount("overdue", told.overdue)), " · ",
-        say("loan.overdue-sum", {amount: showMoney(sum(due))}));
+        say("loan.overdue-sum", {amount: showMoney(all)}), ` · ${say("overdue.principal")} ${showMoney(principal)}`);
 }
 
 function sums(told) {
@@ -89,7 +89,7 @@ function sums(told) {
     const next = told.instalments.find(desk.isOpen);
     return figures(
         figure(say("principal"), showMoney(told.principal)),
-        figure(say("outstanding"), showMoney(desk.total(told.outstanding)), {isAlarming: told.overdue > 0}),
+        figure(say("left-to-pay"), showMoney(desk.total(told.outstanding)), {isAlarming: told.overdue > 0}),
         figure(say("paid"), showMoney(desk.total(told.paid))),
         over ??
             (written > 0n ?
@@ -115,7 +115,7 @@ function terms(told) {
 function balances(told) {
     const columns = [
         {words: say("loan.portion")}, {words: say("paid"), kind: "number"}, {words: say("waived"), kind: "number"},
-        {words: say("written-off"), kind: "number"}, {words: say("outstanding"), kind: "number"}
+        {words: say("written-off"), kind: "number"}, {words: say("left-to-pay"), kind: "number"}
     ];
     const rows = ["principal", "interest", "fees", "penalties"].map(
         (name) => row([
@@ -182,7 +182,7 @@ function scheduleTable(told) {
     const columns = [
         {words: say("instalment.short")}, {words: say("due")},
         ...portions.map((name) => ({words: say(`portion.${name}`), kind: "number"})),
-        {words: say("owed"), kind: "number"}, {words: say("outstanding"), kind: "number"},
+        {words: say("owed"), kind: "number"}, {words: say("left-to-pay"), kind: "number"},
         {words: say("state"), isWide: true}
     ];
     return table({caption: say("loan.schedule"), columns, rows, foot}).node;

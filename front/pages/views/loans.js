@@ -53,7 +53,7 @@ export function loanTable(told, caption, isNamed = true) {
                  ].filter((cell) => cell !== false)));
     const columns = [
         {words: say("loan")}, isNamed && {words: say("client")}, {words: say("status")},
-        {words: say("principal"), kind: "number"}, {words: say("outstanding"), kind: "number"}
+        {words: say("principal"), kind: "number"}, {words: say("left-to-pay"), kind: "number"}
     ].filter((column) => column !== false);
     return table({caption, columns, rows}).node;
 }

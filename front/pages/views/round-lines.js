@@ -1,94 +1,181 @@
-// The lines of a round: each loan with what is due, the amount typed in, and what came of it.
-import {element, freshId, link} from "../shared/elements.js";
-import {LEAST, MOST} from "../shared/money.js";
-import {readMoney, say, showMoney} from "../shared/words.js";
+// The lines of a round: each loan with what is due, what the round has of it already, the amount typed in, and what
+// came of it.
+import {button, element, fill, freshId, link} from "../shared/elements.js";
+import {LEAST, MOST, sum} from "../shared/money.js";
+import {proposed} from "../shared/institution.js";
+import {plain, readMoney, say, showMoney} from "../shared/words.js";
 import {amount, day, overdueBadge, row, table} from "../shared/tables.js";
+import {selectOnFocus} from "../shared/forms.js";
 import {resultNode} from "./round-sheet.js";
 
-const DONE = ["entered", "repeated"];
+const REASONS = ["absent", "promised", "refused", "other"];
 
-// keep: is called where a line changed
-export function lineTable(lines, {keep, isEarly}) {
-    let changed = () => {};
-    const shown = new Map(lines.map((line) => [line, lineRow(line, () => {
-                                                   keep();
-                                                   changed();
-                                               }, isEarly)]));
+const ORDERS = {
+    name: (one, other) => one.name.localeCompare(other.name) || one.loan.localeCompare(other.loan),
+    loan: (one, other) => one.loan.localeCompare(other.loan),
+    overdue: (one, other) => other.days - one.days || one.loan.localeCompare(other.loan),
+};
+
+// desk: { isEarly, keep(line), change(), further(line) }: what the round does where a line was changed or is to be paid
+// again.
+export function lineTable(lines, desk) {
     const columns = [
-        {words: say("loan")}, {words: say("client"), isWide: true}, {words: say("open-since"), isWide: true},
-        {words: say("round.due"), kind: "number"}, {words: say("outstanding"), kind: "number"},
-        {words: say("round.paid"), kind: "number", isWide: true}, {words: say("round.result"), isWide: true}
+        {words: say("loan")}, {words: say("client")}, {words: say("due-since")},
+        {words: say("round.due"), kind: "number"}, {words: say("left-to-pay"), kind: "number"},
+        {words: say("round.paid"), kind: "number"}, {words: say("round.not-paid")}, {words: say("round.result")}
     ];
-    const {node} = table({caption: say("round.title"), columns, rows: [...shown.values()].map(({tr}) => tr)});
+    const shown = new Map();
+    const add = (line) => {
+        shown.set(line, lineRow(line, desk));
+        return shown.get(line).tr;
+    };
+    const rows = lines.map(add);
+    const {node, body} = table({caption: say("round.title"), columns, rows, kind: "round-lines"});
+    body.addEventListener("keydown", (event) => goOn(event, body));
     return {
         node,
-        whenChanged(tell) {
-            changed = tell;
-        },
-        show(line) {
-            shown.get(line).show();
-        },
-        ready: () => lines.filter((line) => line.cents !== null),
-        propose() {
-            lines.filter((line) => line.text === "" && line.due > 0n)
-                .forEach((line) => shown.get(line).type(showMoney(line.due)));
-            keep();
-            changed();
+        add: (line) => body.append(add(line)),
+        show: (line) => shown.get(line).show(),
+        focus: (line) => shown.get(line).focus(),
+        propose: () => lines.filter((line) => line.text === "" && line.due > 0n && isOpen(line) && line.why === "")
+                           .forEach((line) => shown.get(line).type(showMoney(proposed(line.due, line.owed)))),
+        // what was typed is always shown, whatever is looked for
+        arrange(order, wanted) {
+            const parts = plain(wanted).split(/\s+/).filter((part) => part !== "");
+            const isWanted = (line) =>
+                line.text !== "" || parts.every((part) => `${plain(line.name)} ${line.loan}`.includes(part));
+            const focused = document.activeElement;
+            [...lines].sort(ORDERS[order]).forEach((line) => {
+                shown.get(line).tr.hidden = !isWanted(line);
+                body.append(shown.get(line).tr);
+            });
+            if (body.contains(focused)) {
+                focused.focus();
+            }
         },
     };
 }
 
-function centsOf(text) {
+// whether a payment may be typed: not where the round has one of this loan, unless a further one was asked for
+export function isOpen(line) {
+    return line.isFurther || line.payments.every(({reversed}) => reversed);
+}
+
+// The key Enter leads from one amount to the next, and from the last to what enters them.
+function goOn(event, body) {
+    if (event.key !== "Enter" || !event.target.matches(".paid-field")) {
+        return;
+    }
+    event.preventDefault();
+    const fields = [...body.querySelectorAll("tr:not([hidden]) .paid-field:not([readonly])")];
+    (fields[fields.indexOf(event.target) + 1] ?? document.querySelector(".round-enter"))?.focus();
+}
+
+export function centsOf(text) {
     const cents = readMoney(text);
     return cents !== null && cents >= LEAST && cents <= MOST ? cents : null;
 }
 
-function paidField(line, isEarly, tell) {
+function paidField(line) {
     const input = element("input", {
         class: "form-control form-control-sm amount paid-field",
         type: "text",
         inputmode: "decimal",
         autocomplete: "off",
+        enterkeyhint: "next",
         id: freshId("paid"),
         "aria-label": say("round.paid.by", {client: line.name, loan: line.loan}),
     });
-    const take = () => {
-        line.text = input.value.trim();
-        line.cents = line.text === "" ? null : centsOf(line.text);
+    selectOnFocus(input);
+    return input;
+}
+
+function reasonChoice(line) {
+    const choices = [["", "–"], ...REASONS.map((name) => [name, say(`why.${name}`)])];
+    return element(
+        "select", {
+            class: "form-select form-select-sm why-field",
+            "aria-label": say("round.why.by", {client: line.name, loan: line.loan})
+        },
+        choices.map(([name, words]) => element("option", {value: name}, words)));
+}
+
+function lineRow(line, desk) {
+    const input = paidField(line);
+    const why = reasonChoice(line);
+    const result = element("div", {class: "line-result", "aria-live": "polite"});
+    const receipt = element("span", {class: "receipt"});
+    const due = element("span", {});
+    const owed = element("span", {});
+    const since = element("span", {});
+    const show = () => {
+        const isTyped = input.value.trim() === line.text;
+        if (!isTyped) {
+            input.value = line.text;
+        }
+        why.value = line.why;
         const isWrong = line.text !== "" && line.cents === null;
         input.classList.toggle("is-invalid", isWrong);
         input.setAttribute("aria-invalid", String(isWrong));
+        input.readOnly = desk.isEarly || line.isLocked || !isOpen(line);
+        why.disabled = input.readOnly;
+        due.textContent = showMoney(line.due);
+        owed.textContent = showMoney(line.owed);
+        fill(since, sinceNodes(line));
+        receipt.textContent = isOpen(line) ? line.receipt : "";
+        result.replaceChildren(...resultNodes(line, desk));
     };
     const type = (text) => {
-        input.value = text;
-        take();
+        Object.assign(line, {text, cents: text === "" ? null : centsOf(text), result: null});
+        line.why = text === "" ? line.why : "";
+        desk.keep(line);
+        show();
+        desk.change();
     };
-    type(line.text);
-    input.addEventListener("input", () => {
-        take();
-        tell();
+    input.addEventListener("input", () => type(input.value.trim()));
+    why.addEventListener("change", () => {
+        line.why = why.value;
+        type(why.value === "" ? line.text : "");
     });
-    return {
-        input,
-        type,
-        lock: (isDone) => {
-            input.readOnly = isDone || isEarly;
-        }
-    };
+    show();
+    const tr = row([
+        {head: link(`#/loan/${line.loan}`, line.loan)}, element("span", {class: "line-client"}, line.name), since,
+        {number: due}, {number: owed}, {number: input}, why, [result, receipt]
+    ]);
+    return {tr, show, type, focus: () => input.focus()};
 }
 
-function lineRow(line, tell, isEarly) {
-    const {input, type, lock} = paidField(line, isEarly, tell);
-    const result = element("div", {class: "line-result", "aria-live": "polite"});
-    const show = () => {
-        lock(DONE.includes(line.result));
-        result.replaceChildren(line.isSending ? say("sending") : resultNode(line.result));
-    };
-    show();
-    const since = line.since === null ? "–" : [day(line.since), line.days > 0 && [" ", overdueBadge(line.days)]];
-    const tr = row([
-        {head: link(`#/loan/${line.loan}`, line.loan)}, line.name, since, amount(line.due), amount(line.owed),
-        {number: input}, [result, element("span", {class: "receipt"}, line.receipt)]
-    ]);
-    return {tr, show, type};
+function sinceNodes({since, days, due}) {
+    return since === null || due === 0n ? "–" : [day(since), days > 0 && [" ", overdueBadge(days)]];
+}
+
+// what stands of this loan in the round, and what came of sending
+function resultNodes(line, desk) {
+    const standing = line.payments.filter(({reversed}) => !reversed);
+    const paid = standing.map(
+        (one) => element(
+            "div", {class: "line-paid", "data-result": line.results[one.receipt] ?? "standing"},
+            say(line.results[one.receipt] === "entered" ? "round.entered" : "round.entered-by", {
+                amount: showMoney(one.amount),
+                staff: one.staff
+            })));
+    const isRefused = line.result !== null && line.result.startsWith("F");
+    const words = line.cents !== null && isRefused ? say("round.further-with", {amount: showMoney(line.cents)}) :
+                                                     say("round.further");
+    const mayAdd = standing.length > 0 && !desk.isEarly && (!isOpen(line) || line.result === "F15");
+    const further = mayAdd &&
+        button(words, () => desk.further(line), {class: "btn btn-sm btn-outline-primary", disabled: line.isLocked});
+    return [...paid, line.isSending ? say("sending") : ofLine(line.result), further].filter(Boolean);
+}
+
+function ofLine(result) {
+    const other = () => element("span", {class: "line-refusal", "data-result": "F15"}, say("round.other-amount"));
+    return result === "F15" ? other() : resultNode(result);
+}
+
+// by whom how much was collected of what the lines have, where somebody is named
+export function sumsByCollector(lines) {
+    const names = [...new Set(lines.map(({collector}) => collector).filter((name) => name !== ""))];
+    const sumOf = (name) => sum(lines.filter((line) => line.collector === name).map(({cents}) => cents ?? 0n));
+    return names.map((name) => [name, sumOf(name)]);
 }

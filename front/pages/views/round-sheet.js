@@ -3,21 +3,42 @@ import {alertBox, button, card, element, fill, freshId} from "../shared/elements
 import {Problem, repay} from "../shared/api.js";
 import {isAccount} from "../shared/desk.js";
 import {centsOfText, LEAST, MOST, textOfCents} from "../shared/money.js";
-import {isDay} from "../shared/days.js";
+import {daysBetween, isDay} from "../shared/days.js";
+import {session} from "../shared/session.js";
+import {OLD_DAYS} from "../shared/repayments.js";
+import {ask} from "../shared/dialogs.js";
+import {reasonField} from "../shared/forms.js";
 import {inWords} from "../shared/refusals.js";
-import {say, sayCount, showCount} from "../shared/words.js";
+import {say, sayCount, showCount, showDay} from "../shared/words.js";
 import {amount, day, row, table} from "../shared/tables.js";
 
 const NAMES = ["receipt", "loan", "date", "amount"];
 const MOST_BYTES = 1_048_576;
 
+// The reason for lines that lie far back: "" where none does, or null where the reader thought better of it.
+export async function askForReason(lines) {
+    const oldest = lines.map((line) => line.day).sort()[0] ?? session.day;
+    if (daysBetween(oldest, session.day) <= OLD_DAYS) {
+        return "";
+    }
+    const values = await ask({
+        title: say("round.old"),
+        text: say("round.old.what", {day: showDay(oldest)}),
+        fields: {reason: reasonField()},
+        action: sayCount("round.enter", lines.length),
+        send: async (given) => given
+    });
+    return values === null ? null : values.reason;
+}
+
 // Sends lines in their order. Ends early where no reply comes, and answers that problem: the lines after it were not
 // sent.
-export async function sendLines(lines, tell) {
+export async function sendLines(lines, reason, tell) {
     for (const line of lines) {
         line.isSending = true;
+        line.result = null;
         tell(line);
-        const problem = await sendLine(line);
+        const problem = await sendLine(line, reason);
         line.isSending = false;
         tell(line);
         if (problem?.isLost || problem?.front === "password") {
@@ -27,9 +48,12 @@ export async function sendLines(lines, tell) {
     return null;
 }
 
-async function sendLine(line) {
+// The core ignores who collected, and why; the log of the front keeps both.
+async function sendLine(line, reason) {
+    const repayment = {amount: Number(line.cents), day: line.day, receipt: line.receipt};
+    const more = Object.entries({collector: line.collector ?? "", reason}).filter(([, words]) => words !== "");
     try {
-        const {status} = await repay(line.loan, {amount: Number(line.cents), day: line.day, receipt: line.receipt});
+        const {status} = await repay(line.loan, {...repayment, ...Object.fromEntries(more)});
         line.result = status === 201 ? "entered" : "repeated";
         return null;
     } catch (problem) {
@@ -57,14 +81,13 @@ export function resultNode(result) {
         "span", {class: "line-refusal", "data-result": result}, element("strong", {}, `${result}: ${what} `), todo);
 }
 
-// how many lines came to what, in words
-export function tally(lines) {
-    const count = (names) => lines.filter((line) => names.includes(line.result)).length;
-    const refused = lines.filter((line) => /^F/.test(line.result ?? "")).length;
-    return [
-        ["entered", count(["entered"])], ["repeated", count(["repeated"])], ["refused", refused],
-        ["lost", count(["lost"])]
-    ].filter(([, number]) => number > 0)
+// how often lines came to what, in words
+export function tally(results) {
+    const count = (name) => results.filter((result) => result === name).length;
+    const refused = results.filter((result) => /^F/.test(result ?? "")).length;
+    const counts = {entered: count("entered"), repeated: count("repeated"), refused, lost: count("lost")};
+    return Object.entries(counts)
+        .filter(([, number]) => number > 0)
         .map(([name, number]) => say(`tally.${name}`, {count: showCount(number)}))
         .join(" · ");
 }
@@ -72,7 +95,7 @@ export function tally(lines) {
 // the round as a sheet: the amounts typed in; where none is, what is due
 export function saveSheet(lines, name) {
     const isTyped = lines.some((line) => line.cents !== null);
-    const rows = lines.filter((line) => !isTyped || line.cents !== null)
+    const rows = lines.filter((line) => (isTyped ? line.cents !== null : line.due > 0n))
                      .map((line) => [line.receipt, line.loan, line.day, textOfCents(line.cents ?? line.due)]);
     saveText(`${d3.csvFormatRows([NAMES, ...rows])}\n`, `sheet-${name}.csv`);
 }
@@ -156,8 +179,9 @@ function showSheet(place, lines, name) {
     const enter = button(sayCount("round.enter", good.length), async () => {
         enter.disabled = true;
         fill(trouble);
-        const problem = await sendLines(good, (line) => rows.get(line).show());
-        summary.textContent = tally(lines);
+        const reason = await askForReason(good);
+        const problem = reason === null ? null : await sendLines(good, reason, (line) => rows.get(line).show());
+        summary.textContent = tally(lines.map(({result}) => result));
         fill(trouble, problem && alertBox("warning", say("round.stopped")));
         enter.textContent = say("round.send-again", {count: showCount(good.length)});
         enter.disabled = false;

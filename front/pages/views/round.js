@@ -1,64 +1,23 @@
-// A round of collections: what is due in an office by a day, loan by loan, and the repayments of the round. Each line
-// has its receipt before it is sent, and keeps it in the browser: sent again, after whatever interruption, nothing is
-// entered twice.
-import {alertBox, button, card, element, emptyState, fill, spinner} from "../shared/elements.js";
+// A round of collections: what is due in an office by a day, loan by loan, and the repayments of the round.
+import {alertBox, button, card, element, emptyState, fill, freshId, spinner} from "../shared/elements.js";
 import {renewDay, session} from "../shared/session.js";
-import {
-    ACTIVE,
-    asTree,
-    clientName,
-    isOpen,
-    loan,
-    loansOf,
-    offices,
-    openSince,
-    schedule,
-    total
-} from "../shared/desk.js";
+import {asTree, entries as readEntries, loan as readLoan, offices} from "../shared/desk.js";
 import {daysBetween, isDay} from "../shared/days.js";
 import {sum} from "../shared/money.js";
+import {draftsOf, endDraft, keepDraft, throwAway, whenDraftsChange} from "../shared/drafts.js";
+import {doubtsOf, doubtWords, knownOf, OLD_DAYS} from "../shared/repayments.js";
 import {say, sayCount, showCount, showDay, showMoney} from "../shared/words.js";
 import {officeChoice, pageHead} from "../shared/tables.js";
-import {dayField} from "../shared/forms.js";
+import {choiceField, dayField, reasonField, textField} from "../shared/forms.js";
 import {ask} from "../shared/dialogs.js";
-import {lineTable} from "./round-lines.js";
-import {saveSheet, sheetCard, sendLines, tally} from "./round-sheet.js";
-
-const KEPT_DAYS = 90;
-
-// Drafts: which round of this office and day it is, and by loan what was typed in and what came of it.
-
-function keyOf(office, day) {
-    return `round ${session.staff} ${office} ${day}`;
-}
-
-// What was kept of rounds long past is given up.
-function forgetOld() {
-    const isOld = (key) => key.startsWith("round ") && daysBetween(key.split(" ").at(-1), session.day) > KEPT_DAYS;
-    Object.keys(localStorage).filter(isOld).forEach((key) => localStorage.removeItem(key));
-}
-
-function readDrafts(office, day) {
-    return {turn: 1, lines: {}, ...JSON.parse(localStorage.getItem(keyOf(office, day)) ?? "{}")};
-}
-
-function keepDrafts({office, day, turn, lines}) {
-    const worked = lines.filter((line) => line.text !== "" || line.result !== null);
-    const drafts = worked.map((line) => [line.loan, {text: line.text, result: line.result}]);
-    localStorage.setItem(keyOf(office, day), JSON.stringify({turn, lines: Object.fromEntries(drafts)}));
-}
-
-// The receipt of a loan's line is the same whenever and wherever this person opens this round. So the round can't be
-// entered twice, not even from another browser.
-function receiptOf(account, day, turn) {
-    const start = `${session.staff.replace("/", ".")}-${day.replaceAll("-", "")}-${account.slice(5)}`;
-    return turn === 1 ? start : `${start}-${turn}`;
-}
+import {isOpen, lineTable, sumsByCollector} from "./round-lines.js";
+import {readOthers, readRound} from "./round-reading.js";
+import {nextReceipt, paymentsOf} from "./round-receipts.js";
+import {askForReason, saveSheet, sendLines, sheetCard, tally} from "./round-sheet.js";
 
 export async function round(page, officeText, dayText) {
     const [list] = await Promise.all([offices(), renewDay()]);
     window.dispatchEvent(new Event("desk-day"));
-    forgetOld();
     const office = Number(officeText ?? session.office);
     const day = isDay(dayText ?? "") ? dayText : session.day;
     const go = (otherOffice, otherDay) => {
@@ -77,116 +36,275 @@ export async function round(page, officeText, dayText) {
         element("p", {class: "d-none d-print-block"}, `${office} ${named?.name ?? ""} · ${showDay(day)}`),
         element("div", {class: "filters d-print-none"}, choice, dayChoice.node), place,
         element("div", {class: "mt-3 d-print-none"}, sheetCard()));
-    const made = {office, day, ...(await readRound(office, day)), again: () => round(page, office, day)};
-    showRound(place, actions, made);
+    const made = {place, actions, office, day, isEarly: day > session.day, ...(await readRound(office, day))};
+    showRound(made);
+    await addOthers(made);
 }
 
-// what is due by the day, and what this round has entered already
-async function readRound(office, day) {
-    const {turn, lines: drafts} = readDrafts(office, day);
-    const active = (await loansOf(office)).filter(({loan: account, status}) => status === ACTIVE || account in drafts);
-    const lines = await Promise.all(active.map(async ({loan: account}) => {
-        const instalments = (await schedule(account)).filter(isOpen);
-        const due = instalments.filter((one) => one.due <= day);
-        if (due.length === 0 && !(account in drafts)) {
-            return null;
+// What was typed in another tab is shown in this one as long as the page is there.
+function followDrafts(made) {
+    const end = whenDraftsChange((changed) => {
+        if (!made.place.isConnected) {
+            end();
+        } else if (changed === null || (changed.office === made.office && changed.day === made.day)) {
+            takeDrafts(made, changed?.loan);
         }
-        const told = await loan(account);
-        const since = openSince(due);
-        return {
-            loan: account,
-            name: await clientName(told.client),
-            since,
-            days: since === null ? 0 : Math.max(0, daysBetween(since, day)),
-            due: sum(due.map((one) => one.outstanding)),
-            owed: total(told.outstanding),
-            day,
-            text: "",
-            result: null,
-            receipt: receiptOf(account, day, turn),
-            ...drafts[account],
-        };
-    }));
-    return {turn, lines: lines.filter((line) => line !== null)};
+    });
 }
 
-function showRound(place, actions, made) {
-    const {lines, office, day} = made;
+function takeDrafts(made, loan) {
+    const drafts = draftsOf(made.office, made.day);
+    for (const line of made.lines.filter((one) => (loan === undefined || one.loan === loan) && !one.isWriting)) {
+        const draft = drafts.get(line.loan);
+        const isGone = draft === undefined && line.text !== "" && !line.isSending;
+        Object.assign(line, draft ?? {text: "", cents: null, result: null, why: ""});
+        made.table.show(line);
+        if (isGone) {  // entered or thrown away in another tab
+            renew(made, line).catch(() => {});
+        }
+    }
+    showState(made);
+}
+
+// reads again what the round has of a loan
+async function renew(made, line) {
+    const [told, entries] = await Promise.all([readLoan(line.loan), readEntries(line.loan)]);
+    line.payments = paymentsOf(line, entries);
+    line.known = knownOf(told, entries);
+    const paid = line.owed - line.known.owed;
+    line.owed = line.known.owed;
+    line.due = line.due > paid ? line.due - paid : 0n;
+    if (line.text === "") {
+        line.receipt = nextReceipt(line, line.payments);
+    }
+    made.table.show(line);
+    showState(made);
+}
+
+// Keeps a line in the browser. This tab isn't told of what it wrote itself.
+function keep(made, line) {
+    line.isWriting = true;
+    try {
+        keepDraft(line, line);
+    } catch {
+        fill(made.parts.trouble, alertBox("danger", say("round.not-kept")));
+    } finally {
+        line.isWriting = false;
+    }
+}
+
+function keepTyped(made, line) {
+    line.collector = line.text === "" ? "" : made.collector.input.value.trim();
+    keep(made, line);
+}
+
+function showRound(made) {
+    const {place, actions, lines, office, day, isEarly} = made;
     if (lines.length === 0) {
         fill(actions);
-        fill(place, card(null, emptyState(say("round.none"))));
+        fill(place, card(null, emptyState(say("round.none"))), smallNote(made));
         return;
     }
-    const isEarly = day > session.day;
-    const table = lineTable(lines, {keep: () => keepDrafts(made), isEarly});
-    const parts = {
-        summary: element("p", {class: "mb-0 fw-semibold", role: "status"}),
-        trouble: element("div", {"aria-live": "assertive"}),
-        propose: button(say("round.propose"), () => table.propose(), {disabled: isEarly}),
-        enter: button("", () => enterAll(made, table, parts), {class: "btn btn-primary"}),
-        renew: button(say("round.new"), () => beginAnew(made), {class: "btn btn-outline-secondary"}),
-    };
-    table.whenChanged(() => showState(made, parts));
+    made.table = lineTable(lines, {
+        isEarly,
+        keep: (line) => keepTyped(made, line),
+        change: () => showState(made),
+        further: (line) => payFurther(made, line)
+    });
+    made.collector = textField({label: say("round.collector"), hint: say("round.collector.hint")});
     const quiet = {class: "btn btn-outline-secondary"};
+    made.parts = {
+        summary: element("div", {role: "status"}),
+        trouble: element("div", {"aria-live": "assertive"}),
+        propose: button(say("round.propose"), () => made.table.propose(), {disabled: isEarly}),
+        enter: button("", () => enterLines(made, readyLines(made)), {class: "btn btn-primary round-enter"}),
+        drop: button(say("round.drop"), () => dropAll(made), {class: "btn btn-outline-danger"}),
+    };
     fill(
         actions, button(say("print"), () => window.print(), quiet),
         button(say("round.save"), () => saveSheet(lines, `${office}-${day}`), quiet));
-    const buttons = element("div", {class: "page-actions"}, parts.propose, parts.enter, parts.renew);
+    const {summary, trouble, propose, enter, drop} = made.parts;
     fill(
-        place, isEarly && alertBox("info", say("round.early", {day: showDay(session.day)})),
-        card(
-            null, table.node, element("div", {class: "round-end d-print-none"}, parts.summary, buttons),
-            parts.trouble));
-    showState(made, parts);
+        place, isEarly && alertBox("info", say("round.early", {day: showDay(session.day)})), arrangement(made),
+        card(null, made.table.node), smallNote(made), trouble,
+        element(
+            "div", {class: "round-end d-print-none"}, summary,
+            element("div", {class: "page-actions"}, drop, propose, enter)));
+    followDrafts(made);
+    showState(made);
 }
 
-// Sends all lines that have an amount. A line is kept in the browser before it is sent.
-async function enterAll(made, table, parts) {
-    fill(parts.trouble);
-    parts.isSending = true;
-    const problem = await sendLines(table.ready(), (line) => {
-        table.show(line);
-        keepDrafts(made);
-        showState(made, parts);
+function smallNote({small}) {
+    return small > 0 && element("p", {class: "text-muted mt-2 mb-0"}, sayCount("round.small", small));
+}
+
+// what is looked for, in which order, and who collected
+function arrangement(made) {
+    const id = freshId("find");
+    const search = element("input", {class: "form-control", type: "search", id, autocomplete: "off"});
+    const order = choiceField({
+        label: say("round.order"),
+        choices: ["loan", "name", "overdue"].map((name) => [name, say(`order.${name}`)]),
+        onchange: () => made.arrange()
     });
-    parts.isSending = false;
-    showState(made, parts);
-    fill(parts.trouble, problem && alertBox("warning", say("round.stopped")));
+    made.arrange = () => made.table.arrange(order.input.value, search.value);
+    search.addEventListener("input", made.arrange);
+    order.node.className = "";
+    made.collector.node.className = "";
+    const find = element("div", {}, element("label", {class: "form-label", "for": id}, say("round.find")), search);
+    return element("div", {class: "filters d-print-none"}, find, order.node, made.isEarly ? null : made.collector.node);
 }
 
-function isDone(line) {
-    return ["entered", "repeated"].includes(line.result);
+// What this round has of loans that are no longer due is looked for once its lines are shown.
+async function addOthers(made) {
+    await readOthers(made, (line) => {
+        made.lines.push(line);
+        if (made.table === undefined) {
+            showRound(made);
+        } else {
+            made.table.add(line);
+            showState(made);
+        }
+    });
 }
 
-function showState({lines, day}, {enter, propose, summary, renew, isSending = false}) {
-    const typed = lines.filter((line) => line.cents !== null);
-    const isAllDone = typed.length > 0 && typed.every(isDone);
-    const isEarly = day > session.day;
-    const again = () => say("round.send-again", {count: showCount(typed.length)});
-    enter.textContent = isAllDone ? again() : sayCount("round.enter", typed.length);
-    enter.className = `btn ${isAllDone ? "btn-outline-primary" : "btn-primary"}`;
+function readyLines({lines}) {
+    return lines.filter((line) => line.cents !== null);
+}
+
+// Sends lines once what speaks against them was asked. Each is kept in the browser until it is entered.
+async function enterLines(made, lines) {
+    const {trouble} = made.parts;
+    fill(trouble);
+    lock(made, lines, true);
+    let problem = null;
+    try {
+        const reason = await askBefore(made, lines);
+        problem = reason === null ? null : await sendLines(lines, reason, (line) => tell(made, line));
+    } finally {
+        lock(made, lines, false);
+    }
+    fill(trouble, problem && alertBox("warning", say("round.stopped")));
+}
+
+// What is about to be sent can't be typed over.
+function lock(made, lines, isSending) {
+    made.isSending = isSending;
+    for (const line of lines) {
+        line.isLocked = isSending;
+        made.table.show(line);
+    }
+    showState(made);
+}
+
+// Answers the reason, "" where none is needed, or null where the reader thought better of it.
+async function askBefore(made, lines) {
+    const found = await Promise.all(lines.map(async (line) => {
+        const asked = {loan: line.loan, amount: line.cents, day: line.day, receipt: line.receipt};
+        const doubt = await doubtsOf(asked, line.known);
+        const heading = `${line.name} · ${line.loan} · ${showMoney(line.cents)}`;
+        return doubt &&
+            element("div", {class: "inner-card mb-2"}, element("h3", {class: "h6"}, heading), doubtWords(doubt));
+    }));
+    const doubts = found.filter(Boolean);
+    if (doubts.length === 0) {
+        return askForReason(lines);
+    }
+    const isOld = daysBetween(made.day, session.day) > OLD_DAYS;
+    const sure = await ask({
+        title: say("round.doubts"),
+        text: [sayCount("round.doubts.what", doubts.length), doubts],
+        fields: isOld ? {reason: reasonField()} : {},
+        action: sayCount("round.enter-sure", lines.length),
+        isGrave: true,
+        send: async (values) => values
+    });
+    return sure === null ? null : sure.reason ?? "";
+}
+
+function tell(made, line) {
+    if (["entered", "repeated"].includes(line.result)) {
+        settle(made, line);
+    } else {
+        keep(made, line);
+    }
+    if (["repeated", "F15"].includes(line.result ?? line.results[line.receipt])) {
+        renew(made, line).catch(() => {});  // what stands was entered by somebody else, or before
+    }
+    made.table.show(line);
+    showState(made);
+}
+
+// A line that was entered shows what it is now, as far as this tab knows, and is no draft any more.
+function settle(made, line) {
+    const {receipt, cents, result, known} = line;
+    const over = cents > line.owed ? cents - line.owed : 0n;
+    line.results[receipt] = result;
+    line.payments.push(...paymentsOf(line, [{receipt, amount: cents, staff: session.staff, reversed: false}]));
+    line.owed -= cents - over;
+    line.due = line.due > cents ? line.due - cents : 0n;
+    line.known = {...known, entries: known.entries + 1, owed: line.owed, overpaid: known.overpaid + over};
+    Object.assign(line, {isFurther: false, text: "", cents: null, result: null});
+    line.isWriting = true;
+    endDraft(line);
+    line.isWriting = false;
+}
+
+// Gives a line the next receipt, for one payment more of this loan in this round. An amount that was refused since
+// another stands is sent at once.
+async function payFurther(made, line) {
+    line.receipt = nextReceipt(line, line.payments);
+    line.isFurther = true;
+    line.result = null;
+    if (line.cents === null) {
+        made.table.show(line);
+        made.table.focus(line);
+    } else {
+        keep(made, line);
+        await enterLines(made, [line]);
+    }
+}
+
+function showState(made) {
+    const {lines, isEarly, isSending, parts} = made;
+    const {enter, propose, summary, drop} = parts;
+    const typed = readyLines(made);
+    const isTyped = lines.some((line) => line.text !== "");
+    enter.textContent = sayCount("round.enter", typed.length);
     enter.disabled = typed.length === 0 || isEarly || isSending;
     propose.disabled = isEarly || isSending;
-    renew.disabled = isSending;
-    renew.hidden = !lines.some((line) => line.result !== null);
-    summary.textContent = say("round.sum", {
-        due: showMoney(sum(lines.map((line) => line.due))),
-        typed: showMoney(sum(typed.map((line) => line.cents))),
-        results: tally(lines) && ` · ${tally(lines)}`,
-    });
+    drop.hidden = !isTyped;
+    drop.disabled = isSending;
+    fill(
+        summary, element("div", {class: "fw-semibold"}, say("round.sum", {
+            due: showMoney(sum(lines.map((line) => line.due))),
+            typed: showMoney(sum(typed.map((line) => line.cents))),
+        })),
+        element("div", {class: "round-more"}, moreWords(lines, typed)));
 }
 
-// Gives the lines of this round new receipts, so that further payments of the day can be entered.
-async function beginAnew(made) {
-    const open = made.lines.filter((line) => line.text !== "" && !isDone(line));
-    const done = await ask({
-        title: say("round.new"),
-        text: say(open.length > 0 ? "round.new.open" : "round.new.what", {count: showCount(open.length)}),
-        action: say("round.new"),
-        isGrave: open.length > 0,
-        send: async () => keepDrafts({...made, turn: made.turn + 1, lines: []}),
+// what stands of the round, what came of sending, and who collected how much of what is typed
+function moreWords(lines, typed) {
+    const standing = lines.flatMap(({payments}) => payments.filter(({reversed}) => !reversed));
+    const amount = showMoney(sum(standing.map((one) => one.amount)));
+    return [
+        standing.length > 0 && sayCount("round.standing", standing.length, {amount}),
+        tally(lines.flatMap(({results, result}) => [...Object.values(results), result])),
+        ...sumsByCollector(typed).map(([name, cents]) => `${name} ${showMoney(cents)}`)
+    ].filter(Boolean).join(" · ");
+}
+
+// Throws away what was typed and not entered, once a person says so.
+async function dropAll(made) {
+    const typed = made.lines.filter((line) => line.text !== "");
+    await ask({
+        title: say("round.drop"),
+        text: sayCount("round.drop.what", typed.length, {
+            amount: showMoney(sum(typed.map(({cents}) => cents ?? 0n))),
+            day: showDay(made.day)
+        }),
+        action: say("round.drop"),
+        isGrave: true,
+        send: async () => throwAway(made.office, made.day)
     });
-    if (done !== null) {
-        await made.again();
-    }
 }

@@ -8,6 +8,7 @@ import {daysBetween, LAST_DAY, dayOfNumber, numberOfDay} from "../shared/days.js
 import {say, showCount, showDay, showMoney, showPercent} from "../shared/words.js";
 import {figure, figures, pageHead, row, table} from "../shared/tables.js";
 import {ask, note} from "../shared/dialogs.js";
+import {unsentLines} from "../shared/drafts.js";
 import {dayField} from "../shared/forms.js";
 import {Writing} from "../shared/writing.js";
 import {showRefusal} from "../shared/refusals.js";
@@ -37,7 +38,7 @@ function sums(all) {
     const atRisk = centsOfText(all.par30);
     return figures(
         figure(say("loans.active"), showCount(all.loans)),
-        figure(say("outstanding"), showMoney(centsOfText(all.outstanding))),
+        figure(say("outstanding.principal"), showMoney(centsOfText(all.outstanding))),
         figure(say("par30"), showPercent(atRisk), {isAlarming: atRisk >= 1000n, more: say("par30.what")}),
         figure(say("overdue.sum"), showMoney(overdueOf(all))));
 }
@@ -66,7 +67,7 @@ function officeTable(tree, report) {
     });
     const columns = [
         {words: say("office")}, {words: say("loans.active"), kind: "number"},
-        {words: say("outstanding"), kind: "number"}, {words: say("overdue.sum"), kind: "number"},
+        {words: say("outstanding.principal"), kind: "number"}, {words: say("overdue.sum"), kind: "number"},
         {words: say("par30"), kind: "number"}
     ];
     return table({caption: say("today.offices"), columns, rows}).node;
@@ -107,7 +108,7 @@ async function moveDay(page) {
     const fields = {day: dayField({label: say("day.new"), value: next, least: next, most: LAST_DAY})};
     const chosen = await ask({
         title: say("day.move"),
-        text: [say("day.now", {day: showDay(session.day)}), say("day.what")],
+        text: [unsentWarning(await offices()), say("day.now", {day: showDay(session.day)}), say("day.what")],
         fields,
         action: say("day.move"),
         send: async ({day}) => (daysBetween(session.day, day) > SOON ? {day} : {...(await setDay(day)), day}),
@@ -120,6 +121,13 @@ async function moveDay(page) {
         note(say("day.moved", {day: showDay(moved.day)}));
         await today(page);
     }
+}
+
+// What was typed into rounds in this browser and not sent is told before the day moves on.
+function unsentWarning(list) {
+    const lines = unsentLines(list);
+    const items = lines.map(({words}) => element("li", {}, words));
+    return lines.length > 0 && alertBox("warning", say("day.unsent"), element("ul", {class: "mb-0"}, items));
 }
 
 function askAgain(day) {

@@ -1,0 +1,33 @@
+// What the institution tells of itself, in a file of the front: its name; the coin that proposed amounts are rounded up
+// to; and the least that is asked for, both in cents. Without the file amounts are proposed as they are due.
+import {institutionFile} from "./api.js";
+
+export const institution = {
+    name: "microloan",
+    coin: 1n,
+    leastDue: 1n,
+};
+
+function centsOr(value, otherwise) {
+    return Number.isSafeInteger(value) && value > 0 ? BigInt(value) : otherwise;
+}
+
+export async function learnInstitution() {
+    const told = await institutionFile();
+    if (typeof told.name === "string" && told.name.trim() !== "") {
+        institution.name = told.name.trim();
+    }
+    institution.coin = centsOr(told.coin, institution.coin);
+    institution.leastDue = centsOr(told.least_due, institution.leastDue);
+}
+
+// What is proposed where so much is due: rounded up to the coin, but not above what is left to pay.
+export function proposed(due, left) {
+    const {coin} = institution;
+    const rounded = ((due + coin - 1n) / coin) * coin;
+    return rounded > left ? left : rounded;
+}
+
+export function isAskedFor(due) {
+    return due >= institution.leastDue;
+}
