@@ -99,6 +99,12 @@ class Desk:
         with open(self.nginx.log, encoding="utf-8") as file:
             return [json.loads(line) for line in file]
 
+    @property
+    def strangers(self):
+        """The lines of the log of who wasn't signed in."""
+        with open(self.nginx.strangers, encoding="utf-8") as file:
+            return file.read().splitlines()
+
     # the program
 
     def start_serve(self):
