@@ -21,6 +21,7 @@ PATIENCE = 60  # seconds that something may take to start
 NEEDED = {
     "nginx": "nginx",
     "htpasswd": "apache2-utils",
+    "cracklib-check": "cracklib-runtime",
     "/usr/share/javascript/bootstrap5/css/bootstrap.min.css": "libjs-bootstrap5",
     "/usr/share/javascript/chart.js/chart.min.js": "libjs-chart.js",
     "/usr/share/nodejs/d3-dsv/dist/d3-dsv.min.js": "node-d3-dsv",
@@ -71,6 +72,11 @@ def answer_lines(path, lines):
     if done.returncode:
         raise Failed(f"{program()} batch ended with status {done.returncode}")
     return done.stdout
+
+
+def is_readable_by_workers(path):
+    words = ["setpriv", f"--reuid={WORKERS}", f"--regid={WORKERS}", "--clear-groups", "test", "-r", path]
+    return subprocess.run(words, check=False).returncode == 0
 
 
 class Serve:
@@ -223,9 +229,10 @@ class Nginx:
         with open(os.path.join(self.folder, os.path.basename(name)), "w", encoding="utf-8") as file:
             file.write("\n".join(lines))
 
-    def add(self, name, staff, password):
+    def add(self, name, staff, password, *more):
         """Lets a person sign in, from the next start on."""
-        words = [sys.executable, os.path.join(FRONT, "people"), "--folder", self.people, "add", name, staff]
+        folder = ["--sign-in", self.sessions] if self.sessions else ["--folder", self.people]
+        words = [os.path.join(FRONT, "people"), *folder, "add", name, staff, "--unasked", *more]
         done = subprocess.run(words, input=password + "\n", text=True, capture_output=True, check=False)
         if done.returncode:
             raise Failed(done.stderr.strip())

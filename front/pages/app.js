@@ -5,6 +5,7 @@ import {beginSession, session, HEAD_OFFICE, MANAGER, OFFICER, TELLER} from "./sh
 import {note} from "./shared/dialogs.js";
 import {refusalLine, showRefusal} from "./shared/refusals.js";
 import {officeNamed} from "./shared/desk.js";
+import {ownActs} from "./shared/person.js";
 import {LANGUAGES, chooseLanguage, language, locale, say, showDay} from "./shared/words.js";
 import {today} from "./views/today.js";
 import {clients} from "./views/clients.js";
@@ -130,7 +131,7 @@ function topBar(officeName) {
     const inner = element(
         "div", {class: "collapse navbar-collapse", id: "menu"},
         element("ul", {class: "navbar-nav me-auto", id: "ways"}, ways),
-        element("div", {class: "bar-end"}, person(officeName), languageChoice()));
+        element("div", {class: "bar-end"}, person(officeName), ownActs(session), languageChoice()));
     return element(
         "header", {class: "bar d-print-none"},
         element(

@@ -7,7 +7,6 @@ import datetime
 import json
 import os
 import secrets
-import subprocess
 import urllib.parse
 
 import ldap
@@ -37,13 +36,6 @@ def address_of(folder):
 
 def drawn_password():
     return "".join(secrets.choice(LETTERS) for _ in range(12))
-
-
-def weakness(password):
-    """What cracklib says against a password; None where it says nothing. The password isn't an argument of a command."""
-    done = subprocess.run(["cracklib-check"], input=password + "\n", capture_output=True, text=True, check=True)
-    verdict = done.stdout.strip().rsplit(": ", 1)[-1]
-    return None if verdict == "OK" else verdict
 
 
 @contextlib.contextmanager
