@@ -21,6 +21,7 @@ PATIENCE = 60  # seconds that something may take to start
 NEEDED = {
     "nginx": "nginx",
     "htpasswd": "apache2-utils",
+    "cracklib-check": "cracklib-runtime",
     "/usr/share/javascript/bootstrap5/css/bootstrap.min.css": "libjs-bootstrap5",
     "/usr/share/javascript/chart.js/chart.min.js": "libjs-chart.js",
     "/usr/share/nodejs/d3-dsv/dist/d3-dsv.min.js": "node-d3-dsv",
@@ -59,6 +60,11 @@ def is_open(port):
         return client.connect_ex(("127.0.0.1", port)) == 0
 
 
+def is_open_socket(path):
+    with socket.socket(socket.AF_UNIX) as client:
+        return client.connect_ex(path) == 0
+
+
 def answer_lines(path, lines):
     """Enters request lines into the institution of a file. The replies."""
     words = [program(), "batch", "--file", path]
@@ -66,6 +72,11 @@ def answer_lines(path, lines):
     if done.returncode:
         raise Failed(f"{program()} batch ended with status {done.returncode}")
     return done.stdout
+
+
+def is_readable_by_workers(path):
+    words = ["setpriv", f"--reuid={WORKERS}", f"--regid={WORKERS}", "--clear-groups", "test", "-r", path]
+    return subprocess.run(words, check=False).returncode == 0
 
 
 class Serve:
@@ -89,10 +100,11 @@ class Serve:
         self.process = None
 
 
-def start_beside(words, umask=-1):
+def start_beside(words, umask=-1, output=None):
     """A process that ends with this one, in a session of its own, so that Ctrl-C reaches this one alone."""
     words = ["setpriv", "--pdeathsig", "TERM"] + words
-    return subprocess.Popen(words, stdin=subprocess.DEVNULL, start_new_session=True, umask=umask)
+    options = {"stdin": subprocess.DEVNULL, "stdout": output, "stderr": output}
+    return subprocess.Popen(words, start_new_session=True, umask=umask, **options)
 
 
 def wait_for(port, process, name):
@@ -106,17 +118,61 @@ def wait_for(port, process, name):
         time.sleep(0.02)
 
 
-class Nginx:
-    """nginx over the port of a program, with its files in a folder that exists."""
+class SignIn:
+    """The sign-in by sessions, in a folder: the directory of people, the engine, and what changes passwords."""
 
-    def __init__(self, folder, port, desk_port, pages=None):
+    PARTS = ("directory", "engine", "passwords")
+
+    def __init__(self, folder, idle=20, longest=600):
+        self.folder = folder
+        self.minutes = ["--idle", str(idle), "--longest", str(longest)]
+        self.script = os.path.join(FRONT, "signin", "engine")
+        self.processes = {}
+
+    def lay_out(self):
+        if os.geteuid() == 0 and not is_readable_by_workers(self.script):
+            copy = shutil.copytree(os.path.dirname(self.script), os.path.join(self.folder + "-scripts"))
+            self.script = os.path.join(copy, "engine")
+        subprocess.run([self.script, "lay-out", self.folder, *self.minutes], check=True)
+
+    def start(self):
+        for name in self.PARTS:
+            log = open(os.path.join(self.folder, f"{name}.log"), "ab")
+            with log:
+                self.processes[name] = start_beside([self.script, "run", name, self.folder], output=log)
+        end = time.monotonic() + PATIENCE
+        while not all(is_open_socket(os.path.join(self.folder, "socket", name)) for name in self.PARTS):
+            ended = [name for name, process in self.processes.items() if process.poll() is not None]
+            if ended or time.monotonic() > end:
+                raise Failed(f"the sign-in doesn't start: {', '.join(ended) or 'no socket'}: see {self.folder}")
+            time.sleep(0.05)
+
+    def stop(self):
+        for process in self.processes.values():
+            with contextlib.suppress(ProcessLookupError):
+                process.terminate()
+            process.wait()
+        self.processes = {}
+
+
+class Nginx:
+    """nginx over the port of a program, with its files in a folder that exists.
+
+    People sign in by Basic, or by the sessions of a folder of the sign-in.
+    """
+
+    def __init__(self, folder, port, desk_port, pages=None, sessions=None):
         self.folder = folder
         self.port = port
         self.desk_port = desk_port
         self.source = pages or os.path.join(FRONT, "pages")
         self.pages = os.path.join(folder, "pages")
+        self.sessions = sessions
         self.people = os.path.join(folder, "people")
         self.log = os.path.join(folder, "messages.log")
+        self.strangers = os.path.join(folder, "strangers.log")
+        self.errors = os.path.join(folder, "nginx-error.log")
+        self.shut = os.path.join(folder, "shut")
         self.process = None
 
     def lay_out(self):
@@ -133,10 +189,33 @@ class Nginx:
             if not os.path.exists(path):
                 os.close(os.open(path, os.O_CREAT | os.O_WRONLY, 0o640))
                 os.chown(path, -1, os.stat(self.people).st_gid)
-        os.close(os.open(self.log, os.O_CREAT | os.O_WRONLY, 0o600))
+        for log in (self.log, self.strangers):
+            os.close(os.open(log, os.O_CREAT | os.O_WRONLY, 0o600))
         self.fill("nginx.conf", {"FOLDER": self.folder, "USER": f"user {WORKERS};" if is_root else ""})
-        places = {"PEOPLE": self.people, "PAGES": self.pages, "LOG": self.log, "LIBRARIES": "/usr/share"}
-        self.fill("site.conf", places | {"ADDRESS": f"127.0.0.1:{self.port}", "DESK_PORT": str(self.desk_port)})
+        for part in ("http", "server", "guard", "engine") if self.sessions else ("http", "server"):
+            self.fill(f"signin/{self.kind}-{part}.conf", self.places())
+        self.fill("site.conf", self.places())
+
+    @property
+    def kind(self):
+        return "sessions" if self.sessions else "basic"
+
+    def places(self):
+        """What stands for the words of site.conf."""
+        return {
+            "ADDRESS": f"127.0.0.1:{self.port}",
+            "DESK": f"127.0.0.1:{self.desk_port}",
+            "SIGN_IN": os.path.join(self.folder, self.kind),
+            "FOLDER": self.sessions or "",
+            "PEOPLE": self.people,
+            "OWN": os.path.join(self.folder, "own"),
+            "SHUT": self.shut,
+            "PAGES": self.pages,
+            "LOG": self.log,
+            "STRANGERS": self.strangers,
+            "ERRORS": self.errors,
+            "LIBRARIES": "/usr/share",
+        }
 
     def fill(self, name, values):
         """Fills a template in, into the folder. The template's head, which explains the words, is left as it is."""
@@ -147,24 +226,24 @@ class Nginx:
                 for word, value in values.items():
                     line = line.replace(f"@{word}@", value)
                 lines[place] = line
-        with open(os.path.join(self.folder, name), "w", encoding="utf-8") as file:
+        with open(os.path.join(self.folder, os.path.basename(name)), "w", encoding="utf-8") as file:
             file.write("\n".join(lines))
 
-    def add(self, name, staff, password):
+    def add(self, name, staff, password, *more):
         """Lets a person sign in, from the next start on."""
-        words = [sys.executable, os.path.join(FRONT, "people"), "--folder", self.people, "add", name, staff]
+        folder = ["--sign-in", self.sessions] if self.sessions else ["--folder", self.people]
+        words = [os.path.join(FRONT, "people"), *folder, "add", name, staff, "--unasked", *more]
         done = subprocess.run(words, input=password + "\n", text=True, capture_output=True, check=False)
         if done.returncode:
             raise Failed(done.stderr.strip())
 
     def start(self):
-        errors = os.path.join(self.folder, "nginx-error.log")
-        words = [find("nginx"), "-e", errors, "-p", self.folder, "-c", os.path.join(self.folder, "nginx.conf")]
+        words = [find("nginx"), "-e", self.errors, "-p", self.folder, "-c", os.path.join(self.folder, "nginx.conf")]
         self.process = start_beside(words + ["-g", "daemon off;"])
         try:
             wait_for(self.port, self.process, "nginx")
         except Failed as why:
-            with open(errors, encoding="utf-8") as file:
+            with open(self.errors, encoding="utf-8") as file:
                 raise Failed(f"{why}: {file.read().strip()}") from None
 
     def reload(self):

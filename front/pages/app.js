@@ -7,6 +7,7 @@ import {adoptOlder, unsentLines, whenDraftsChange} from "./shared/drafts.js";
 import {institution, learnInstitution} from "./shared/institution.js";
 import {refusalLine, showRefusal} from "./shared/refusals.js";
 import {officeNamed, offices} from "./shared/desk.js";
+import {ownActs} from "./shared/person.js";
 import {LANGUAGES, chooseLanguage, language, locale, say, showDay} from "./shared/words.js";
 import {today} from "./views/today.js";
 import {clients} from "./views/clients.js";
@@ -136,7 +137,7 @@ function topBar(officeName) {
     const inner = element(
         "div", {class: "collapse navbar-collapse", id: "menu"},
         element("ul", {class: "navbar-nav me-auto", id: "ways"}, ways),
-        element("div", {class: "bar-end"}, person(officeName), languageChoice()));
+        element("div", {class: "bar-end"}, person(officeName), ownActs(session), languageChoice()));
     return element(
         "header", {class: "bar d-print-none"},
         element(

@@ -7,7 +7,8 @@
         browser = it.browser("tom", width=360)    a selenium webdriver, signed in as tom, at the first page
         it.kill_serve(); it.start_serve()
 
-Desk(file=PATH) takes an institution's file that is there, Desk(pages=FOLDER) other pages. All ends with the block.
+Desk(file=PATH) takes an institution's file that is there, Desk(pages=FOLDER) other pages. People sign in by Basic, and by
+sessions with Desk(sessions=True), or where MICROLOAN_SIGN_IN is `sessions`. All ends with the block.
 Screenshots go into the folder that MICROLOAN_SHOTS names, else into out/shots of the checkout.
 """
 import atexit
@@ -20,12 +21,14 @@ import signal
 import subprocess
 import sys
 import tempfile
+import urllib.parse
 
 sys.dont_write_bytecode = True
 sys.path.insert(0, os.path.dirname(os.path.dirname(os.path.abspath(__file__))))
 import running
 
-PASSWORD = "password-of-{}"
+PASSWORD, FIRST = "password-of-{}", "first-word-of-{}"
+SESSIONS = os.environ.get("MICROLOAN_SIGN_IN") == "sessions"
 PEOPLE = {"amina": "1/1", "ruth": "2/1", "paulo": "21/1", "zoe": "21/2", "tom": "21/3"}  # of the demonstration
 PATIENCE = 60  # seconds that a reply may take
 MADE = {}  # the demonstration's file, made once
@@ -53,24 +56,33 @@ def copy_file(path, other):
 class Desk:
     """A front over the program, in a folder of its own, from its start to its end."""
 
-    def __init__(self, lines=None, file=None, pages=None, people=None):
+    def __init__(self, lines=None, file=None, pages=None, people=None, sessions=None, minutes=()):
         self.folder = tempfile.mkdtemp(prefix="microloan-test-")
         self.file = os.path.join(self.folder, "desk.db")
         self.drivers = []
         self.replies = []
         self.serve = running.Serve(self.file, running.free_port())
-        self.nginx = running.Nginx(self.folder, running.free_port(), self.serve.port, pages)
+        self.cookies = {}
+        by_sessions = SESSIONS if sessions is None else sessions
+        self.sign_in = running.SignIn(os.path.join(self.folder, "sign-in"), *minutes) if by_sessions else None
+        folder = self.sign_in.folder if by_sessions else None
+        self.nginx = running.Nginx(self.folder, running.free_port(), self.serve.port, pages, folder)
         try:
             if lines is not None:
                 self.replies = running.answer_lines(self.file, lines).decode().splitlines()
             else:
                 copy_file(file or demonstration_file(), self.file)
             self.nginx.lay_out()
+            if self.sign_in:
+                self.sign_in.lay_out()
+                self.sign_in.start()
+                self.nginx.start()
             known = PEOPLE if people is None and lines is None and file is None else people or {}
             for name, staff in known.items():
-                self.nginx.add(name, staff, PASSWORD.format(name))
+                self.add_person(name, staff)
             self.serve.start()
-            self.nginx.start()
+            if not self.sign_in:
+                self.nginx.start()
         except BaseException:
             self.end()
             raise
@@ -87,6 +99,8 @@ class Desk:
             driver.quit()
         self.nginx.stop()
         self.serve.stop()
+        if self.sign_in:
+            self.sign_in.stop()
         shutil.rmtree(self.folder, ignore_errors=True)
 
     @property
@@ -98,6 +112,12 @@ class Desk:
         """The messages that the front has logged, each as what its line says."""
         with open(self.nginx.log, encoding="utf-8") as file:
             return [json.loads(line) for line in file]
+
+    @property
+    def strangers(self):
+        """The lines of the log of who wasn't signed in."""
+        with open(self.nginx.strangers, encoding="utf-8") as file:
+            return file.read().splitlines()
 
     # the program
 
@@ -112,11 +132,33 @@ class Desk:
 
     # people
 
-    def add_person(self, name, staff, password=None):
-        """Adds a person. nginx is told, if it runs."""
-        self.nginx.add(name, staff, password_of(name, password))
-        if self.nginx.process:
-            self.nginx.reload()
+    def add_person(self, name, staff, password=None, *more):
+        """Adds a person. nginx is told, if it runs. With sessions the person has chosen the password already."""
+        if not self.sign_in:
+            self.nginx.add(name, staff, password_of(name, password), *more)
+            if self.nginx.process:
+                self.nginx.reload()
+            return
+        self.nginx.add(name, staff, FIRST.format(name), *more)
+        form = {"user": name, "oldpassword": FIRST.format(name), "newpassword": password_of(name, password)}
+        status, told = self.post("/session/password", form)
+        if status != 200:
+            raise running.Failed(f"{name}: {told}")
+
+    def post(self, path, form, fields=()):
+        """Sends a form, as the page of the sign-in does. The status and what is answered."""
+        sent = [("Content-Type", "application/x-www-form-urlencoded"), ("X-Desk", "1"), *fields]
+        return self.send(None, "POST", path, urllib.parse.urlencode(form).encode(), sent)
+
+    def cookie_of(self, name, password=None):
+        """The cookie of a person's session, which begins where there is none; None where it is refused."""
+        key = name, password_of(name, password)
+        if key not in self.cookies:
+            form = urllib.parse.urlencode({"user": name, "password": key[1]}).encode()
+            fields = [("Content-Type", "application/x-www-form-urlencoded"), ("X-Desk", "1")]
+            _, answered, _ = self.exchange(None, "POST", "/session", form, fields)
+            self.cookies[key] = (answered["Set-Cookie"] or "").split(";")[0]
+        return self.cookies[key]
 
     def send(self, name, method, path, body=None, fields=None, password=None):
         """The status and the body that a person gets: JSON read, else its bytes. What writes carries X-Desk."""
@@ -131,7 +173,9 @@ class Desk:
         connection = http.client.HTTPConnection("127.0.0.1", self.nginx.port, timeout=PATIENCE)
         data = body if body is None or isinstance(body, bytes) else json.dumps(body).encode()
         sent = list(fields.items()) if isinstance(fields, dict) else list(fields or [])
-        if name is not None:
+        if name is not None and self.sign_in:
+            sent.append(("Cookie", self.cookie_of(name, password)))
+        elif name is not None:
             sent.append(("Authorization", "Basic " + credentials(name, password)))
         if method not in ("GET", "HEAD") and fields is None:
             sent.append(("X-Desk", "1"))
@@ -146,13 +190,21 @@ class Desk:
         connection.close()
         return found
 
+    def new_session(self, name, password=None):
+        """The id of a session that has just begun."""
+        self.cookies.pop((name, password_of(name, password)), None)
+        return self.cookie_of(name, password).removeprefix("desk=")
+
     # browsers
 
     def browser(self, name, width=1280, height=900, language="en", password=None):
         """A browser in which the person is signed in, at the first page, its content so many columns wide."""
         driver = new_browser(width, height, language)
         self.drivers.append(driver)
-        if name is not None:
+        if name is not None and self.sign_in:
+            driver.get(self.url + "/sign-in.html")
+            driver.add_cookie({"name": "desk", "value": self.new_session(name, password), "path": "/", "httpOnly": True})
+        elif name is not None:
             # The password in the address signs in. A page whose address has one can't ask for anything: go on without.
             driver.get(f"http://{name}:{password_of(name, password)}@127.0.0.1:{self.nginx.port}/me")
         driver.get(self.url + "/")

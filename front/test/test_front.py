@@ -33,6 +33,7 @@ LINES = b"""1/1 POST /offices {"number":2,"parent":1,"name":"North"}
 """
 PEOPLE = {"head": "1/1", "ruth": "2/1", "zoe": "2/2", "tom": "2/3", "sami": "3/1"}
 NORTH = {"offices": [{"name": "North", "number": 2, "parent": 1}]}
+LARGEST = b'{"office":2,"name":"Large"}'.ljust(64000)  # what the front takes
 
 
 def setUpModule():
@@ -294,21 +295,23 @@ class Messages(unittest.TestCase):
         self.assertEqual(json.loads(line["body"]), {"office": 2, "name": name})
         self.assertRegex(line["time"], r"^\d{4}-\d\d-\d\dT\d\d:\d\d:\d\d[+-]\d\d:\d\d$")
 
-    def test_whom_nobody_checked_is_not_logged_as_staff(self):
-        DESK.send("head", "GET", "/api/offices?wrong", password="wrong")
-        line = desk_wait(lambda: next((line for line in DESK.log if line["path"] == "/api/offices?wrong"), None))
-        self.assertEqual((line["user"], line["staff"], line["status"]), ("head", "", 401))
+    def test_whom_nobody_checked_is_in_a_log_of_its_own(self):
+        logged = len(DESK.log)
+        DESK.send("head", "GET", "/api/offices", password="wrong")
+        DESK.send("head", "GET", "/me", password="wrong")
+        DESK.send(None, "GET", "/api/offices")
+        said = ["microloan: nobody for ? from 127.0.0.1"] + ["microloan: refused for head from 127.0.0.1"] * 2
+        desk_wait(lambda: sorted(line.split(" ", 1)[1] for line in DESK.strangers[-3:]) == said)
+        self.assertEqual(DESK.log[logged:], [])
 
     def test_the_log_is_its_owners(self):
         self.assertEqual(stat.S_IMODE(os.stat(DESK.nginx.log).st_mode), 0o600)
         self.assertEqual(stat.S_IMODE(os.stat(DESK.file).st_mode), 0o600)
 
     def test_large_messages(self):
-        body = json.dumps({"office": 2, "name": "Large"}).encode()
-        largest = body + b" " * (1048576 - len(body))
-        self.assertEqual(DESK.send("tom", "POST", "/api/clients", largest), (403, {"fault": "F3"}))
+        self.assertEqual(DESK.send("tom", "POST", "/api/clients", LARGEST), (403, {"fault": "F3"}))
         with socket.create_connection(("127.0.0.1", DESK.nginx.port)) as client:
-            client.sendall(head_of("tom", "POST", "/api/clients", "Content-Length: 1048577"))
+            client.sendall(head_of("tom", "POST", "/api/clients", f"Content-Length: {len(LARGEST) + 1}"))
             reply = read_all(client)
         self.assertIn(b" 413 ", reply.split(b"\r\n")[0])
         self.assertTrue(reply.endswith(b'{"front":"large"}'))
@@ -351,6 +354,7 @@ class TheLog(unittest.TestCase):
         sent = [("zoe", *add_client(f'Zoë "{number}" \\ {{}}')) for number in range(20)]
         spread = json.dumps({"office": 2, "name": "Spread"}, indent=1).replace("\n", "\r\n")
         sent += [("zoe", "POST", "/api/clients", spread.encode()), ("tom", *add_client("Refused"))]
+        sent += [("zoe", "POST", "/api/clients", LARGEST)]
         sent += [("head", "GET", "/api/offices", None)]
         with desk.Desk(lines=LINES, people=PEOPLE) as it:
             beginning = os.path.join(it.folder, "beginning.db")
@@ -413,25 +417,31 @@ class TheProgram(unittest.TestCase):
             self.assertEqual(len(got), 2)
 
     def test_200_at_once_are_all_answered(self):
+        asked = list(PEOPLE) * 40
+        wanted = {name: DESK.send(name, "GET", "/api/offices") for name in PEOPLE}
         with concurrent.futures.ThreadPoolExecutor(200) as many:
-            replies = list(many.map(lambda _: DESK.send("tom", "GET", "/api/offices"), range(200)))
-        self.assertEqual(replies, [(200, NORTH)] * 200)
+            replies = list(many.map(lambda name: DESK.send(name, "GET", "/api/offices"), asked))
+        self.assertEqual(replies, [wanted[name] for name in asked])
 
     def test_whoever_finds_the_queue_full_is_told_so(self):
         """Where the program stands still, 300 messages wait; the next one is answered at once."""
         DESK.stop_serve()
+        names = [f"waiting-{number}" for number in range(8)]
+        for number, name in enumerate(names):
+            DESK.nginx.add(name, f"2/{50 + number}", desk.PASSWORD.format(name))
+        DESK.nginx.reload()
         with socket.socket() as listener:
             listener.setsockopt(socket.SOL_SOCKET, socket.SO_REUSEADDR, 1)
             listener.bind(("127.0.0.1", DESK.serve.port))
             listener.listen(400)
-            message = head_of("tom", "GET", "/api/offices", "Accept: */*")
+            messages = [head_of(name, "GET", "/api/offices", "Accept: */*") for name in names]
             waiting = [socket.create_connection(("127.0.0.1", DESK.nginx.port)) for _ in range(300)]
-            for client in waiting:
-                client.sendall(message)
+            for place, client in enumerate(waiting):
+                client.sendall(messages[place % 8])
             # An answer to one more than may wait shows that all of them do. Which one it is nobody knows.
             extra = [socket.create_connection(("127.0.0.1", DESK.nginx.port)) for _ in range(5)]
-            for client in extra:
-                client.sendall(message)
+            for place, client in enumerate(extra):
+                client.sendall(messages[place])
             deadline, told = time.monotonic() + 10, set()
             while len(told) < 5 and time.monotonic() < deadline:
                 readable, _, _ = select.select(waiting + extra, [], [], 1)

@@ -17,7 +17,7 @@ export class Problem extends Error {
     // whether it is not known that the request was refused: it may have been carried out
     get isLost() {
         return this.fault === "F20" ||
-            (this.fault === null && !["origin", "large", "password", "left"].includes(this.front));
+            (this.fault === null && !["origin", "large", "password", "left", "log", "reader"].includes(this.front));
     }
 }
 

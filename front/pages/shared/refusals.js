@@ -4,7 +4,7 @@ import {Problem} from "./api.js";
 import {NotDone, NotKnown} from "./writing.js";
 import {hasWords, say} from "./words.js";
 
-const KINDS = ["origin", "down", "large", "busy", "password"];
+const KINDS = ["origin", "down", "large", "busy", "password", "log", "many", "slow", "reader"];
 
 function keyOf(problem) {
     if (problem.fault !== null && hasWords(`refusal.${problem.fault}.what`)) {

@@ -16,6 +16,7 @@ const PROBES = [
 
 export const session = {
     user: "",
+    hasSession: false,
     staff: "",
     office: 0,
     rank: 0,
@@ -26,7 +27,7 @@ async function isAllowed(path, body) {
     try {
         await change("POST", path, body);
     } catch (problem) {
-        if (problem.fault === "F3") {
+        if (problem.fault === "F3" || problem.front === "reader") {
             return false;
         }
         if (problem.fault === null || problem.fault === "F20" || problem.fault === "F2") {
@@ -56,12 +57,13 @@ function keepFor(person) {
 }
 
 export async function beginSession() {
-    const {user, staff} = await whoAmI();
+    const {user, staff, session: hasSession = false} = await whoAmI();
     if (staff === "") {
         throw new Problem({fault: "F2"});
     }
     keepFor(`${user} ${staff}`);
     session.user = user;
+    session.hasSession = hasSession;
     session.staff = staff;
     session.office = Number(staff.split("/")[0]);
     session.day = (await read("/business-day")).day;

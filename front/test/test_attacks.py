@@ -1,0 +1,476 @@
+"""Attacks on the front: what a stranger on the network, or a person who is signed in, tries against the others.
+
+Strangers come from addresses of loopback of their own (127.0.1.1 and so on), so that limits by address can be seen.
+"""
+import contextlib
+import json
+import os
+import re
+import socket
+import statistics
+import subprocess
+import sys
+import tempfile
+import threading
+import time
+import unittest
+
+import desk
+import running
+from test_front import LARGEST, LINES, NORTH, PEOPLE, desk_wait, read_all
+
+HELD = 400  # messages that an attacker holds at once
+OF_ONE_PERSON = 40  # messages of one person that the front lets through at once
+WHO = os.path.join(running.TOP, "package", "tools", "microloan-who")
+LOG_CHECK = os.path.join(running.FRONT, "log-check")
+FILTER = os.path.join(running.FRONT, "fail2ban", "filter.conf")
+# a loan in office 2 that is paid out, with one repayment of 10.00
+A_LOAN = LINES + b"""1/1 POST /products {"name":"Plain","method":"flat","rate":1200,"frequency":"months","every":1,\
+"principal_grace":0,"interest_grace":0,"min_principal":1,"max_principal":100000000,"min_periods":1,"max_periods":12,\
+"strategy":"mifos-standard-strategy"}
+2/2 POST /clients {"office":2,"name":"Amina"}
+2/2 POST /loans {"client":"0002-000001","product":1,"principal":100000,"periods":2}
+2/1 POST /loans/0002-000001/approve
+2/1 POST /loans/0002-000001/disburse {"day":"2024-01-01"}
+2/3 POST /loans/0002-000001/repayments {"amount":1000,"day":"2024-01-01","receipt":"first"}
+"""
+REPAYMENTS = "loans/0002-000001/repayments"
+REVERSE = "loans/0002-000001/entries/1/{}everse"
+
+
+def setUpModule():
+    global DESK
+    DESK = desk.Desk(lines=A_LOAN, people=PEOPLE)
+    unittest.addModuleCleanup(DESK.end)
+
+
+def connected(address="127.0.0.1", at=None):
+    return socket.create_connection(("127.0.0.1", (at or DESK).nginx.port), timeout=30, source_address=(address, 0))
+
+
+def answered(data, address="127.0.0.1", at=None):
+    """What the front answers to bytes, also where it keeps the connection or waits for more."""
+    with connected(address, at) as client:
+        with contextlib.suppress(BrokenPipeError, ConnectionResetError):
+            client.sendall(data)
+        client.settimeout(2)
+        found = b""
+        with contextlib.suppress(ConnectionResetError, TimeoutError):
+            while more := client.recv(65536):
+                found += more
+        return found
+
+
+class OverTheProgram(unittest.TestCase):
+    """Tests that may put something else in the program's place."""
+
+    def setUp(self):
+        self.addCleanup(lambda: DESK.serve.process or DESK.start_serve())
+
+
+def status_of(reply):
+    """The status of a reply's first line; 0 where nothing was answered."""
+    return int(reply.split(b" ", 2)[1]) if reply.startswith(b"HTTP/1.") else 0
+
+
+def message(name, method, target, body=b"", fields=(), version="HTTP/1.1"):
+    """The bytes of a message of a person, whatever its target is."""
+    lines = [f"{method} {target} {version}", "Host: x", f"Authorization: Basic {desk.credentials(name)}", "X-Desk: 1"]
+    lines += [f"Content-Length: {len(body)}", "Connection: close", *fields, "", ""]
+    return "\r\n".join(lines).encode("latin-1") + body
+
+
+def unfinished(*fields):
+    """The beginning of a message of which one byte of the body has come."""
+    lines = ["POST /api/clients HTTP/1.1", "Host: x", "X-Desk: 1", "Content-Length: 60000", *fields, "", ""]
+    return "\r\n".join(lines).encode() + b"{"
+
+
+class Program:
+    """Something that stands where the program is, answers all by 200, and keeps what it got."""
+
+    def __init__(self, port):
+        self.got = []
+        self.listener = socket.socket()
+        self.listener.setsockopt(socket.SOL_SOCKET, socket.SO_REUSEADDR, 1)
+        self.listener.bind(("127.0.0.1", port))
+        self.listener.listen(400)
+        self.thread = threading.Thread(target=self.serve)
+
+    def __enter__(self):
+        self.thread.start()
+        return self
+
+    def __exit__(self, *_):
+        self.listener.shutdown(socket.SHUT_RDWR)
+        self.thread.join()
+        self.listener.close()
+
+    def serve(self):
+        with contextlib.suppress(OSError):
+            while True:
+                stream, _ = self.listener.accept()
+                with stream:
+                    stream.settimeout(5)
+                    with contextlib.suppress(OSError):
+                        self.got.append(stream.recv(1 << 20))
+                        stream.sendall(b"HTTP/1.0 200 OK\r\nContent-Type: application/json\r\nContent-Length: 2\r\n\r\n{}")
+
+
+class Spelling(OverTheProgram):
+    OTHERS = (
+        "/api/%6coans/0002-000001/repayments",
+        "/api/loans%2F0002-000001/repayments",
+        "//api//loans//0002-000001//repayments",
+        "/x/../api/" + REPAYMENTS,
+        "/%61pi/" + REPAYMENTS,
+        "/api/./" + REPAYMENTS,
+        "/api/../api/" + REPAYMENTS,
+        "/api/loans/../" + REPAYMENTS,
+        "/api/" + REPAYMENTS + "#x",
+        "/api/" + REPAYMENTS + "?",
+        "/api/" + REPAYMENTS + "?x=/api/offices",
+        "/api/" + REPAYMENTS + "/",
+        "/api//" + REPAYMENTS,
+        "/api/" + REPAYMENTS + "/.",
+        "/api/" + REPAYMENTS + "/x/..",
+        "/api/" + REPAYMENTS + "%00",
+        "/api/" + REPAYMENTS + "%0d%0aX-Staff:%201/1",
+        "/api/loans/0002%2d000001/repayments",
+        "/api\\" + REPAYMENTS,
+        "/api;x/" + REPAYMENTS,
+        "/api/" + REPAYMENTS.replace("s/", "s;a=b/", 1),
+        "http://x/%61pi/" + REPAYMENTS,
+        "/lib/../api/" + REPAYMENTS,
+        "/me/../api/" + REPAYMENTS,
+        "/API/" + REPAYMENTS,
+        "/api/" + "a/" * 8 + "a",
+        "/api/" + "a" * 65,
+        "/api/loans/0002-000001/repayments\u00e9",
+    )
+
+    def test_no_other_spelling_of_a_route_is_done(self):
+        body = b'{"amount":1,"day":"2024-01-01"}'
+        targets = [(REPAYMENTS, "tom", "POST", target, body) for target in self.OTHERS]
+        for spelled in ("%72", "../r", "./r", "/r", "R", "r/../r"):
+            targets.append(("reverse", "ruth", "POST", "/api/" + REVERSE.format(spelled), b""))
+        targets.append(("reverse", "ruth", "POST", "/api/loans/../" + REVERSE.format("%72"), b""))
+        for _, name, method, target, sent in targets:
+            with self.subTest(target):
+                self.assertIn(status_of(answered(message(name, method, target, sent))), (400, 404, 405))
+        status, shown = DESK.send("ruth", "GET", "/api/loans/0002-000001/entries")
+        self.assertEqual((status, len(shown["entries"]), shown["entries"][0]["reversed"]), (200, 1, False))
+
+    def test_the_one_spelling_is_done_and_told(self):
+        body = b'{"amount":2,"day":"2024-01-01","receipt":"told"}'
+        self.assertEqual(status_of(answered(message("tom", "POST", "/api/" + REPAYMENTS, body))), 201)
+        words = [sys.executable, WHO, "repayment", "--log", DESK.nginx.log]
+
+        def told():
+            return subprocess.run(words, capture_output=True, text=True, check=True).stdout
+
+        desk_wait(lambda: f"tom 2/3 201 POST /api/{REPAYMENTS} {body.decode()}\n" in told())
+
+    def test_what_is_logged_is_what_is_passed_on(self):
+        """Over a program that answers all by 200: each message that it got is a line of the log, with the same path."""
+        DESK.stop_serve()
+        logged = len(DESK.log)
+        with Program(DESK.serve.port) as program:
+            targets = [*self.OTHERS, "/api/" + REPAYMENTS, "/api/a-b/0", "http://x/api/offices", "/api/A/z-9"]
+            for target in targets:
+                answered(message("tom", "POST", target, b"{}"))
+            desk_wait(lambda: len(DESK.log) - logged >= len(program.got))
+        passed = [got.split(b" ", 2)[1].decode() for got in program.got]
+        self.assertEqual(sorted("/api" + path for path in passed), sorted(line["path"] for line in DESK.log[logged:]))
+        self.assertEqual(len(passed), 4)
+
+    def test_each_line_of_the_log_can_be_answered_again(self):
+        """The largest message that passes makes a request line that `batch` takes."""
+        longest = "/api/" + "/".join(["9" * 64] * 8)
+        line = f"9999/9999 OPTIONS {longest.removeprefix('/api')} ".encode() + LARGEST
+        self.assertLessEqual(len(line), 65536)
+        for target, body, wanted in ((longest, LARGEST, 404), ("/api/clients", LARGEST + b" ", 413)):
+            self.assertEqual(status_of(answered(message("zoe", "POST", target, body))), wanted)
+
+
+class Caller(OverTheProgram):
+    """Nobody is named to the program as anybody else."""
+
+    FIELDS = (
+        ("X-Staff: 1/1",),
+        ("x-staff: 1/1", "X-STAFF: 1/1"),
+        ("X_Staff: 1/1",),
+        ("X-Staff : 1/1",),
+        ("X-Staff\t: 1/1",),
+        (" X-Staff: 1/1",),
+        ("X-Desk: 1", " X-Staff: 1/1"),
+        ("X-A: b\nX-Staff: 1/1",),
+        ("X-A: b\rX-Staff: 1/1",),
+        ("X-A: b\0\r\nX-Staff: 1/1",),
+        ("X-Staff: 1/1\0",),
+        ("X-Staff:1/1", "Connection: X-Staff"),
+        ("Connection: keep-alive, X-Staff",),
+        ("TE: trailers", "Trailer: X-Staff"),
+        ("X-Original-URL: /staff",),
+        ("X-Rewrite-URL: /staff",),
+        ("X-HTTP-Method-Override: DELETE",),
+        ("X-Forwarded-User: head", "X-Remote-User: head", "Remote-User: head"),
+        ("Lm-Remote-User: head", "Auth-User: head", "HeaderValue1: 1/1"),
+        ("Upgrade: h2c", "HTTP2-Settings: AAMAAABkAAQAAP__", "Connection: Upgrade, HTTP2-Settings"),
+        ("Expect: 100-continue",),
+        ("Host: y",),
+        ("Authorization: Basic aGVhZDp4",),
+        ("Proxy-Authorization: Basic aGVhZDp4",),
+        ("Cookie: X-Staff=1/1; staff=1/1",),
+        ("X-Padding: " + "x" * 9000,),
+        tuple(f"X-{number}: x" for number in range(200)),
+    )
+    # whole messages, in which lengths and versions disagree
+    HEAD = "POST /api/clients HTTP/1.1\r\nHost: x\r\nAuthorization: Basic {}\r\nX-Desk: 1\r\n"
+    INNER = "GET /api/offices HTTP/1.1\r\nHost: x\r\nX-Staff: 1/1\r\n\r\n"
+    LENGTHS = (
+        HEAD + "Content-Length: 0\r\nTransfer-Encoding: chunked\r\n\r\n0\r\n\r\n" + INNER,
+        HEAD + "Content-Length: 5\r\nContent-Length: 0\r\n\r\n0\r\n\r\n" + INNER,
+        HEAD + "Content-Length: 0, 5\r\n\r\n" + INNER,
+        HEAD + "Content-Length: +0\r\n\r\n" + INNER,
+        HEAD + "Content-Length: -1\r\n\r\n" + INNER,
+        HEAD + "Content-Length: 0x5\r\n\r\n" + INNER,
+        HEAD + "Transfer-Encoding: xchunked\r\n\r\n0\r\n\r\n" + INNER,
+        HEAD + "Transfer-Encoding : chunked\r\n\r\n0\r\n\r\n" + INNER,
+        HEAD + "Transfer-Encoding: identity, chunked\r\n\r\n0\r\n\r\n" + INNER,
+        HEAD + "Transfer-Encoding: chunked\r\nTransfer-Encoding: identity\r\n\r\n0\r\n\r\n" + INNER,
+        HEAD + "Transfer-Encoding: chunked\r\n\r\n2;X-Staff: 1/1\r\n{}\r\n0\r\nX-Staff: 1/1\r\n\r\n",
+        HEAD + "Transfer-Encoding: chunked\r\n\r\nffffffffffffffff1\r\n{}\r\n0\r\n\r\n",
+        HEAD + "Content-Length: 2\r\n\r\n{}" + INNER,
+        "GET /api/offices\r\n",
+        "GET /api/offices HTTP/0.9\r\nX-Staff: 1/1\r\n\r\n",
+        "GET /api/offices HTTP/1.0\r\nX-Staff: 1/1\r\n\r\n",
+        "GET /api/offices HTTP/2.0\r\nHost: x\r\nX-Staff: 1/1\r\n\r\n",
+        "PRI * HTTP/2.0\r\n\r\nSM\r\n\r\n",
+        "GET /api/offices HTTP/1.1\r\nX-Staff: 1/1\r\n\r\n",
+        "CONNECT 127.0.0.1:80 HTTP/1.1\r\nHost: x\r\nX-Staff: 1/1\r\n\r\n",
+        "GET /api/offices HTTP/1.1\r\nHost: x\r\nAuthorization: Basic\r\nX-Staff: 1/1\r\n\r\n",
+        "GET /api/offices HTTP/1.1\r\nHost: x\r\nAuthorization: Bearer 1/1\r\nX-Staff: 1/1\r\n\r\n",
+        "GET /api/offices HTTP/1.1 X-Staff: 1/1\r\nHost: x\r\n\r\n",
+        "get /api/offices HTTP/1.1\r\nHost: x\r\nX-Staff: 1/1\r\n\r\n",
+    )
+
+    def test_tricks(self):
+        tricks = [message("tom", "GET", "/api/offices", fields=fields) for fields in self.FIELDS]
+        tricks += [text.replace("{}", desk.credentials("tom"), 1).encode() for text in self.LENGTHS]
+        DESK.stop_serve()
+        with Program(DESK.serve.port) as program:
+            for place, trick in enumerate(tricks):
+                answered(trick, address=f"127.0.2.{place + 1}")
+        self.assertGreater(len(tricks), 45)
+        self.assertGreater(len(program.got), 15)
+        for got in program.got:
+            head = got.split(b"\r\n\r\n")[0].split(b"\r\n")
+            self.assertRegex(head[0], rb"^(GET /offices|POST /clients) HTTP/1\.0$")
+            staff = [line for line in head if re.match(rb"\s*x[-_]staff", line.lower())]
+            self.assertEqual(staff, [b"X-Staff: 2/3"], got)
+            self.assertNotIn(b"\r\nAuthorization", got)
+
+    def test_what_is_still_shown_is_ones_own(self):
+        for fields in self.FIELDS:
+            with self.subTest(fields):
+                reply = answered(message("tom", "GET", "/api/offices", fields=fields))
+                if status_of(reply) == 200:
+                    self.assertEqual(json.loads(reply.rsplit(b"\r\n", 1)[-1]), NORTH)
+
+
+def median_time(name, address="127.0.0.1", count=60):
+    """The median of the seconds that a look-up of a person takes; each must be answered."""
+    times = []
+    for _ in range(count):
+        began = time.perf_counter()
+        reply = answered(message(name, "GET", "/api/offices"), address)
+        times.append(time.perf_counter() - began)
+        if status_of(reply) != 200:
+            raise AssertionError(f"{name} was answered {reply[:200]}")
+    return statistics.median(times)
+
+
+@contextlib.contextmanager
+def held(address, *fields):
+    """Messages that stay unfinished, each with a byte more now and then, for as long as the block."""
+    clients = [connected(address) for _ in range(HELD)]
+    over = threading.Event()
+
+    def go_on():
+        while not over.wait(1):
+            for client in clients:
+                with contextlib.suppress(OSError):
+                    client.send(b" ")
+
+    for client in clients:
+        client.sendall(unfinished(*fields))
+    thread = threading.Thread(target=go_on)
+    thread.start()
+    try:
+        yield clients
+    finally:
+        over.set()
+        thread.join()
+        for client in clients:
+            client.close()
+
+
+class Holding(OverTheProgram):
+    """Who sends slowly waits alone: others are answered within twice the time that they take without it."""
+
+    def others_are_answered(self, refused, address, *fields):
+        """Tries it up to three times, since other work of the machine takes time too. What the refused ones are told."""
+        for _ in range(3):
+            before = median_time("tom")
+            with held(address, *fields) as clients:
+                during = median_time("tom")
+                desk_wait(lambda: sum(map(readable, clients)) >= refused)
+                told = [status_of(client.recv(1000)) for client in clients if readable(client)]
+            after = median_time("tom")
+            if during <= 2 * max(before, after):
+                break
+        self.assertLessEqual(during, 2 * max(before, after))
+        return told
+
+    def test_of_a_stranger(self):
+        told = self.others_are_answered(HELD, "127.0.1.1")
+        self.assertEqual(set(told), {401, 429})
+
+    def test_of_a_wrong_password(self):
+        told = self.others_are_answered(HELD, "127.0.1.2", "Authorization: Basic dG9tOnh4")
+        self.assertLessEqual(set(told), {401, 429})
+
+    def test_of_a_person_who_is_signed_in(self):
+        """40 wait for their bodies, all others are refused at once, and tom of the same address isn't."""
+        own = f"Authorization: Basic {desk.credentials('zoe')}"
+        told = self.others_are_answered(HELD - OF_ONE_PERSON, "127.0.0.1", own)
+        self.assertEqual((len(told), set(told)), (HELD - OF_ONE_PERSON, {429}))
+
+    def test_whole_messages_of_one_person_leave_room_in_the_queue(self):
+        """Where the program stands still, one person's messages don't fill its queue."""
+        DESK.stop_serve()
+        with socket.socket() as listener:
+            listener.setsockopt(socket.SOL_SOCKET, socket.SO_REUSEADDR, 1)
+            listener.bind(("127.0.0.1", DESK.serve.port))
+            listener.listen(HELD)
+            clients = [connected() for _ in range(HELD)]
+            for client in clients:
+                client.sendall(message("zoe", "GET", "/api/offices"))
+            desk_wait(lambda: sum(map(readable, clients)) >= HELD - OF_ONE_PERSON)
+            waiting = [client for client in clients if not readable(client)]
+            self.assertEqual(len(waiting), OF_ONE_PERSON)
+            for client in clients:
+                client.close()
+
+
+def readable(client):
+    client.setblocking(False)
+    try:
+        return client.recv(1, socket.MSG_PEEK) != b"again"
+    except BlockingIOError:
+        return False
+    except OSError:
+        return True
+    finally:
+        client.settimeout(30)
+
+
+class Flood(unittest.TestCase):
+    def test_a_stranger_fills_no_log(self):
+        """10,000 messages of some 8,000 bytes each, on connections that are kept."""
+        sizes = {path: os.path.getsize(path) for path in (DESK.nginx.log, DESK.nginx.strangers, DESK.nginx.errors)}
+        targets = ("/api/" + "%01" * 2600, "/api/offices", "/lib/chart/", "/x" * 2000, "/me", "/lib/" + "y" * 7000)
+        for place in range(6):
+            with connected("127.0.1.3") as client:
+                thread = threading.Thread(target=read_all, args=[client])
+                thread.start()
+                sent = f"GET {targets[place]} HTTP/1.1\r\nHost: x\r\n\r\n".encode()
+                with contextlib.suppress(OSError):
+                    for _ in range(1700):
+                        client.sendall(sent)
+                    client.shutdown(socket.SHUT_WR)
+                thread.join()
+        grown = {path: os.path.getsize(path) - size for path, size in sizes.items()}
+        self.assertEqual(grown[DESK.nginx.log], 0)
+        self.assertLess(grown[DESK.nginx.strangers], 20000)
+        self.assertLess(grown[DESK.nginx.errors], 20000)
+
+
+class Guessing(unittest.TestCase):
+    def test_each_wrong_password_is_told_to_fail2ban_until_the_address_is_slowed(self):
+        logged = len(DESK.strangers)
+        wrong = [f"Authorization: Basic {desk.credentials('tom', str(number))}" for number in range(200)]
+        lines = "GET /api/offices HTTP/1.1\r\nHost: x\r\nConnection: close\r\n{}\r\n\r\n"
+        told = [status_of(answered(lines.format(field).encode(), "127.0.1.4")) for field in wrong]
+        self.assertEqual(set(told), {401, 429})
+        desk_wait(lambda: len(DESK.strangers) - logged >= told.count(401))
+        own = [line for line in DESK.strangers[logged:] if line.endswith("microloan: refused for tom from 127.0.1.4")]
+        self.assertEqual(len(own), told.count(401))
+        with tempfile.NamedTemporaryFile("w", suffix=".log") as file:
+            file.write("\n".join(own) + "\n")
+            file.write("2026-11-28T09:00:00+00:00 microloan: nobody for ? from 127.0.1.4\n")
+            file.flush()
+            found = subprocess.run(["fail2ban-regex", file.name, FILTER], capture_output=True, text=True, check=True)
+        self.assertIn(f"Lines: {len(own) + 1} lines, 0 ignored, {len(own)} matched, 1 missed", found.stdout)
+        self.assertEqual(DESK.send("tom", "GET", "/api/offices"), (200, NORTH))
+
+    def test_a_name_forges_no_line(self):
+        logged = len(DESK.strangers)
+        name = "tom from 127.0.0.9\n2026-11-28T09:00:00+00:00 microloan: refused for tom"
+        DESK.send(name, "GET", "/api/offices", password="x")
+        line = desk_wait(lambda: DESK.strangers[logged:])
+        self.assertEqual([text.split(" ", 1)[1] for text in line], ["microloan: refused for ? from 127.0.0.1"])
+
+
+def fill_the_log():
+    """Where the log's disk has 64 kB: what was written meanwhile, in a mount namespace of this process's own."""
+    with desk.Desk(lines=LINES, people=PEOPLE) as it:
+        room = os.path.join(it.folder, "log")
+        os.mkdir(room, 0o711)
+        subprocess.run(["mount", "-t", "tmpfs", "-o", "size=64k,mode=711", "tmpfs", room], check=True)
+        it.nginx.stop()
+        it.nginx.log = os.path.join(room, "messages.log")
+        it.nginx.lay_out()
+        it.nginx.start()
+        words = [sys.executable, LOG_CHECK, "--log", it.nginx.log, "--shut", it.nginx.shut, "--room", "0"]
+        words += ["--pid", os.path.join(it.folder, "nginx.pid")]
+        told = {"first": subprocess.run(words, capture_output=True, check=False).returncode}
+        body = b'{"office":2,"name":"Unseen"}'.ljust(200)
+        told["done"] = sum(it.send("zoe", "POST", "/api/clients", body)[0] == 201 for _ in range(300))
+        told["lines"] = sum(line.endswith(b"}\n") for line in open(it.nginx.log, "rb"))
+        words[words.index("--room") + 1] = "1"
+        full = subprocess.run(words, capture_output=True, text=True, check=False)
+        told["full"] = full.returncode, full.stdout
+        told["write"] = it.send("zoe", "POST", "/api/clients", body)
+        told["read"] = it.send("tom", "GET", "/api/offices")[0]
+        subprocess.run(["mount", "-o", "remount,size=8m", room], check=True)
+        told["room"] = subprocess.run(words, capture_output=True, check=False).returncode
+        told["again"] = it.send("zoe", "POST", "/api/clients", body)[0]
+        os.rename(it.nginx.log, it.nginx.log + "-moved")
+        told["moved"] = subprocess.run(words, capture_output=True, check=False).returncode
+        os.close(os.open(it.nginx.log, os.O_CREAT | os.O_WRONLY, 0o600))
+        told["other"] = subprocess.run(words, capture_output=True, check=False).returncode
+        it.nginx.stop()
+        subprocess.run(["umount", room], check=True)
+    print(json.dumps(told))
+
+
+class FullLog(unittest.TestCase):
+    @unittest.skipIf(os.geteuid() != 0, "mounting needs root")
+    def test_what_cannot_be_logged_is_not_done(self):
+        inside = "import sys; sys.path.insert(0, sys.argv[1]); import test_attacks; test_attacks.fill_the_log()"
+        words = ["unshare", "-m", "--propagation", "private", sys.executable, "-c", inside]
+        done = subprocess.run([*words, os.path.dirname(__file__)], capture_output=True, text=True, check=False)
+        self.assertEqual(done.returncode, 0, done.stderr)
+        told = json.loads(done.stdout.splitlines()[-1])
+        self.assertEqual(told["first"], 0)
+        self.assertEqual((told["write"], told["read"]), ([503, {"front": "log"}], 200))
+        self.assertEqual(told["full"][0], 1)
+        self.assertIn("the front takes no writes", told["full"][1])
+        self.assertLess(told["lines"], told["done"])  # without the check all of them are done
+        self.assertEqual((told["room"], told["again"], told["moved"], told["other"]), (0, 201, 1, 1))
+
+
+if __name__ == "__main__":
+    unittest.main()
