@@ -1,4 +1,6 @@
 """The messages of the front's log that changed an institution, as request lines: for the scripts beside this file."""
+import contextlib
+import json
 import os
 import sys
 
@@ -10,6 +12,7 @@ import front_log
 READS = ("GET", "HEAD")
 DONE = (200, 201)
 PASSED_ON = "/api"
+LONGEST = 60000  # bytes of a body that stands in a line: the program takes lines of 65,536
 
 
 def is_passed_on(message):
@@ -28,9 +31,17 @@ def is_lost(message):
 
 
 def line_of(message):
-    """The request line that asks for the same. Between the members of a body a line may end, in a text it can't."""
+    """The request line that asks for the same. Between the members of a body a line may end, in a text it can't.
+
+    A body may be longer than a line. What makes it so, in a message that was accepted, stands between its members, or
+    in members that the program doesn't know.
+    """
     path = message["path"][len(PASSED_ON) :]
     body = message["body"].replace("\r", " ").replace("\n", " ")
+    if len(body) > LONGEST:
+        with contextlib.suppress(ValueError):
+            members = json.loads(body).items()
+            body = json.dumps({name: value for name, value in members if len(json.dumps(value)) < LONGEST // 64})
     return " ".join([message["staff"], message["method"], path] + [body] * (body != ""))
 
 

@@ -6,10 +6,18 @@ import shutil
 import subprocess
 import tempfile
 import time
+import unittest
 
 HERE = os.path.dirname(os.path.abspath(__file__))
 TOP = os.path.dirname(os.path.dirname(HERE))
 
+PASSWORD = "the head's password"
+FILE = "/var/lib/microloan/desk.db"
+BACKUPS = "/var/backups/microloan"
+ALERT_HOOK = """#!/bin/sh
+printf '%s\\n' "$1" >>/root/told
+cat >>/root/told-more
+"""
 PATIENCE = 300  # seconds that a command in the root may take
 ASK = """
 import base64, http.client, sys
@@ -189,3 +197,59 @@ class Booted(Root):
         super().end()
         for folder, _, _ in os.walk(self.group, topdown=False):
             os.rmdir(folder)
+
+
+@unittest.skipUnless(os.geteuid() == 0 and shutil.which("mmdebstrap"), "needs root and mmdebstrap")
+class ServedDesk(unittest.TestCase):
+    """A desk that was installed and set up under a running systemd, in a root that its tests share."""
+
+    packages = ("curl",)
+
+    @classmethod
+    def setUpClass(cls):
+        room = tempfile.mkdtemp()
+        cls.addClassCleanup(shutil.rmtree, room)
+        cls.package = built_package(room)
+        cls.root = Booted()
+        cls.addClassCleanup(cls.root.end)
+        if cls.root.fault:
+            raise unittest.SkipTest(f"no systemd runs here: {cls.root.fault}")
+        shutil.copy(cls.package, os.path.join(cls.root.path, "root/microloan.deb"))
+        names = " ".join(cls.packages)
+        install = f"apt-get -qq update && apt-get -qq install -y /root/microloan.deb {names} 2>&1"
+        cls.root.run(install, network=True)
+        hook = "/etc/microloan/hooks/alert"
+        cls.root.run(f"cat >{hook} && chmod 755 {hook} && touch /root/told", given=ALERT_HOOK)
+        cls.said = cls.root.run("microloan-setup --user amina --day 2026-11-26", given=PASSWORD + "\n")
+        if "the desk answers at http://127.0.0.1:8190" not in cls.said:
+            raise AssertionError(cls.said)
+
+    def setUp(self):
+        """So many starts as the tests need would end at the start limit."""
+        self.root.run("systemctl reset-failed; systemctl start microloan; truncate -s 0 /root/told")
+
+    def shown(self, *names, unit="microloan.service"):
+        """What systemd shows of a unit, by name."""
+        words = f"systemctl show {unit} --property=" + ",".join(names)
+        return dict(line.split("=", 1) for line in self.root.run(words).splitlines())
+
+    def ask(self, method, path, members=None):
+        return ask(self.root, "amina", PASSWORD, method, path, members)
+
+    def enter(self, name):
+        status, reply = self.ask("POST", "/api/clients", {"office": 1, "name": name})
+        self.assertEqual(status, 201)
+        return reply["client"]
+
+    def name_of(self, client):
+        return self.ask("GET", f"/api/clients/{client}")[1].get("name")
+
+    def told(self):
+        """What the institution's hook was told."""
+        return self.root.run("cat /root/told")
+
+    def wait_until(self, holds, seconds=60):
+        end = time.monotonic() + seconds
+        while not holds():
+            self.assertLess(time.monotonic(), end)
+            time.sleep(0.1)

@@ -19,6 +19,7 @@ TOP = os.path.dirname(os.path.dirname(HERE))
 TOOLS = os.path.join(TOP, "package", "tools")
 sys.path[:0] = [os.path.join(TOP, "front", "test"), TOOLS]
 import desk
+import desk_bundle
 import institution_files as files
 import running
 
@@ -252,12 +253,15 @@ class Backups(unittest.TestCase):
     def setUp(self):
         room = tempfile.TemporaryDirectory()
         self.addCleanup(room.cleanup)
-        self.folder = room.name
+        self.folder, self.keys = (os.path.join(room.name, name) for name in ("backups", "keys"))
+        os.mkdir(self.folder)
+        desk_bundle.make_keys(self.keys)
         self.it = desk.Desk()
         self.addCleanup(self.it.end)
 
     def run_tool(self, name, *words):
-        asked = [os.path.join(TOOLS, name), "--file", self.it.file, "--program", running.program(), *words]
+        asked = [os.path.join(TOOLS, name), "--file", self.it.file, "--program", running.program(), "--keys", self.keys]
+        asked += ["--log", self.it.nginx.log] * (name == "microloan-backup") + list(words)
         done = subprocess.run(asked, capture_output=True, text=True, check=False)
         return done.returncode, done.stdout, done.stderr
 
@@ -265,6 +269,15 @@ class Backups(unittest.TestCase):
         status, shown, said = self.run_tool("microloan-backup", "--folder", self.folder)
         self.assertEqual((status, said), (0, ""))
         return shown.split(": ")[0], shown
+
+    def database_of(self, path):
+        """The database in a backup, taken out by age and tar alone."""
+        with open(os.path.join(self.keys, "machine.key"), encoding="ascii") as file:
+            identity = file.name
+        out = tempfile.mkdtemp(dir=os.path.dirname(self.folder))
+        words = f"age --decrypt --identity '{identity}' '{path}' | tar xz -C '{out}' desk.db"
+        subprocess.run(words, shell=True, check=True)
+        return os.path.join(out, "desk.db")
 
     def add_client(self, name):
         return self.it.send("zoe", "POST", "/api/clients", {"office": 21, "name": name})
@@ -288,8 +301,9 @@ class Backups(unittest.TestCase):
     def test_backed_up_while_it_serves_and_restored(self):
         before = self.add_client("Before")[1]["client"]
         path, shown = self.back_up()
-        self.assertIn("business day 2026-09-30, 400 loans, ", shown)
-        self.assertEqual(os.listdir(self.folder), [os.path.basename(path)])
+        self.assertRegex(shown, "business day 2026-09-30, [0-9]+ clients, 400 loans, ")
+        name = os.path.basename(path)
+        self.assertEqual(sorted(os.listdir(self.folder)), [name, name + ".minisig"])
         after = self.add_client("After")[1]["client"]
         status, _, said = self.run_tool("microloan-restore", path)
         self.assertEqual(status, 1)
@@ -314,7 +328,8 @@ class Backups(unittest.TestCase):
         """SQLite, told that no log counts, reads from the file alone all that the program holds."""
         client = self.add_client("In the log")[1]["client"]
         path, _ = self.back_up()
-        with contextlib.closing(sqlite3.connect(f"file:{path}?mode=ro&immutable=1", uri=True)) as database:
+        copy = self.database_of(path)
+        with contextlib.closing(sqlite3.connect(f"file:{copy}?mode=ro&immutable=1", uri=True)) as database:
             found = database.execute(
                 "select printf('%04d-%06d', office, number) from clients where name = 'In the log'"
             ).fetchall()
@@ -325,7 +340,8 @@ class Backups(unittest.TestCase):
         """The backup is killed while the program stands still: the program goes on all the same."""
         script = (
             "import sys, os, time; sys.path.insert(0, sys.argv[1]); import institution_files as files\n"
-            "with files.standing_still(int(sys.argv[2]), sys.argv[3]): print('still', flush=True); time.sleep(60)\n"
+            "with files.Standstill(int(sys.argv[2]), sys.argv[3]) as it:\n"
+            "    it.stop(); print('still', flush=True); time.sleep(60)\n"
         )
         served = self.it.serve.process.pid
         for how in (signal.SIGKILL, signal.SIGTERM, signal.SIGINT):
@@ -365,7 +381,8 @@ class Backups(unittest.TestCase):
         with contextlib.closing(sqlite3.connect(self.it.file)) as database, database:
             database.executescript(rows)
         self.back_up()
-        os.unlink(os.path.join(self.folder, os.listdir(self.folder)[0]))
+        for name in os.listdir(self.folder):
+            os.unlink(os.path.join(self.folder, name))
         with contextlib.closing(sqlite3.connect(self.it.file)) as database, database:
             database.execute("update entries set amount = amount + 1 where kind = 1 and seq = 1 and reversed = 0")
         status, _, said = self.run_tool("microloan-backup", "--folder", self.folder)
@@ -392,26 +409,95 @@ class Backups(unittest.TestCase):
             file.write(log)
         self.back_up()
 
-    def test_which_are_kept(self):
-        """Of two backups a day over three years: seven days, five weeks and twelve months, by the last one of each."""
-        now = datetime.datetime(2026, 11, 26, 20)
-        times = [now - datetime.timedelta(hours=12 * place) for place in range(2 * 1095)]
+    def put_backups(self, *times, word=""):
         for moment in times:
-            with open(os.path.join(self.folder, moment.strftime("desk-%Y-%m-%dT%H%M%S.db")), "wb"):
+            with open(os.path.join(self.folder, moment.strftime(f"desk-%Y-%m-%dT%H%M%S{word}.tar.age")), "wb"):
                 pass
+
+    def kept(self):
+        return sorted(name for name in os.listdir(self.folder) if name.endswith(".tar.age"))
+
+    def test_which_are_kept(self):
+        """Of two backups a day over three years: those of two days, seven days, five weeks and twelve months."""
+        now = datetime.datetime.now().replace(microsecond=0) - datetime.timedelta(hours=1)
+        times = [now - datetime.timedelta(hours=12 * place) for place in range(2 * 1095)]
+        self.put_backups(*times)
+        self.put_backups(*times[::100], word="-before-upgrade")
         with open(os.path.join(self.folder, "another file"), "wb"):
             pass
         path, _ = self.back_up()
-        kept = sorted(os.listdir(self.folder))
-        self.assertIn("another file", kept)
+        self.assertIn("another file", os.listdir(self.folder))
+        words = [name for name in self.kept() if "-before-upgrade" in name]
+        wanted = sorted(moment.strftime("desk-%Y-%m-%dT%H%M%S-before-upgrade.tar.age") for moment in times[::100][:5])
+        self.assertEqual(words, wanted)
+        kept = [name for name in self.kept() if name not in words]
         self.assertIn(os.path.basename(path), kept)
-        days = [datetime.date.fromisoformat(name[5:15]) for name in kept if name.startswith("desk-")]
+        found = [datetime.datetime.strptime(name[5:22], "%Y-%m-%dT%H%M%S") for name in kept]
+        recent = {moment for moment in times if moment > now - datetime.timedelta(hours=46)}
+        self.assertLessEqual(recent, set(found))
+        days = {moment.date() for moment in found}
         self.assertEqual(len({(day.year, day.month) for day in days}), 12)
         self.assertGreaterEqual(len({day.isocalendar()[:2] for day in days}), 5)
-        self.assertEqual(len(set(days)), len(days))
         last_seven = sorted({moment.date() for moment in times} | {datetime.date.today()})[-7:]
-        self.assertLessEqual(set(last_seven), set(days))
+        self.assertLessEqual(set(last_seven), days)
         self.assertLessEqual(len(days), 7 + 5 + 12)
+
+    def test_a_second_backup_of_a_day_keeps_the_first(self):
+        first, _ = self.back_up()
+        status, shown, said = self.run_tool("microloan-backup", "--folder", self.folder, "--keep", "before-upgrade")
+        self.assertEqual((status, said), (0, ""))
+        self.assertRegex(shown, r"desk-[0-9T-]+-before-upgrade\.tar\.age: ")
+        third, _ = self.back_up()
+        self.assertEqual(len(self.kept()), 3)
+        self.assertLessEqual({os.path.basename(first), os.path.basename(third)}, set(self.kept()))
+        self.assertEqual(self.run_tool("microloan-backup", "--folder", self.folder, "--keep", "../x")[0], 2)
+
+    def test_a_clock_that_was_set_back_removes_none(self):
+        now = datetime.datetime.now()
+        self.put_backups(*(now + datetime.timedelta(days=2000 - 3 * place) for place in range(60)))
+        before = self.kept()
+        status, _, said = self.run_tool("microloan-backup", "--folder", self.folder)
+        self.assertEqual(status, 0)
+        self.assertIn("the clock is behind the newest backup", said)
+        self.assertLessEqual(set(before), set(self.kept()))
+
+    def test_while_messages_come_a_backup_holds_just_those_before_its_place(self):
+        """Four offices enter without a pause; the log after the backup's place gives all that the desk then holds."""
+        ended, entered = threading.Event(), []
+
+        def enter(office):
+            while not ended.is_set():
+                client = {"office": office, "name": f"Client {len(entered)}"}
+                status, _ = self.it.send("amina", "POST", "/api/clients", client)
+                entered.append(status)
+
+        threads = [threading.Thread(target=enter, args=(office,)) for office in (1, 2, 21, 22)]
+        for thread in threads:
+            thread.start()
+        for _ in range(5):
+            time.sleep(0.3)
+            path, _ = self.back_up()
+        ended.set()
+        for thread in threads:
+            thread.join(60)
+        time.sleep(0.5)
+        self.it.kill_serve()
+        words = ["--and-the-log", self.it.nginx.log]
+        held = self.it.file + ".held"
+        for ending in ("", "-wal"):
+            os.rename(self.it.file + ending, held + ending)
+        for path in sorted(os.path.join(self.folder, name) for name in self.kept()):
+            status, shown, said = self.run_tool("microloan-restore", path, *words)
+            self.assertEqual((status, said), (0, ""))
+            self.assertRegex(shown, r"[0-9]+ messages after the backup, the same \([0-9]+ changed something\)")
+            rows = []
+            for name in (held, self.it.file):
+                with contextlib.closing(sqlite3.connect(name)) as database:
+                    rows.append(database.execute("select office, number, name from clients order by 1, 2").fetchall())
+            self.assertEqual(*rows)
+            os.unlink(self.it.file)
+        self.assertEqual(set(entered), {201})
+        self.assertGreater(len(entered), 50)
 
 
 def desk_wait(holds, seconds=60):

@@ -2,74 +2,22 @@
 
 Where a machine lets no systemd run in namespaces, it says why and skips them.
 """
-import os
 import re
-import shutil
-import tempfile
 import time
 import unittest
 
 import roots
+from roots import FILE
 
-PASSWORD = "the head's password"
-FILE = "/var/lib/microloan/desk.db"
 EMPTY_LOG = 41  # bytes of a log that holds no commit, at most
 LIMIT, MOST_ENTERED = 600000, 200  # bytes of a file, and clients that are entered until it is reached
 MOST_EXPOSED = 1.0  # of ten, as systemd-analyze counts
 FAILS_WITHIN = 2.0  # seconds that a start takes which can't succeed
-HOOK = """#!/bin/sh
-printf '%s\\n' "$1" >>/root/told
-cat >>/root/told-more
-"""
 
 
-@unittest.skipUnless(os.geteuid() == 0 and shutil.which("mmdebstrap"), "needs root and mmdebstrap")
-class Unit(unittest.TestCase):
-    @classmethod
-    def setUpClass(cls):
-        room = tempfile.mkdtemp()
-        cls.addClassCleanup(shutil.rmtree, room)
-        package = roots.built_package(room)
-        cls.root = roots.Booted()
-        cls.addClassCleanup(cls.root.end)
-        if cls.root.fault:
-            raise unittest.SkipTest(f"no systemd runs here: {cls.root.fault}")
-        shutil.copy(package, os.path.join(cls.root.path, "root/microloan.deb"))
-        cls.root.run("apt-get -qq update && apt-get -qq install -y /root/microloan.deb curl 2>&1", network=True)
-        hook = "/etc/microloan/hooks/alert"
-        cls.root.run(f"cat >{hook} && chmod 755 {hook} && touch /root/told", given=HOOK)
-        said = cls.root.run("microloan-setup --user amina --day 2026-11-26", given=PASSWORD + "\n")
-        if "the desk answers at http://127.0.0.1:8190" not in said:
-            raise AssertionError(said)
-
-    def setUp(self):
-        """So many starts as the tests need would end at the start limit."""
-        self.root.run("systemctl reset-failed microloan; systemctl start microloan; truncate -s 0 /root/told")
-
-    def shown(self, *names):
-        """What systemd shows of the service, by name."""
-        words = "systemctl show microloan.service --property=" + ",".join(names)
-        return dict(line.split("=", 1) for line in self.root.run(words).splitlines())
-
-    def ask(self, method, path, members=None):
-        return roots.ask(self.root, "amina", PASSWORD, method, path, members)
-
-    def enter(self, name):
-        status, reply = self.ask("POST", "/api/clients", {"office": 1, "name": name})
-        self.assertEqual(status, 201)
-        return reply["client"]
-
-    def name_of(self, client):
-        return self.ask("GET", f"/api/clients/{client}")[1].get("name")
-
+class Unit(roots.ServedDesk):
     def log_size(self):
         return int(self.root.run(f"stat -c %s {FILE}-wal"))
-
-    def wait_until(self, holds):
-        end = time.monotonic() + 60
-        while not holds():
-            self.assertLess(time.monotonic(), end)
-            time.sleep(0.1)
 
     def test_a_start_that_waits(self):
         self.root.run("systemctl stop microloan")
@@ -138,7 +86,7 @@ class Unit(unittest.TestCase):
                 said = self.root.run("journalctl --no-pager --output=cat --unit=microloan --lines=8")
                 self.assertIn(line, said)
                 self.assertNotIn("F20", said)
-                self.wait_until(lambda: line in self.root.run("cat /root/told"))
+                self.wait_until(lambda: line in self.told())
                 self.root.run(f"rm -r /var/lib/microloan && cp -a /root/kept{number} /var/lib/microloan")
                 self.root.run("systemctl reset-failed microloan; systemctl start microloan")
         self.assertEqual(self.ask("GET", "/api/business-day")[0], 200)
@@ -152,7 +100,7 @@ class Unit(unittest.TestCase):
             self.root.run(crash)
             time.sleep(0.1)
         self.assertGreater(int(self.shown("NRestarts")["NRestarts"]), 3)
-        self.wait_until(lambda: "microloan: failed" in self.root.run("cat /root/told"))
+        self.wait_until(lambda: "microloan: failed" in self.told())
 
     def test_thirty_starts(self):
         """Started thirty times it is there each time: whether the program still runs is never mistaken."""
@@ -162,7 +110,7 @@ class Unit(unittest.TestCase):
         self.assertEqual(self.shown("NRestarts", "ActiveState"), {"NRestarts": "0", "ActiveState": "active"})
 
     def test_nobody_of_this_machine_is_past_the_front(self):
-        """Neither by the port nor by the socket, but for root and the front; another program on the port meets nobody."""
+        """Neither by the port nor by the socket, but for root and the front; a foreign program on the port meets none."""
         ask = "curl --silent --show-error --max-time 5 --header 'X-Staff: 1/1'"
         by_port, by_socket = "http://127.0.0.1:8180/business-day", "http://desk/business-day"
         socket = "--unix-socket /run/microloan-port/desk.sock"
@@ -204,18 +152,6 @@ class Unit(unittest.TestCase):
         self.wait_until(lambda: self.shown("NRestarts")["NRestarts"] != before["NRestarts"])
         self.root.run(f"rm {room}/limit.conf && systemctl daemon-reload && systemctl restart microloan")
         self.assertEqual([self.name_of(it) for it in entered], [f"Client {place}" for place in range(len(entered))])
-
-    def test_the_timer_and_its_backup(self):
-        client = self.enter("Before the backup")
-        self.assertIn("microloan-backup.service", self.root.run("systemctl list-timers --no-pager"))
-        self.root.run("systemctl start microloan-backup.service")
-        names = self.root.run("ls /var/backups/microloan").split()
-        self.assertRegex(names[-1], r"^desk-.*\.db$")
-        line = f"1/1 GET /clients/{client}\n"
-        self.root.run(f"mkdir -p /root/copy && cp /var/backups/microloan/{names[-1]} /root/copy/desk.db")
-        said = self.root.run("microloan batch --existing --file /root/copy/desk.db", given=line)
-        self.assertEqual(said, f'200 {{"client":"{client}","name":"Before the backup"}}\n')
-        self.assertEqual(self.ask("GET", "/api/business-day")[0], 200)
 
     def test_how_far_it_is_shut_off(self):
         said = self.root.run("systemd-analyze --no-pager security microloan.service")

@@ -1,20 +1,28 @@
 """An institution's file: who holds it open, a copy of it while it is served, what a copy holds, and whether its log is
 damaged.
 
-    institution_files.py FILE     the status is 1, and a line says so, where the log beside the file is damaged
+    institution_files.py FILE     what comes before a start: the status is 1, and a line says so, where the log beside
+                                  the file is damaged; a file of an older schema than the program's is copied first
 """
 import contextlib
+import fcntl
 import os
+import pwd
+import re
 import select
+import shutil
 import signal
 import sqlite3
 import struct
 import subprocess
 import sys
+import tempfile
 import time
+import traceback
 
 FILE = "/var/lib/microloan/desk.db"
 PROGRAM = "/usr/bin/microloan"
+DIFFERS = 3  # a child's status where it did what it should, and has told of something that isn't as it should be
 PATIENCE = 10  # seconds that a process may take to stand still
 MAGIC = 0x377F0682  # of a log whose sums are of words with the lowest byte first; with 1 added the other way round
 HEADER, FRAME = 32, 24  # bytes before the frames, and of a frame before its page
@@ -22,6 +30,10 @@ HEADER, FRAME = 32, 24  # bytes before the frames, and of a frame before its pag
 
 class Failed(Exception):
     """Why something was not done."""
+
+
+class Told(Exception):
+    """Something was not done, and a child has said why."""
 
 
 def opened_by(name):
@@ -54,41 +66,138 @@ def stands_still(number):
     return True
 
 
-@contextlib.contextmanager
-def standing_still(number, path):
-    """Stops a process, which goes on afterwards in any case: a child sees to that, even where this one is killed."""
-    handle = os.pidfd_open(number)
-    if number not in holders(path):
-        raise Failed("the program ended meanwhile")
-    reading, writing = os.pipe()
-    child = os.fork()
-    if child == 0:
-        go_on_when_told(handle, reading, writing)
-    os.close(reading)
-    try:
-        signal.pidfd_send_signal(handle, signal.SIGSTOP)
-        end = time.monotonic() + PATIENCE
-        while not stands_still(number):
-            if time.monotonic() > end:
-                raise Failed(f"the process {number} doesn't stop")
+class Standstill:
+    """A process that stands still for moments, and goes on afterwards in any case.
+
+    A child sees to that, even where this one is killed, alone or with its group. The child says that it is ready before
+    the process is stopped for the first time. Where both are killed at once, as by `systemctl kill`, somebody else has
+    to send SIGCONT: the unit of the backup and microloan-check do.
+    """
+
+    def __init__(self, number, path):
+        self.number = number
+        self.handle = os.pidfd_open(number)
+        if number not in holders(path):
+            raise Failed("the program ended meanwhile")
+        (ready, say_ready), (ended, self.end) = os.pipe(), os.pipe()
+        self.child = os.fork()
+        if self.child == 0:
+            os.close(self.end)
+            go_on_when_ended(self.handle, say_ready, ended)
+        for one in (say_ready, ended):
+            os.close(one)
+        with os.fdopen(ready, "rb") as file:
+            if file.read(1) != b"r":
+                raise Failed("no child sees to it that the program goes on")
+
+    def stop(self):
+        signal.pidfd_send_signal(self.handle, signal.SIGSTOP)
+        until = time.monotonic() + PATIENCE
+        while not stands_still(self.number):
+            if time.monotonic() > until:
+                raise Failed(f"the process {self.number} doesn't stop")
             time.sleep(0.0005)
-        yield
-    finally:
-        os.close(writing)
-        os.waitpid(child, 0)
-        os.close(handle)
+
+    def go_on(self):
+        signal.pidfd_send_signal(self.handle, signal.SIGCONT)
+
+    def __enter__(self):
+        return self
+
+    def __exit__(self, *_):
+        os.close(self.end)
+        os.waitpid(self.child, 0)
+        os.close(self.handle)
 
 
-def go_on_when_told(handle, reading, writing):
+def go_on_when_ended(handle, ready, ended):
     """The child: waits until the pipe's other end is closed, by whatever, and has the process go on."""
     os.setsid()
     for number in (signal.SIGINT, signal.SIGTERM, signal.SIGHUP):
         signal.signal(number, signal.SIG_IGN)
-    os.close(writing)
-    select.select([reading], [], [])
+    os.write(ready, b"r")
+    os.close(ready)
+    select.select([ended], [], [])
     with contextlib.suppress(ProcessLookupError):
         signal.pidfd_send_signal(handle, signal.SIGCONT)
     os._exit(0)
+
+
+def is_idle(number):
+    """Whether a served program that stands still has no message in hand: its one socket is that at which it listens."""
+    found = 0
+    for name in os.listdir(f"/proc/{number}/fd"):
+        if int(name) > 2 and os.readlink(f"/proc/{number}/fd/{name}").startswith("socket:"):
+            found += 1
+    return found <= 1
+
+
+def owner_of(path):
+    """Whose an institution's file is: the owner of its folder."""
+    return pwd.getpwuid(os.stat(os.path.dirname(path)).st_uid)
+
+
+def become(owner):
+    """Where root runs this it goes on as the owner, and so follows no link to what isn't theirs."""
+    if os.geteuid() == 0 and owner.pw_uid != 0:
+        os.setgroups([])
+        os.setgid(owner.pw_gid)
+        os.setuid(owner.pw_uid)
+
+
+def end_child(work, owner):
+    """A child's whole life: becomes the owner, works, and says what stood against it. Its status: 1 where it did."""
+    status = 0
+    try:
+        become(owner)
+        work()
+    except BrokenPipeError:
+        status = 2  # nobody listens any more: the parent knows why
+    except (Failed, OSError) as why:
+        print(f"{os.path.basename(sys.argv[0])}: {why}", file=sys.stderr)
+        status = 1
+    except BaseException:
+        traceback.print_exc()
+        status = 1
+    with contextlib.suppress(OSError):
+        sys.stdout.flush()
+    sys.stderr.flush()
+    os._exit(status)
+
+
+def end_of_child(child, failed=None):
+    """Waits for a child; where it has said why it failed, that counts, else what failed here. Whether it ended by 0."""
+    status = os.waitstatus_to_exitcode(os.waitpid(child, 0)[1])
+    if status == 1:
+        raise Told
+    if failed:
+        raise failed
+    if status not in (0, DIFFERS):
+        raise Failed(f"the child that works as the owner ended: {status}")
+    return status == 0
+
+
+def sweep(folder, *beginnings):
+    """Removes what runs that were killed have left in a folder: folders whose names so begin."""
+    for name in os.listdir(folder):
+        if name.startswith(beginnings):
+            shutil.rmtree(os.path.join(folder, name), ignore_errors=True)
+
+
+@contextlib.contextmanager
+def room_in(folder, beginning):
+    """A new folder in another one, for a while. Only one run at a time has one; what killed ones left is removed."""
+    lock = os.open(folder, os.O_RDONLY | os.O_DIRECTORY)
+    try:
+        fcntl.flock(lock, fcntl.LOCK_EX)
+        sweep(folder, beginning)
+        room = tempfile.mkdtemp(prefix=beginning, dir=folder)
+        try:
+            yield room
+        finally:
+            shutil.rmtree(room, ignore_errors=True)
+    finally:
+        os.close(lock)
 
 
 def copy_files(path, copy):
@@ -157,13 +266,14 @@ def refuse_damaged_log(path):
 
 
 def counts_of(path):
-    """The business day, and how many loans and entries there are, as SQLite reads them; no institution is Failed.
+    """The business day, and how many clients, loans and entries there are, as SQLite reads them; else it is Failed.
 
     Closing the last connection copies the log into the file and removes it, so that the file alone is whole then.
     """
     try:
         with contextlib.closing(sqlite3.connect(f"file:{quoted(path)}?mode=rw", uri=True)) as database:
             (day,) = database.execute("select day from meta").fetchone()
+            (clients,) = database.execute("select count(*) from clients").fetchone()
             (loans,) = database.execute("select count(*) from loans").fetchone()
             (entries,) = database.execute("select count(*) from entries").fetchone()
             database.execute("pragma wal_checkpoint(truncate)").fetchall()
@@ -171,21 +281,20 @@ def counts_of(path):
         raise Failed(f"{path} holds no institution: {fault}") from None
     if os.path.exists(path + "-wal"):
         raise Failed(f"{path}-wal is still there: something else has the copy open")
-    return day, loans, entries
+    return day, clients, loans, entries
 
 
 def quoted(path):
     return path.replace("%", "%25").replace("?", "%3f").replace("#", "%23")
 
 
-def checked(path, program=PROGRAM, user=None):
+def checked(path, program=PROGRAM):
     """Makes one whole file of a copy that is one's own, has the program check all of it, and tells what it holds.
 
     SQLite reads the day first: of a file without tables the program would make a new institution.
     """
     before = counts_of(path)
-    words = (["setpriv", f"--reuid={user}", f"--regid={user}", "--init-groups"] if user else []) + [program]
-    words += ["batch", "--existing", "--file", path]
+    words = [program, "batch", "--existing", "--file", path]
     done = subprocess.run(words, input=b"1/1 GET /business-day\n", capture_output=True, check=False)
     if done.returncode or done.stdout != f'200 {{"day":"{before[0]}"}}\n'.encode():
         raise Failed(f"the program refuses {path}: {(done.stderr or done.stdout).decode(errors='replace').strip()}")
@@ -194,8 +303,15 @@ def checked(path, program=PROGRAM, user=None):
     return before
 
 
+def audit(path, program=PROGRAM):
+    """Has the program audit a copy."""
+    done = subprocess.run([program, "audit", "--file", path], capture_output=True, text=True, check=False)
+    if done.returncode:
+        raise Failed(f"{path}: {(done.stdout + done.stderr).strip()}")
+
+
 def told(counts):
-    return "business day {}, {} loans, {} entries".format(*counts)
+    return "business day {}, {} clients, {} loans, {} entries".format(*counts)
 
 
 def keep(path, place):
@@ -207,8 +323,36 @@ def keep(path, place):
         then()
 
 
+def schema_of(path):
+    """The schema of a file as its own pages have it, without its log; nothing where it is no institution."""
+    try:
+        with contextlib.closing(sqlite3.connect(f"file:{quoted(path)}?mode=ro&immutable=1", uri=True)) as database:
+            return database.execute("select schema from meta").fetchone()[0]
+    except (sqlite3.Error, TypeError):
+        return None
+
+
+def keep_older_schema(path, program=PROGRAM):
+    """Copies a file that opening brings to a newer schema, from which there is no way back, into a folder beside it."""
+    version = subprocess.run([program, "--version"], capture_output=True, text=True, check=False).stdout
+    newest = re.search(r"\(schema (\d+)\)", version)
+    schema = schema_of(path)
+    if newest is None or schema is None or schema >= int(newest[1]):
+        return
+    found = os.stat(path)
+    aside = os.path.join(os.path.dirname(path), f"before-schema-{newest[1]}-{found.st_mtime_ns}")
+    if os.path.exists(aside):
+        return
+    with room_in(os.path.dirname(path), ".schema-") as room:
+        copy_files(path, os.path.join(room, os.path.basename(path)))
+        os.rename(room, aside)
+        os.mkdir(room)
+    print(f"the file is of schema {schema}, and is brought to {newest[1]}; as it was it is kept in {aside}", flush=True)
+
+
 if __name__ == "__main__":
     try:
         refuse_damaged_log(sys.argv[1])
+        keep_older_schema(sys.argv[1])
     except (Failed, OSError) as why:
         sys.exit(f"microloan: {why}")

@@ -1,0 +1,153 @@
+"""Tests of microloan-check and its watch, under a running systemd: each thing that it looks at is broken in turn.
+
+They need root and mmdebstrap. Where a machine lets no systemd run in namespaces, it says why and skips them.
+"""
+import time
+import unittest
+
+import roots
+from roots import BACKUPS, FILE
+
+LOG = "/var/log/microloan/messages.log"
+OFFSITE = "/etc/microloan/hooks/offsite"
+WITHIN = 70  # seconds in which the institution is told of what is urgent: the check runs each minute
+MOST_ENTERED = 3000  # clients that are entered until a small disk is full
+
+
+class Check(roots.ServedDesk):
+    @classmethod
+    def setUpClass(cls):
+        super().setUpClass()
+        cls.root.run(f"printf '#!/bin/sh\\nexit 0\\n' >{OFFSITE}; chmod 755 {OFFSITE}")
+        cls.root.run("systemctl stop microloan-check.timer; microloan-backup")
+        cls.root.run("systemctl restart microloan")
+
+    def setUp(self):
+        super().setUp()
+        self.root.run("systemctl stop microloan-check.timer; rm -f /run/microloan-check/state.json")
+
+    def look(self, wanted):
+        """What the check says, in one line."""
+        said = self.root.run("microloan-check", wanted=wanted)
+        self.assertEqual(said.count("\n"), 1)
+        return said
+
+    def watch(self):
+        self.root.run("systemctl start microloan-check; true")
+
+    def test_in_order(self):
+        today = self.root.run("date +%F").strip()
+        self.ask("PUT", "/api/business-day", {"day": today})
+        said = self.look(0)
+        wanted = rf"DESK OK - answers in \d+ ms, business day {today}, [0-9.]+ GB free, backup 0 h old \| answer=0\.\d+s;"
+        self.assertRegex(said, wanted)
+        before = self.root.run("wc -l <" + LOG)
+        self.look(0)
+        self.assertEqual(self.root.run("wc -l <" + LOG), before)
+        self.watch()
+        self.assertEqual(self.told(), "")
+        nobody = "setpriv --reuid=nobody --regid=nogroup --clear-groups microloan-check"
+        self.assertIn("DESK UNKNOWN - run it as root", self.root.run(nobody, wanted=3))
+
+    def test_a_service_that_is_stopped_or_failed(self):
+        self.root.run("systemctl stop microloan")
+        self.assertIn("DESK CRITICAL - the service is stopped", self.look(2))
+        self.root.run(f"mv {FILE} {FILE}.kept; systemctl start microloan", wanted=1)
+        self.assertIn("the service failed (exit-code)", self.look(2))
+        self.watch()
+        self.assertIn("the service failed", self.told())
+        self.assertEqual(self.shown("ActiveState")["ActiveState"], "failed")
+        self.root.run(f"mv {FILE}.kept {FILE}; systemctl reset-failed; systemctl start microloan")
+        self.watch()
+        self.assertIn("in order again: service", self.told())
+
+    def test_a_program_that_stands_still_goes_on(self):
+        self.root.run("systemctl kill --signal=STOP --kill-who=main microloan")
+        self.assertIn("the program doesn't answer", self.look(2))
+        self.watch()
+        self.assertIn("stood still, and was told to go on", self.told())
+        self.assertEqual(self.ask("GET", "/api/business-day")[0], 200)
+
+    def test_a_program_that_does_not_answer_is_started_again(self):
+        """It stands still, and the lock of a backup that never ends keeps the check from having it go on."""
+        before = self.shown("MainPID")["MainPID"]
+        client = self.enter("Before it hung")
+        self.root.start("flock /var/lib/microloan sleep 100")
+        self.root.run("systemctl kill --signal=STOP --kill-who=main microloan")
+        self.watch()
+        self.assertIn("didn't answer for a minute, and is started again", self.told())
+        self.wait_until(lambda: self.shown("ActiveState", "MainPID")["MainPID"] not in (before, "0"))
+        self.wait_until(lambda: self.shown("ActiveState")["ActiveState"] == "active")
+        self.assertEqual(self.name_of(client), "Before it hung")
+        self.root.run("kill $(pidof flock sleep); true")
+
+    def test_a_file_that_is_removed_or_replaced_is_told_within_a_minute(self):
+        for spoil in (f"rm {FILE}-wal", f"cp {FILE} {FILE}.new; mv {FILE}.new {FILE}", f"ln {FILE} {FILE}.second"):
+            with self.subTest(spoil):
+                self.root.run("truncate -s 0 /root/told; cp -a /var/lib/microloan /root/kept-lib")
+                self.root.run("systemctl start microloan-check.timer")
+                time.sleep(2)
+                self.root.run(spoil)
+                began = time.monotonic()
+                name = "has a second name" if "ln " in spoil else "was removed or replaced while it is served"
+                self.wait_until(lambda: name in self.told(), WITHIN + 10)
+                took = time.monotonic() - began
+                print(f"{spoil}: told after {took:.0f} s", flush=True)
+                self.assertLess(took, WITHIN)
+                self.root.run("systemctl stop microloan-check.timer; systemctl kill --signal=KILL microloan; true")
+                self.root.run("systemctl stop microloan; rm -rf /var/lib/microloan; rm -f /run/microloan-check/state.json")
+                self.root.run("mv /root/kept-lib /var/lib/microloan; systemctl reset-failed; systemctl start microloan")
+
+    def test_a_log_that_is_replaced_or_cut_short(self):
+        self.root.run(f"mv {LOG} {LOG}.kept; install -m 640 -o www-data -g adm /dev/null {LOG}")
+        self.assertIn("isn't the file any more that nginx writes", self.look(2))
+        self.root.run(f"mv {LOG}.kept {LOG}; printf cut >>{LOG}")
+        self.assertIn(f"the last line of {LOG} is cut short", self.look(2))
+        self.root.run(f"truncate -s -3 {LOG}")
+
+    def test_a_full_disk(self):
+        """The program is shut; it isn't started again while there is no room, and is when there is."""
+        self.root.run("systemctl stop microloan; cp -a /var/lib/microloan /root/kept-lib; "
+                      "mount -t tmpfs -o size=1m,mode=700,uid=$(id -u microloan),gid=$(id -g microloan) none "
+                      "/var/lib/microloan; cp -a /root/kept-lib/. /var/lib/microloan; systemctl start microloan")
+        try:
+            for place in range(MOST_ENTERED):
+                if self.ask("POST", "/api/clients", {"office": 1, "name": f"Client {place} {'x' * 80}"})[0] != 201:
+                    break
+            said = self.look(2)
+            self.assertIn("the program answers 503 F20", said)
+            self.assertIn("/var/lib/microloan has 0 MB free", said)
+            self.assertIn("messages were answered F20", said)
+            self.watch()
+            self.assertIn("isn't started again: its disk is full", self.told())
+            self.root.run("mount -o remount,size=200m /var/lib/microloan")
+            self.watch()
+            self.assertIn("was shut after a fault of its file or disk, and is started again", self.told())
+            self.wait_until(lambda: self.ask("GET", "/api/business-day")[0] == 200)
+            self.assertEqual(self.name_of(self.enter("After the full disk")), "After the full disk")
+        finally:
+            self.root.run("systemctl stop microloan; umount /var/lib/microloan; systemctl start microloan")
+            self.root.run(f"truncate -s 0 {LOG}")
+
+    def test_backups_that_are_old_or_stay_here(self):
+        self.root.run(f"mkdir /root/aside; mv {BACKUPS}/* /root/aside")
+        self.assertIn("there is no backup", self.look(2))
+        for hours, wanted in ((30, 1), (60, 2)):
+            made = self.root.run(f"date -d '{hours} hours ago' +%FT%H%M%S").strip()
+            self.root.run(f"touch {BACKUPS}/desk-{made}.tar.age")
+            self.assertIn(f"the newest backup is {hours} hours old", self.look(wanted))
+            self.root.run(f"rm {BACKUPS}/desk-{made}.tar.age")
+        self.root.run(f"mv /root/aside/* {BACKUPS}; rmdir /root/aside; mv {OFFSITE} {OFFSITE}.kept")
+        self.assertIn("backups stay on this machine", self.look(1))
+        self.root.run(f"mv {OFFSITE}.kept {OFFSITE}; mv /etc/microloan/keys/institution.pub /root")
+        self.assertIn("this machine alone has a key", self.look(1))
+        self.root.run("mv /root/institution.pub /etc/microloan/keys")
+
+    def test_a_front_that_is_down(self):
+        self.root.run("systemctl stop nginx")
+        self.assertIn("the front doesn't answer at http://127.0.0.1:8190", self.look(2))
+        self.root.run("systemctl start nginx")
+
+
+if __name__ == "__main__":
+    unittest.main()

@@ -1,0 +1,145 @@
+"""Answers the messages of the front's log once more over a copy of an institution, and compares the statuses.
+
+A message is a mapping: `line` the request line, `status` what was answered then, `lost` whether no reply of the
+program's is known, `moment`, `who`, and `where` it stands. A lost one may have been carried out or not. What comes after it tells: the
+numbers that the program gives, and the receipts that it knows, depend on it.
+"""
+import dataclasses
+import json
+import os
+import subprocess
+import sys
+
+HERE = os.path.dirname(os.path.realpath(__file__))
+# in a checkout, where the package is built, and installed
+sys.path += [os.path.join(HERE, *up, "audit") for up in (("..", ".."), ("..",), ())]
+import day
+import institution_files as files
+import log_place
+
+
+@dataclasses.dataclass
+class Replayed:
+    """What came of it: whether all messages were answered as the log says, and what is told of it."""
+
+    agrees: bool
+    lines: list
+
+
+def messages_of(lines, log):
+    """Of the lines of a log those that may have changed something, as messages; and how many the program was sent."""
+    messages, count = [], 0
+    for number, line in enumerate(lines, 1):
+        message = log_place.message_of(line)
+        if message is None or not day.is_passed_on(message):
+            continue
+        count += 1
+        if day.has_changed(message) or day.is_lost(message):
+            message |= {"file": log, "line": f"{number} after the backup"}
+            told = {"line": day.line_of(message), "status": message["status"], "lost": day.is_lost(message)}
+            told |= {"moment": message["time"], "who": message["user"], "where": day.place_of(message)}
+            messages.append(told)
+    return messages, count
+
+
+def replies_of(program, path, messages):
+    """What the program answers to messages over a file."""
+    given = "".join(message["line"] + "\n" for message in messages).encode(errors="surrogateescape")
+    done = subprocess.run(
+        [program, "batch", "--existing", "--file", path], input=given, capture_output=True, check=False
+    )
+    if done.returncode:
+        raise files.Failed(f"the program doesn't answer over the copy: {done.stderr.decode(errors='replace').strip()}")
+    return done.stdout.decode(errors="replace").splitlines()
+
+
+def replies_over_a_copy(program, path, messages):
+    """The same over a copy of the file, which is itself left as it is."""
+    copy = path + ".tried"
+    try:
+        files.copy_files(path, copy)
+        return replies_of(program, copy, messages)
+    finally:
+        for ending in ("", "-wal", "-shm"):
+            if os.path.exists(copy + ending):
+                os.unlink(copy + ending)
+
+
+def agreeing(messages, replies):
+    """How many messages there are before the first that is answered otherwise now than then."""
+    for number, (message, reply) in enumerate(zip(messages, replies)):
+        if not message["lost"] and reply.split(" ")[0] != str(message["status"]):
+            return number
+    return len(messages)
+
+
+def numbers_of(message):
+    """In what a message's number is counted: the loan of an entry, or what is entered and the office that it is in."""
+    parts = message["line"].split(" ", 3)
+    path = parts[2].split("/")
+    if len(path) > 3:
+        return path[:3]
+    try:
+        body = json.loads(parts[3])
+        return path[:2], str(body.get("client", body.get("office", "")))[:4].lstrip("0")
+    except (IndexError, ValueError, AttributeError):
+        return path[:2], ""
+
+
+def swappable(messages):
+    """Neighbours of different people in one second that take numbers of one count.
+
+    The front writes a message once it is answered, and may so write two that were answered at once the other way round.
+    """
+    pairs = []
+    for one, other in zip(messages, messages[1:]):
+        if one["moment"] == other["moment"] and one["who"] != other["who"] and numbers_of(one) == numbers_of(other):
+            pairs.append(f"{one['where']}, and {other['where']}")
+    return pairs
+
+
+def settle(program, path, messages, number):
+    """Whether the lost message of this number was carried out; nothing where what comes after it doesn't tell."""
+    without = messages[:number] + [other for other in messages[number + 1 :] if not other["lost"]]
+    within = messages[: number + 1] + without[number:]
+    reached = agreeing(without, replies_over_a_copy(program, path, without)) - number
+    reached_within = agreeing(within, replies_over_a_copy(program, path, within)) - number - 1
+    return None if reached == reached_within else reached_within > reached
+
+
+def settled(program, path, messages):
+    """The messages that are to be answered, what is told of the lost ones, and where it has to stop, if anywhere."""
+    told, number = [], 0
+    while number < len(messages):
+        message = messages[number]
+        if not message["lost"]:
+            number += 1
+            continue
+        carried_out = settle(program, path, messages, number)
+        others = [numbers_of(later) for later in messages[number + 1 :]]
+        if carried_out is None and numbers_of(message) in others:
+            reason = "its reply was lost, and what comes after it doesn't tell whether it was carried out"
+            return messages[:number], told, f"{reason}: {message['where']}"
+        told.append(f"its reply was lost; it was {'carried out' if carried_out else 'left out'}: {message['where']}")
+        if carried_out:
+            number += 1
+        else:
+            messages = messages[:number] + messages[number + 1 :]
+    return messages, told, None
+
+
+def replay(program, path, messages, count):
+    """Answers messages over a file, as far as they are answered as they were then. `count`: of all that the log has."""
+    messages, told, stopped = settled(program, path, messages)
+    replies = replies_over_a_copy(program, path, messages)
+    same = agreeing(messages, replies)
+    if same < len(messages):
+        other = messages[same]
+        stopped = f"answered {other['status']} then and '{replies[same]}' now: {other['where']}"
+    replies_of(program, path, messages[:same])
+    told += [f"their numbers may be swapped, since both came in one second: {pair}" for pair in swappable(messages[:same])]
+    if stopped:
+        told.append(f"stopped after {same} of those that changed something: {stopped}")
+    else:
+        told.append(f"{count} messages after the backup, the same ({same} changed something)")
+    return Replayed(stopped is None, told)
