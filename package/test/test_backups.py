@@ -127,7 +127,8 @@ class Backups(roots.ServedDesk):
                 self.assertIn("isn't as it was signed", said)
                 self.assertIn("Nothing is changed", said)
         other = "RWQf6LRCGA9i53mlYecO4IzT51TGPpvWucNSCh1CBM0QTaLn73Y7GFO3"
-        self.assertIn("wasn't signed by", self.root.run(f"microloan-restore --try --signed-by {other} {bundle}", wanted=1))
+        said = self.root.run(f"microloan-restore --try --signed-by {other} {bundle}", wanted=1)
+        self.assertIn("wasn't signed by", said)
 
     def test_killed_while_the_program_stands_still_it_goes_on(self):
         for how in ("group", "unit"):
@@ -219,6 +220,29 @@ class Backups(roots.ServedDesk):
         bundle = self.newest()
         self.root.run(f"{restic} restore latest --target /root/restic && cmp {bundle} /root/restic{bundle}")
         self.root.run(f"cat >{OFFSITE}", given=OFFSITE_HOOK)
+
+    def test_the_log_goes_to_another_machine_as_it_is_written(self):
+        """Two rsyslogs by the examples: one sends to the other, which is away for a while and misses nothing."""
+        examples = "/usr/share/doc/microloan/examples"
+        kept = "/srv/kept/messages.log"
+        self.root.run("mkdir -p /srv/kept; printf 'include(file=\"/root/taker.conf\")\n' >/root/rsyslog-taker.conf")
+        self.root.run(f"sed 's|/srv/microloan/|/srv/kept/|' {examples}/log-from-a-machine.conf >/root/taker.conf")
+        sender = f"sed s/log.example.org/127.0.0.1/ {examples}/log-to-a-machine.conf"
+        self.root.run(f"{sender} >/etc/rsyslog.d/microloan.conf")
+        taker = "rsyslogd -n -f /root/rsyslog-taker.conf -i /run/taker.pid"
+        self.root.start(taker)
+        self.root.run("systemctl restart rsyslog")
+        self.enter("Sent to the other machine")
+        self.wait_until(lambda: "Sent to the other machine" in self.root.run(f"cat {kept}; true"))
+        self.root.run("kill $(cat /run/taker.pid)")
+        for place in range(5):
+            self.enter(f"While it is away {place}")
+        self.root.start(taker)
+        self.wait_until(lambda: "While it is away 4" in self.root.run(f"cat {kept}"), 120)
+        log = "/var/log/microloan/messages.log"
+        same = f"cat {log}-* {log} 2>/dev/null | cmp - {kept} && echo same; true"
+        self.wait_until(lambda: self.root.run(same) == "same\n")
+        self.root.run("kill $(cat /run/taker.pid); rm /etc/rsyslog.d/microloan.conf; systemctl restart rsyslog")
 
     def test_an_upgrade_makes_one_first(self):
         self.root.run("dpkg -i /root/microloan.deb")

@@ -34,8 +34,36 @@ class Built(unittest.TestCase):
             self.assertEqual(modes["./" + path], "-rw-r--r--")
         for path in ("usr/share/microloan/pages/index.html", "usr/share/man/man1/microloan.1.gz"):
             self.assertIn("./" + path, modes)
-        self.assertIn("./usr/share/doc/microloan/handbook.md.gz", modes)
+        self.assertIn("./usr/share/doc/microloan/handbook.md", modes)
         self.assertEqual([path for path in modes if "pycache" in path], [])
+
+    def test_what_the_documents_link_is_there(self):
+        room = tempfile.mkdtemp()
+        self.addCleanup(shutil.rmtree, room)
+        subprocess.run(["dpkg", "-x", PACKAGE, room], check=True)
+        documents = os.path.join(room, "usr/share/doc/microloan")
+        version = re.search(r"_([0-9.]+)_", os.path.basename(PACKAGE))[1]
+        for name in filter(lambda it: it.endswith(".md"), os.listdir(documents)):
+            with open(os.path.join(documents, name), encoding="utf-8") as file:
+                text = file.read()
+            for link in re.findall(r"\]\((?!https?:)([^)#]+)", text):
+                self.assertTrue(os.path.exists(os.path.join(documents, link)), f"{name}: {link}")
+            self.assertLessEqual(set(re.findall(r"microloan_([0-9.]+)_amd64", text)), {version}, name)
+        help_of = [os.path.join(room, "usr/share/microloan/audit", name) for name in ("compare", "lines")]
+        for path in help_of:
+            subprocess.run([path, "--help"], stdout=subprocess.DEVNULL, check=True)
+
+    def test_its_checksum_is_signed(self):
+        room = tempfile.mkdtemp()
+        self.addCleanup(shutil.rmtree, room)
+        key, public = os.path.join(room, "key"), os.path.join(room, "key.pub")
+        subprocess.run(["minisign", "-G", "-W", "-s", key, "-p", public], stdout=subprocess.DEVNULL, check=True)
+        words = [os.path.join(roots.TOP, "package", "build"), "--out", room, "--sign", key]
+        built = subprocess.run(words, stdout=subprocess.PIPE, stderr=subprocess.DEVNULL, text=True, check=True)
+        package = built.stdout.strip()
+        subprocess.run(["minisign", "-V", "-q", "-p", public, "-m", package + ".sha256"], check=True)
+        name = os.path.basename(package)
+        subprocess.run(["sha256sum", "--check", "--quiet", name + ".sha256"], cwd=room, check=True)
 
     def test_the_site_is_filled_in(self):
         words = f"dpkg --fsys-tarfile {shlex.quote(PACKAGE)} | tar xO ./etc/nginx/sites-available/microloan"

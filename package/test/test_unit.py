@@ -110,7 +110,7 @@ class Unit(roots.ServedDesk):
         self.assertEqual(self.shown("NRestarts", "ActiveState"), {"NRestarts": "0", "ActiveState": "active"})
 
     def test_nobody_of_this_machine_is_past_the_front(self):
-        """Neither by the port nor by the socket, but for root and the front; a foreign program on the port meets none."""
+        """Neither by the port nor by the socket, but for root and the front; a program on the port meets none."""
         ask = "curl --silent --show-error --max-time 5 --header 'X-Staff: 1/1'"
         by_port, by_socket = "http://127.0.0.1:8180/business-day", "http://desk/business-day"
         socket = "--unix-socket /run/microloan-port/desk.sock"

@@ -20,7 +20,7 @@ import tarfile
 
 KEYS = "/etc/microloan/keys"
 LOG_FOLDER = "log/"
-SETTINGS = ("/etc/microloan", "/etc/nginx/sites-available/microloan")
+SETTINGS = ("/etc/microloan", "/etc/microloan-client", "/etc/nginx/sites-available/microloan")
 RECIPIENT = re.compile(r"age1[0-9a-z]{20,}")
 
 

@@ -1,8 +1,8 @@
 """Answers the messages of the front's log once more over a copy of an institution, and compares the statuses.
 
 A message is a mapping: `line` the request line, `status` what was answered then, `lost` whether no reply of the
-program's is known, `moment`, `who`, and `where` it stands. A lost one may have been carried out or not. What comes after it tells: the
-numbers that the program gives, and the receipts that it knows, depend on it.
+program's is known, `moment`, `who`, and `where` it stands. A lost one may have been carried out or not. What comes after
+it tells: the numbers that the program gives, and the receipts that it knows, depend on it.
 """
 import dataclasses
 import json
@@ -137,7 +137,8 @@ def replay(program, path, messages, count):
         other = messages[same]
         stopped = f"answered {other['status']} then and '{replies[same]}' now: {other['where']}"
     replies_of(program, path, messages[:same])
-    told += [f"their numbers may be swapped, since both came in one second: {pair}" for pair in swappable(messages[:same])]
+    pairs = swappable(messages[:same])
+    told += [f"their numbers may be swapped, since both came in one second: {pair}" for pair in pairs]
     if stopped:
         told.append(f"stopped after {same} of those that changed something: {stopped}")
     else:
