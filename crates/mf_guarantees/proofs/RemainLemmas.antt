@@ -32,7 +32,8 @@ remain_then R chain xs ys zs first next = λ i x h.
     (z.0, z.1, chain x y.0 z.0 y.2 z.2)
 
 -- one thing is changed
-numbered_at : {A : Type 0} (R : A → A → Type 0) → ((x : A) → R x x) → (n : ℕ) (change : A → A) → ((x : A) → R x (change x))
+numbered_at : {A : Type 0} (R : A → A → Type 0) → ((x : A) → R x x) → (n : ℕ) (change : A → A)
+    → ((x : A) → R x (change x))
     → (xs : List A) (i : ℕ) (x : A) → slice_get xs i ≡ Some x
     → (y : A) × (slice_get (with_numbered n change xs) i ≡ Some y) × R x y
 numbered_at R same n change becomes [] i x h = absurd (cc)

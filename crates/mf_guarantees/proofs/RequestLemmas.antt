@@ -286,7 +286,8 @@ office_changed i change x f (Ok (told, Some new)) there keeps h =
     let is : Rows_become x new ≡ change = cc in
     subst (λ (c : Change). AllRemains i (after c i)) is (rows_changed i x f new there keeps)
 
-in_an_office : (i : Institution) (change : Change) (x : ℕ) (act : Catalogue → Office → Result (Reply × Option Rows) Fault)
+in_an_office : (i : Institution) (change : Change) (x : ℕ)
+    (act : Catalogue → Office → Result (Reply × Option Rows) Fault)
     → ((f : Office) → AreKeptBy f.rows (act i.catalogue f)) → (found : Option Office) → office_at x i.offices ≡ found
     → change_in (in_office x act i.catalogue found) ≡ Some change → AllRemains i (after change i)
 in_an_office i change x act keeps None there h = absurd (cc)

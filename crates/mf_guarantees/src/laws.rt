@@ -67,8 +67,8 @@ pub fn tellers_only_enter_repayments()
         change_in (outcome call i) ≡ Some change → is_repayment call.request ≡ true }
 {}
 
-/// Only a manager gives money up, hands it back or takes an entry back: a waiver, a write-off, a refund or a reversal is
-/// accepted from nobody else.
+/// Only a manager gives money up, hands it back or takes an entry back: a waiver, a write-off, a refund or a reversal
+/// is accepted from nobody else.
 pub fn only_managers_concede()
     ensures { (caller : Caller) (sender : Staff) (call : Call) (i : Institution) (change : Change) →
         call.caller ≡ Some caller → staff_at i caller ≡ Some sender → is_concession call.request ≡ true →
