@@ -208,6 +208,27 @@ class Sheets(loans.Case):
         )
         self.assertEqual(read, [["F1", None]] * len(bad) + [[None, 1000000000000], [None, 705], [None, 150]])
 
+    def test_whole_or_not(self):
+        """A sheet that may be cut, or whose total is wrong, is not taken; a receipt that is a formula is refused."""
+        it = desk.Desk(lines=b"", people={"head": "1/1"})
+        self.addCleanup(it.end)
+        head = self.reader(it, "head")
+        lines = "R-1,0001-000001,2024-02-29,5\nR-2,0001-000001,2024-02-29,1234.50\n"
+        texts = [
+            lines, lines[:-5], lines[:-1], lines + "total,2,,1239.50", lines + "total,2,,1239.49", lines + "total,1,,1239.50",
+            lines + '"R-3', "=1,0001-000001,2024-02-29,5\n"
+        ]
+        read = head.module(
+            "const { readWholeSheet } = await load('views/round-sheet.js');"
+            f"return {texts!r}.map(readWholeSheet).map((read) => read.problem ?? read.lines.map((line) => line.result))"
+        )
+        cut, wrong = "The sheet ends in the middle of a line", "The sheet has 2 lines, of 1,239.50 in all"
+        self.assertEqual(read[0], [None, None])
+        self.assertTrue(read[1].startswith(cut) and read[2].startswith(cut) and read[6].startswith(cut), read)
+        self.assertEqual(read[3], [None, None])
+        self.assertTrue(read[4].startswith(wrong) and read[5].startswith(wrong), read)
+        self.assertEqual(read[7], ["formula"])
+
     def test_saved_sheet(self):
         """A round that is saved is a sheet of what is due."""
         with loans.desk_with(FORTY) as it, tempfile.TemporaryDirectory() as folder:

@@ -32,6 +32,9 @@ def setUpModule():
     unittest.addModuleCleanup(DESK.end)
 
 
+HEAD = b"receipt,loan,date,amount,result\n"
+
+
 def tool(name, *words, user="tom", password=None, at=None):
     """Runs a tool that asks at the front. Its status, its output, and what it says on standard error."""
     asked = [os.path.join(TOOLS, name), "--user", user, "--address", (at or DESK).url, *words]
@@ -56,7 +59,7 @@ def draw_sheet(count, loans):
         "amount": lambda place: draw.choice([b"1", b"0.5", b"2.05", b"007", b"1.00", b"0.01"]),
     }
     wrong = {
-        "receipt": b"|S-1|a b|" + b"x" * 41 + b'|\xc3\xa9|"S,1"|=cmd("a")|\xff\xfe|"a ""b"" c"',
+        "receipt": b"|S-1|a b|" + b"x" * 41 + b'|\xc3\xa9|"S,1"|\xff\xfe|"a ""b"" c"',
         "loan": b"|0021-000000|0021-999999|0031-000001|21-1|0021-1|00021-000001| 0021-000001 |0021-00000x",
         "date": b"|2026-02-30|2026-10-01|2020-01-01|30.09.2026|1999-12-31|2026-9-01|\t2026-09-30|2100-01-01",
         "amount": b"|0|-1|.5|1.|1.234|1,5|1e3|10000000000.01|99999999999| \"1\"|1_0|+1|123456789012",
@@ -70,7 +73,7 @@ def draw_sheet(count, loans):
         if draw.random() < 0.03:
             fields = fields[: draw.randint(1, 3)] if draw.random() < 0.5 else fields + [b"more", b'"and\nmore"']
         lines.append(b",".join(fields) + draw.choice([b"", b"", b"\r", b"\n", b"\r\n\r"]))
-    return b"\n".join(lines) + b'\n"a quote that stays open,1,2,3'
+    return b"\n".join(lines) + b"\n"
 
 
 def is_insert(statement):
@@ -108,6 +111,47 @@ class Sheets(unittest.TestCase):
             self.assertEqual(tool("microloan-collect", sheet, user="head", at=it), (0, wanted, ""))
             again = tool("microloan-collect", sheet, user="head", at=it)
             self.assertEqual(again, (0, wanted.replace(b"entered", b"repeated"), ""))
+
+    def test_of_a_sheet_that_may_be_cut_nothing_is_sent(self):
+        """An amount of 1,234.50 that is cut after its third digit is 123.00, and isn't entered."""
+        whole = b"C-1,0021-000001,2026-09-30,5\nC-2,0021-000001,2026-09-30,1234.50\n"
+        for cut in (whole[:-5], whole[:-1], whole + b'"C-3,0021-000001,2026-09-30,5\n'):
+            with self.subTest(cut):
+                status, shown, said = self.collect(cut, "tom")
+                self.assertEqual((status, shown), (1, b""))
+                self.assertIn("middle of a line", said)
+
+    def test_a_total_that_is_wrong(self):
+        lines = b"D-1,0021-000001,2026-09-30,5\nD-2,0021-000001,2026-09-30,1234.50\n"
+        for total in (b"total,1,,1239.50", b"total,2,,1239.49", b"total,2,x,1239.50", b"Total,2,1239.50"):
+            with self.subTest(total):
+                status, shown, said = self.collect(lines + total, "tom")
+                self.assertEqual((status, shown), (1, b""))
+                self.assertIn("it has 2 lines of 1239.50", said)
+
+    def test_a_total_that_is_right_needs_no_end(self):
+        lines = b"x,1,2,3\ny,1,2,4.5\n"
+        self.assertEqual(self.collect(lines + b"total,2,,7.50", "tom")[1], HEAD + b"x,1,2,3,F1\ny,1,2,4.5,F1\n")
+
+    def test_an_institution_that_asks_for_totals(self):
+        path = os.path.join(DESK.nginx.people, "institution.json")
+        with open(path, "w", encoding="utf-8") as file:
+            file.write('{"sheet_total":true}')
+        self.addCleanup(os.remove, path)
+        status, shown, said = self.collect(b"x,1,2,3\n", "tom")
+        self.assertEqual((status, shown), (1, b""))
+        self.assertIn("total,COUNT,,SUM", said)
+        self.assertEqual(self.collect(b"x,1,2,3\ntotal,1,,3\n", "tom")[0], 0)
+
+    def test_a_receipt_that_is_a_formula(self):
+        for receipt in (b"=cmd", b"+1", b"-2", b"@SUM(1)", b" =1", b'"=1"'):
+            with self.subTest(receipt):
+                sheet = b"E-1,0021-000001,2026-09-30,5\n" + receipt + b",0021-000001,2026-09-30,5\n"
+                status, shown, said = self.collect(sheet, "tom")
+                self.assertEqual((status, shown), (1, b""))
+                self.assertIn("receipt 2", said)
+        again = self.collect(b"E-1,0021-000001,2026-09-30,0\n", "tom")
+        self.assertEqual(again[0], 0)
 
     def test_a_sheet_that_is_too_large(self):
         self.assertEqual(self.collect(b"x" * 1048577, "tom"), (1, b"", "microloan-collect: F1\n"))

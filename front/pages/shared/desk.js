@@ -36,6 +36,15 @@ export function numberOf(account) {
     return Number(account.slice(5));
 }
 
+export function isReceipt(text) {
+    return /^[\u0021-\u007e]{1,40}$/.test(text);
+}
+
+// A spreadsheet that opens a sheet of results would compute it.
+export function isFormula(receipt) {
+    return /^[=+@-]/.test(receipt);
+}
+
 export function isAccount(text) {
     return /^\d{4}-\d{6}$/.test(text) && officeOf(text) > 0 && numberOf(text) > 0;
 }

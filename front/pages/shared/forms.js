@@ -2,6 +2,7 @@
 import {element, freshId} from "./elements.js";
 import {LEAST, MOST} from "./money.js";
 import {FIRST_DAY, LAST_DAY, isDay} from "./days.js";
+import {isFormula, isReceipt} from "./desk.js";
 import {readMoney, say, showCount, showDay, showMoney} from "./words.js";
 
 const MOST_LETTERS = 200;
@@ -127,8 +128,13 @@ export function numberChoiceField(options) {
 }
 
 export function receiptField({label, value}) {
-    const isReceipt = (text) => /^[\u0021-\u007e]{1,40}$/.test(text);
-    const judge = (text) => (isReceipt(text.trim()) ? {value: text.trim()} : {wrong: say("field.receipt.wrong")});
+    const judge = (text) => {
+        const receipt = text.trim();
+        if (isFormula(receipt)) {
+            return {wrong: say("field.receipt.formula")};
+        }
+        return isReceipt(receipt) ? {value: receipt} : {wrong: say("field.receipt.wrong")};
+    };
     return field({label, input: textInput({value}), hint: say("field.receipt.hint"), judge, wide: true});
 }
 

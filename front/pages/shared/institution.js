@@ -1,11 +1,13 @@
 // What the institution tells of itself, in a file of the front: its name; the coin that proposed amounts are rounded up
-// to; and the least that is asked for, both in cents. Without the file amounts are proposed as they are due.
+// to; the least that is asked for, both in cents; and whether a sheet must end in its total. Without the file amounts
+// are proposed as they are due.
 import {institutionFile} from "./api.js";
 
 export const institution = {
     name: "microloan",
     coin: 1n,
     leastDue: 1n,
+    asksTotal: false,
 };
 
 function centsOr(value, otherwise) {
@@ -19,6 +21,7 @@ export async function learnInstitution() {
     }
     institution.coin = centsOr(told.coin, institution.coin);
     institution.leastDue = centsOr(told.least_due, institution.leastDue);
+    institution.asksTotal = told.sheet_total === true;
 }
 
 // What is proposed where so much is due: rounded up to the coin, but not above what is left to pay.

@@ -1,19 +1,21 @@
 // Collection sheets: the repayments of a round or of a file are sent line by line, and what came of each is told.
 import {alertBox, button, card, element, fill, freshId} from "../shared/elements.js";
 import {Problem, repay} from "../shared/api.js";
-import {isAccount} from "../shared/desk.js";
-import {centsOfText, LEAST, MOST, textOfCents} from "../shared/money.js";
+import {isAccount, isFormula, isReceipt} from "../shared/desk.js";
+import {institution} from "../shared/institution.js";
+import {centsOfText, LEAST, MOST, sum, textOfCents} from "../shared/money.js";
 import {daysBetween, isDay} from "../shared/days.js";
 import {session} from "../shared/session.js";
 import {OLD_DAYS} from "../shared/repayments.js";
 import {ask} from "../shared/dialogs.js";
 import {reasonField} from "../shared/forms.js";
 import {inWords} from "../shared/refusals.js";
-import {say, sayCount, showCount, showDay} from "../shared/words.js";
+import {say, sayCount, showCount, showDay, showMoney} from "../shared/words.js";
 import {amount, day, row, table} from "../shared/tables.js";
 
 const NAMES = ["receipt", "loan", "date", "amount"];
 const MOST_BYTES = 1_048_576;
+const FORMULA = "formula";  // what comes of a line whose receipt a spreadsheet would take for a formula
 
 // The reason for lines that lie far back: "" where none does, or null where the reader thought better of it.
 export async function askForReason(lines) {
@@ -73,6 +75,9 @@ export function resultNode(result) {
     if (result === "entered" || result === "repeated") {
         return element("span", {class: "badge status-closed", "data-result": result}, say(`result.${result}`));
     }
+    if (result === FORMULA) {
+        return element("span", {class: "line-refusal", "data-result": result}, say("sheet.formula"));
+    }
     if (result === "lost") {
         return element("span", {class: "badge status-waiting", "data-result": result}, say("result.lost"));
     }
@@ -84,7 +89,7 @@ export function resultNode(result) {
 // how often lines came to what, in words
 export function tally(results) {
     const count = (name) => results.filter((result) => result === name).length;
-    const refused = results.filter((result) => /^F/.test(result ?? "")).length;
+    const refused = results.filter((result) => /^F\d|^formula$/.test(result ?? "")).length;
     const counts = {entered: count("entered"), repeated: count("repeated"), refused, lost: count("lost")};
     return Object.entries(counts)
         .filter(([, number]) => number > 0)
@@ -97,7 +102,9 @@ export function saveSheet(lines, name) {
     const isTyped = lines.some((line) => line.cents !== null);
     const rows = lines.filter((line) => (isTyped ? line.cents !== null : line.due > 0n))
                      .map((line) => [line.receipt, line.loan, line.day, textOfCents(line.cents ?? line.due)]);
-    saveText(`${d3.csvFormatRows([NAMES, ...rows])}\n`, `sheet-${name}.csv`);
+    const total = ["total", String(rows.length), "", textOfCents(sum(rows.map((fields) => centsOfText(fields[3]))))];
+    const all = institution.asksTotal ? [NAMES, ...rows, total] : [NAMES, ...rows];
+    saveText(`${d3.csvFormatRows(all)}\n`, `sheet-${name}.csv`);
 }
 
 function saveText(text, name) {
@@ -123,9 +130,30 @@ export function readSheet(text) {
 function lineOf(fields, written) {
     const [receipt, loan, date, money] = fields;
     const cents = centsOf(money ?? "");
-    const isGood = fields.length === 4 && /^[\u0021-\u007e]{1,40}$/.test(receipt) && isAccount(loan) && isDay(date) &&
-        cents !== null;
-    return {receipt, loan, day: date, cents, written, isGood, result: isGood ? null : "F1"};
+    const isRepayment = fields.length === 4 && isReceipt(receipt) && isAccount(loan) && isDay(date) && cents !== null;
+    const isGood = isRepayment && !isFormula(receipt);
+    const refusal = isRepayment ? FORMULA : "F1";
+    return {receipt, loan, day: date, cents, written, isGood, result: isGood ? null : refusal};
+}
+
+// The lines of a sheet that is whole, or what speaks against it. One that ends in the middle of a line may have been cut
+// there, in an amount say: it is taken where its last line has its end, or where a last line `total,COUNT,,SUM` tells how
+// many lines come before it and what they come to.
+export function readWholeSheet(text) {
+    const read = readSheet(text);
+    const [, count, none, money] = read.at(-1)?.written.map((field) => field.trim()) ?? [];
+    if (read.at(-1)?.written[0].trim().toLowerCase() === "total") {
+        const lines = read.slice(0, -1);
+        const cents = sum(lines.map((line) => line.cents ?? 0n));
+        const isRight = count === String(lines.length) && none === "" && centsOf(money ?? "") === cents;
+        const words = {count: showCount(lines.length), amount: showMoney(cents)};
+        return isRight ? {lines} : {problem: say("sheet.total-wrong", words)};
+    }
+    if (institution.asksTotal) {
+        return {problem: say("sheet.total-missing")};
+    }
+    const isWhole = (/[\n\r]$/.test(text) || text === "") && text.split('"').length % 2 === 1;
+    return isWhole ? {lines: read} : {problem: say("sheet.cut")};
 }
 
 function centsOf(text) {
@@ -134,7 +162,8 @@ function centsOf(text) {
 }
 
 function resultText(lines) {
-    const rows = lines.map((line) => [...NAMES.map((_, i) => line.written[i] ?? ""), line.result ?? ""]);
+    const harmless = (field) => (isFormula(field.trim()) ? `'${field}` : field);
+    const rows = lines.map((line) => [...NAMES.map((_, i) => harmless(line.written[i] ?? "")), line.result ?? ""]);
     return `${d3.csvFormatRows([[...NAMES, "result"], ...rows])}\n`;
 }
 
@@ -158,7 +187,11 @@ async function showFile(place, file) {
         fill(place, alertBox("danger", say("sheet.large")));
         return;
     }
-    const lines = readSheet(await file.text());
+    const {lines, problem} = readWholeSheet(await file.text());
+    if (problem) {
+        fill(place, alertBox("danger", problem));
+        return;
+    }
     if (lines.length === 0) {
         fill(place, alertBox("info", say("sheet.empty")));
         return;

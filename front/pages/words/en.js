@@ -140,6 +140,7 @@ export default {
     "field.name.hint": "1 to 100 characters. It can't be changed later.",
     "field.choice.wrong": "Choose one",
     "field.receipt.wrong": "1 to 40 letters, digits and signs, without a space or an accent",
+    "field.receipt.formula": "A receipt doesn't begin with = + - or @: a spreadsheet would take it for a formula",
     "field.receipt.hint": "No other repayment of the office may have this receipt. Keep the one proposed, or type " +
         "the number of your receipt book.",
     "field.reason.hint": "It goes into the log, with what is done.",
@@ -349,6 +350,14 @@ export default {
     "sheet.choose": "Choose a sheet",
     "sheet.large": "The sheet has more than 1,048,576 bytes. Send it in parts.",
     "sheet.empty": "The sheet has no line.",
+    "sheet.cut": "The sheet ends in the middle of a line, and may have been cut there. Nothing was sent: take it " +
+        "anew from where it was written.",
+    "sheet.total-wrong": "The sheet has {count} lines, of {amount} in all, and its total tells otherwise. Nothing " +
+        "was sent.",
+    "sheet.total-missing": "The sheet's last line is no total (total, count, nothing, sum), which the institution " +
+        "asks for. Nothing was sent.",
+    "sheet.formula": "The receipt begins with = + - or @, which a spreadsheet takes for a formula. Give it another " +
+        "one.",
     "sheet.found": "{count} lines, {good} of them can be sent",
     "sheet.save": "Save the results",
 

@@ -140,6 +140,7 @@ export default {
     "field.name.hint": "De 1 a 100 caracteres. No se puede cambiar después.",
     "field.choice.wrong": "Elija uno",
     "field.receipt.wrong": "De 1 a 40 letras, cifras y signos, sin espacio ni acento",
+    "field.receipt.formula": "Un recibo no empieza por = + - ni @: una hoja de cálculo lo tomaría por una fórmula",
     "field.receipt.hint": "Ningún otro pago de la oficina puede llevar este recibo. Deje el propuesto, o escriba el " +
         "número de su talonario.",
     "field.reason.hint": "Queda en el registro, junto con lo que se hace.",
@@ -354,6 +355,13 @@ export default {
     "sheet.choose": "Elegir una hoja",
     "sheet.large": "La hoja tiene más de 1.048.576 bytes. Envíela por partes.",
     "sheet.empty": "La hoja no tiene ninguna línea.",
+    "sheet.cut": "La hoja termina en medio de una línea y puede estar cortada. No se envió nada: tómela de nuevo de " +
+        "donde se escribió.",
+    "sheet.total-wrong": "La hoja tiene {count} líneas, de {amount} en total, y su total dice otra cosa. No se envió " +
+        "nada.",
+    "sheet.total-missing": "La última línea de la hoja no es un total (total, número, nada, suma), que la " +
+        "institución pide. No se envió nada.",
+    "sheet.formula": "El recibo empieza por = + - o @, que una hoja de cálculo toma por una fórmula. Dele otro.",
     "sheet.found": "{count} líneas, {good} de ellas se pueden enviar",
     "sheet.save": "Guardar los resultados",
 

@@ -140,6 +140,7 @@ export default {
     "field.name.hint": "1 à 100 caractères. Il ne pourra plus être modifié.",
     "field.choice.wrong": "Choisissez",
     "field.receipt.wrong": "1 à 40 lettres, chiffres et signes, sans espace ni accent",
+    "field.receipt.formula": "Un reçu ne commence pas par = + - ou @ : un tableur le prendrait pour une formule",
     "field.receipt.hint": "Aucun autre remboursement de l’agence ne doit porter ce reçu. Gardez celui qui est " +
         "proposé, ou écrivez le numéro de votre carnet de reçus.",
     "field.reason.hint": "Il est inscrit au journal, avec ce qui est fait.",
@@ -354,6 +355,13 @@ export default {
     "sheet.choose": "Choisir une feuille",
     "sheet.large": "La feuille a plus de 1 048 576 octets. Envoyez-la en plusieurs parties.",
     "sheet.empty": "La feuille n’a aucune ligne.",
+    "sheet.cut": "La feuille finit au milieu d’une ligne et a pu être coupée. Rien n’a été envoyé : reprenez-la là " +
+        "où elle a été écrite.",
+    "sheet.total-wrong": "La feuille a {count} lignes, de {amount} en tout, et son total dit autre chose. Rien n’a " +
+        "été envoyé.",
+    "sheet.total-missing": "La dernière ligne n’est pas un total (total, nombre, rien, somme), que l’institution " +
+        "demande. Rien n’a été envoyé.",
+    "sheet.formula": "Le reçu commence par = + - ou @, qu’un tableur prend pour une formule. Donnez-lui-en un autre.",
     "sheet.found": "{count} lignes, dont {good} peuvent être envoyées",
     "sheet.save": "Enregistrer les résultats",
 

@@ -140,6 +140,7 @@ export default {
     "field.name.hint": "Herufi 1 hadi 100. Haliwezi kubadilishwa baadaye.",
     "field.choice.wrong": "Chagua moja",
     "field.receipt.wrong": "Herufi, tarakimu na alama 1 hadi 40, bila nafasi wala lafudhi",
+    "field.receipt.formula": "Risiti haianzi kwa = + - wala @: programu ya hesabu ingeiona kuwa fomula",
     "field.receipt.hint": "Rejesho jingine la ofisi lisiwe na risiti hii. Acha iliyopendekezwa, au andika namba ya " +
         "kitabu chako cha risiti.",
     "field.reason.hint": "Inawekwa kwenye kumbukumbu pamoja na kinachofanyika.",
@@ -352,6 +353,13 @@ export default {
     "sheet.choose": "Chagua karatasi",
     "sheet.large": "Karatasi ina zaidi ya baiti 1,048,576. Itume kwa sehemu.",
     "sheet.empty": "Karatasi haina mstari.",
+    "sheet.cut": "Karatasi inaishia katikati ya mstari, huenda ilikatwa. Hakuna kilichotumwa: ichukue upya mahali " +
+        "ilipoandikwa.",
+    "sheet.total-wrong": "Karatasi ina mistari {count}, ya {amount} kwa jumla, na jumla yake inasema tofauti. Hakuna " +
+        "kilichotumwa.",
+    "sheet.total-missing": "Mstari wa mwisho si jumla (total, idadi, tupu, jumla), ambayo taasisi inataka. Hakuna " +
+        "kilichotumwa.",
+    "sheet.formula": "Risiti inaanza kwa = + - au @, ambayo programu ya hesabu huiona kuwa fomula. Ipe nyingine.",
     "sheet.found": "Mistari {count}, {good} kati yake inaweza kutumwa",
     "sheet.save": "Hifadhi matokeo",
 
