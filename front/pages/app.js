@@ -9,30 +9,16 @@ import {refusalLine, showRefusal} from "./shared/refusals.js";
 import {officeNamed, offices} from "./shared/desk.js";
 import {ownActs} from "./shared/person.js";
 import {LANGUAGES, chooseLanguage, language, locale, say, showDay} from "./shared/words.js";
-import {today} from "./views/today.js";
-import {clients} from "./views/clients.js";
-import {client} from "./views/client.js";
-import {loans} from "./views/loans.js";
-import {loan} from "./views/loan.js";
-import {statement} from "./views/statement.js";
-import {round} from "./views/round.js";
-import {arrears} from "./views/arrears.js";
-import {catalogue} from "./views/catalogue.js";
-import {people} from "./views/people.js";
 
-const PAGES = {
-    today,
-    clients,
-    client,
-    loans,
-    loan,
-    statement,
-    round,
-    arrears,
-    catalogue,
-    people
-};
-const WAYS = [["today"], ["clients", "client"], ["loans", "loan"], ["round"], ["arrears"], ["catalogue"], ["people"]];
+// each in a file of views/ of its name, loaded once it is shown
+const PAGES = [
+    "today", "clients", "client", "loans", "loan", "waivers", "statement", "round", "arrears", "penalties", "catalogue",
+    "people"
+];
+const WAYS = [
+    ["today"], ["clients", "client"], ["loans", "loan", "waivers"], ["round"], ["arrears", "penalties"], ["catalogue"],
+    ["people"]
+];
 const ROLES = {
     [TELLER]: "teller",
     [OFFICER]: "officer",
@@ -45,7 +31,15 @@ const main = element("main", {id: "main", class: "container-xl py-3 py-md-4", ta
 // #/loan/0005-000001 names the page loan, and hands it the rest
 function place() {
     const [name, ...rest] = location.hash.replace(/^#\/?/, "").split("/");
-    return {name: name in PAGES ? name : "today", rest: rest.map(decodeURIComponent)};
+    return {name: PAGES.includes(name) ? name : "today", rest: rest.map(decodeURIComponent)};
+}
+
+async function load(name) {
+    try {
+        return (await import(`./views/${name}.js`))[name];
+    } catch (problem) {
+        throw problem instanceof TypeError ? new Problem({}) : problem;  // no reply came
+    }
 }
 
 let shown = null;
@@ -60,7 +54,7 @@ async function showPage() {
     const isFirst = shown === null;
     shown = page;
     try {
-        await PAGES[name](page, ...rest);
+        await (await load(name))(page, ...rest);
     } catch (problem) {
         if (shown === page) {
             showRefusal(page, problem, showPage);
@@ -178,7 +172,7 @@ async function begin() {
     document.documentElement.lang = language;
     fill(desk, element("div", {class: "container py-5"}, spinner(say("loading"))));
     try {
-        await Promise.all([learnInstitution(), beginSession()]);
+        await Promise.all([learnInstitution(), beginSession(), load(place().name)]);
         const own = await officeNamed(session.office);
         const printed = element("div", {class: "institution d-none d-print-block"}, institution.name);
         fill(desk, skipLink(), topBar(own?.name ?? ""), unsent, printed, main);

@@ -20,6 +20,8 @@ PLACES = (
     "round/21",
     "arrears",
     "arrears/21",
+    "waivers/0021-000028",
+    "penalties/21",
     "catalogue",
     "people",
 )
@@ -29,6 +31,7 @@ OFFICER = {
     "clients/21": {"New client"},
     "client/0021-000003": {"New loan"},
     "loan/0021-000028": TELLER["loan/0021-000028"] | {"Enter a fee", "Enter a penalty"},
+    "arrears/21": {"Enter penalties"},
 }
 MANAGER = OFFICER | {
     "loan/0021-000028": OFFICER["loan/0021-000028"] | {"Waive", "Write off"},
@@ -41,6 +44,7 @@ HEAD_OFFICE = MANAGER | {
 }
 MAY = {"tom": TELLER, "zoe": OFFICER, "paulo": MANAGER, "ruth": MANAGER, "amina": HEAD_OFFICE}
 ALWAYS = {"statement/0021-000028": {"Print"}, "round/21": {"Print", "Save as a sheet"}, "arrears": {"Print"}}
+REFUSED = {"waivers/0021-000028": ("tom", "zoe"), "penalties/21": ("tom",)}  # pages that a role doesn't have
 ROLES = {"tom": "Teller", "zoe": "Loan officer", "paulo": "Manager", "ruth": "Manager", "amina": "Head office"}
 
 # the texts that have too little contrast with what lies behind them (WCAG 2.1 AA: 4.5, and 3 where they are large)
@@ -78,6 +82,15 @@ return [...document.querySelectorAll('input, select, button, a[href]')].filter((
 }).map((node) => node.outerHTML.slice(0, 120));
 """
 
+# what is smaller than a finger
+SMALL = """
+return [...document.querySelectorAll('a[href], button, input, select')].filter((node) => {
+    const box = (node.type === 'checkbox' ? node.closest('label') : node).getBoundingClientRect();
+    const isSeen = box.width > 1 && !node.closest('.visually-hidden, .skip-link');
+    return isSeen && (box.height < 43.9 || box.width < 43.9);
+}).map((node) => node.outerHTML.slice(0, 120));
+"""
+
 # all that the page has loaded
 LOADED = "return performance.getEntriesByType('resource').map((one) => one.name)"
 
@@ -94,6 +107,9 @@ class EachPage(unittest.TestCase):
     def look(self, it, name, place):
         """What may be done there, and what a screen reader is told."""
         allowed = MAY[name].get(place, set()) | ALWAYS.get(place, set())
+        if name in REFUSED.get(place, ()):
+            self.assertIn("Your role does not allow this.", it.text("main"))
+            return
         self.assertTrue(it.title())
         self.assertEqual(it.actions(), allowed)
         self.assertEqual(it.script(NAMELESS), [])
@@ -135,6 +151,102 @@ class EachPage(unittest.TestCase):
 
     def test_teller(self):
         self.look_at_all("tom")
+
+
+class EachEye(unittest.TestCase):
+    """Colours of the dark, targets of a finger's size, and twice the size of everything."""
+
+    def test_dark(self):
+        """By the system's wish; a statement stays as the paper that it is printed on."""
+        with reader.Reader(DESK, "amina") as it:
+            it.wish("dark")
+            for place in PLACES:
+                with self.subTest(place):
+                    it.go(place)
+                    self.assertEqual(it.script(CONTRAST), [])
+                    light = "return getComputedStyle(document.querySelector(arguments[0])).backgroundColor"
+                    self.assertEqual(it.script(light, "body"), "rgb(18, 24, 28)")
+                    if place.startswith("statement"):
+                        self.assertEqual(it.script(light, ".sheet"), "rgb(255, 255, 255)")
+            it.go("people")
+            it.open_dialog("New office")
+            self.assertEqual(it.script(CONTRAST), [])
+            it.cancel()
+
+    def test_a_finger(self):
+        """On a phone what is pressed is 44 pixels wide and high at least, in the menu and in a dialog too."""
+        with reader.Reader(DESK, "amina", width=360, height=740) as it:
+            for place in PLACES:
+                with self.subTest(place):
+                    it.go(place)
+                    self.assertEqual(it.script(SMALL), [])
+            it.all(".navbar-toggler")[0].click()
+            it.wait(lambda: it.all("#menu.show"), "the menu")
+            self.assertEqual(it.script(SMALL), [])
+            it.go("people")
+            it.open_dialog("New office")
+            self.assertEqual(it.script(SMALL), [])
+            it.cancel()
+
+    def test_twice_the_size(self):
+        """1280 columns at 200 percent are 640: no page is wider."""
+        with reader.Reader(DESK, "amina", width=640, height=400) as it:
+            for place in PLACES:
+                with self.subTest(place):
+                    it.go(place)
+                    fits = "return document.documentElement.scrollWidth <= 640"
+                    it.wait(lambda: it.script(fits), "a page of 640 columns")
+
+
+class Weight(unittest.TestCase):
+    """What a browser loads: bytes over the line, and requests that go out."""
+
+    SENT = (
+        "return performance.getEntriesByType('navigation').concat(performance.getEntriesByType('resource'))"
+        ".filter((one) => one.transferSize > 0).map((one) => [one.name, one.transferSize, one.startTime])"
+    )
+
+    def test_first_and_second_opening(self):
+        """A first opening takes 200 kB at most, a second one three requests before the desk's own."""
+        with desk.Desk() as other, reader.Reader(other, "tom") as it:
+            it.go("today")
+            it.wait(lambda: it.script("return typeof Chart") == "function", "the graph")
+            first = it.script(self.SENT)
+            self.assertGreater(len(first), 20)
+            taken = sum(size for _, size, _ in first)
+            self.assertLessEqual(taken, 200_000)
+            self.assertEqual([name.split("/")[-1] for name, _, _ in first if "/words/" in name], ["en.js"])
+            it.reload()
+            second = it.script(self.SENT)
+            asked = min(start for name, _, start in second if "/api/" in name)
+            before = [name for name, _, start in second if start < asked]
+            self.assertLessEqual(len(before), 3, before)
+            print(f"    {taken} bytes, then {len(before)} requests", end=" ")
+
+    def test_chart_only_where_a_graph_is(self):
+        with reader.Reader(DESK, "tom") as it:
+            it.go("round/21")
+            it.reload()
+            self.assertEqual([name for name in it.script(LOADED) if "chart" in name], [])
+            it.go("arrears")
+            it.wait(lambda: [name for name in it.script(LOADED) if "chart" in name], "the library of graphs")
+            it.wait(lambda: it.script("return Chart.getChart(document.querySelector('canvas')) !== undefined"), "it")
+
+    def test_shared_modules_are_told_ahead(self):
+        """index.html names each, so that none waits for the one that imports it."""
+        pages = os.path.join(running.FRONT, "pages")
+        with open(os.path.join(pages, "index.html"), encoding="utf-8") as file:
+            named = re.findall(r'rel="modulepreload" href="/([^"]+)"', file.read())
+        self.assertEqual(named, [f"shared/{name}" for name in sorted(os.listdir(os.path.join(pages, "shared")))])
+
+    def test_pages_stay_small(self):
+        pages = os.path.join(running.FRONT, "pages")
+        lines = 0
+        for part in ("shared", "views"):
+            for name in os.listdir(os.path.join(pages, part)):
+                with open(os.path.join(pages, part, name), encoding="utf-8") as file:
+                    lines += len(file.readlines())
+        self.assertLessEqual(lines, 5000)
 
 
 class Languages(unittest.TestCase):

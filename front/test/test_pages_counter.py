@@ -223,6 +223,83 @@ class SharedRounds(loans.Case):
             self.assertEqual([one["collector"] for one in bodies], ["2/2", "2/1"])
 
 
+class RoundWork(loans.Case):
+    """The round as work: found, ordered, typed line by line, on a phone too."""
+
+    def shown(self, who):
+        rows = "return [...document.querySelectorAll('.round-lines tbody tr:not([hidden])')].map((one) => one.cells[1].innerText)"
+        return who.script(rows)
+
+    def test_found_and_ordered(self):
+        lines = rounds.FORTY.replace(b'"name":"Client 7"', b'"name":"Zo\xc3\xa9"') + (
+            b'2/3 POST /loans/0002-000009/repayments {"amount":34333,"day":"2024-03-31"}\n'
+        )
+        with loans.desk_with(lines) as it:
+            tom = self.reader(it, "tom")
+            tom.go(ROUND)
+            find = tom.field("Find by name or loan", "main")
+            tom.all(".paid-field")[0].send_keys("5")
+            find.send_keys("zoe")
+            self.assertEqual(self.shown(tom), ["Client 1", "Zoé"], "what was typed stays in sight")
+            find.clear()
+            find.send_keys("000040")
+            tom.wait(lambda: self.shown(tom) == ["Client 1", "Client 40"], "the loan")
+            find.clear()
+            find.send_keys(" ")
+            tom.fill("Order", "by name", within="main")
+            self.assertEqual(self.shown(tom)[-1], "Zoé")
+            tom.fill("Order", "longest overdue first", within="main")
+            self.assertEqual(self.shown(tom)[-1], "Client 9")  # due since Mar 31, all others since Feb 29
+
+    def test_from_amount_to_amount(self):
+        """Enter leads on, and from the last amount to what enters them; sum and button are in sight all the time."""
+        with loans.desk_with(rounds.FORTY) as it:
+            for width, height in ((1280, 800), (360, 740)):
+                with self.subTest(width):
+                    tom = self.reader(it, "tom", width=width, height=height)
+                    tom.go(ROUND)
+                    tom.all(".paid-field")[0].click()
+                    for _ in range(rounds.COUNT):
+                        tom.driver.switch_to.active_element.send_keys("1", Keys.ENTER)
+                    self.assertEqual(tom.driver.switch_to.active_element.text, "Enter 40 repayments")
+                    self.assertIn("typed in 40.00", tom.text(".round-end"))
+                    for place in ("0", "document.documentElement.scrollHeight / 2"):
+                        tom.script(f"window.scrollTo(0, {place})")
+                        box = tom.script("return document.querySelector('.round-enter').getBoundingClientRect().bottom")
+                        self.assertLessEqual(box, height)
+                    tom.open_dialog("Throw away")
+                    tom.send("Throw away")
+
+    def test_a_line_on_a_phone(self):
+        """At most 130 pixels a line, before it is entered and after it."""
+        heights = "return [...document.querySelectorAll('.round-lines tbody tr')].map((one) => one.offsetHeight)"
+        with loans.desk_with(rounds.FORTY) as it:
+            tom = self.reader(it, "tom", width=360, height=740)
+            tom.go(ROUND)
+            self.assertLessEqual(max(tom.script(heights)), 130)
+            tom.press("Fill in what is due")
+            tom.press("Enter 40 repayments")
+            tom.wait(lambda: len(tom.all("[data-result=entered]")) == rounds.COUNT, "the results")
+            self.assertLessEqual(max(tom.script(heights)), 130)
+
+    def test_not_paid(self):
+        """Why nothing was paid is kept, takes the place of an amount, and is nothing that waits to be sent."""
+        with loans.desk_with(rounds.FORTY) as it:
+            tom = self.reader(it, "tom")
+            tom.go(ROUND)
+            why = tom.all(".why-field")
+            tom.all(".paid-field")[0].send_keys("5")
+            why[0].send_keys("promised")
+            tom.wait(lambda: tom.all(".paid-field")[0].get_attribute("value") == "", "the end of the amount")
+            self.assertEqual(tom.text(".unsent"), "")
+            tom.reload()
+            self.assertEqual(tom.all(".why-field")[0].get_attribute("value"), "promised")
+            tom.press("Fill in what is due")
+            tom.wait(lambda: "Enter 39 repayments" in tom.text(".round-end"), "the others")
+            tom.all(".paid-field")[0].send_keys("5")
+            self.assertEqual(tom.all(".why-field")[0].get_attribute("value"), "")
+
+
 class Unsent(loans.Case):
     BAR = "Round of Mar 31, 2024, North: 2 lines, 30.00 not sent"
 

@@ -327,26 +327,34 @@ class Corrections(Case):
             ruth.send("Enter a fee")
             ruth.open_dialog("Enter a penalty")
             ruth.send("Enter a penalty")
-            ruth.open_dialog("Waive")
-            choices = [one.text for one in ruth.all(".modal option")]
+            ruth.press("Waive")
+            ruth.wait(lambda: ruth.title() == "Waive on loan 0002-000001", "the page")
+            ruth.settle()
+            choices = [
+                (row["Instalment"], row["Portion"], row["Left to pay"])
+                for row in ruth.table("Waive on loan 0002-000001")
+            ]
             self.assertEqual(
                 choices,
                 [
-                    "instalment 1 · penalties 34.33",
-                    "instalment 1 · interest 10.00",
-                    "instalment 2 · interest 6.67",
-                    "instalment 3 · fees 5.00",
-                    "instalment 3 · interest 3.33",
+                    ("1", "penalties", "34.33"),
+                    ("1", "interest", "10.00"),
+                    ("2", "interest", "6.67"),
+                    ("3", "fees", "5.00"),
+                    ("3", "interest", "3.33"),
                 ],
             )
-            ruth.fill("What is waived", "instalment 1 · penalties 34.33")
-            ruth.fill("Reason", "a flood")
-            ruth.send("Waive")
+            self.assertFalse(ruth.all("main button[disabled]") == [])  # nothing is chosen yet
+            ruth.press("Penalties")
+            ruth.fill("Reason", "a flood", within="main")
+            ruth.press("Waive 1 line")
+            ruth.wait(lambda: ruth.all("[data-result=entered]"), "the result")
             told = it.send("ruth", "GET", "/api/loans/0002-000001/entries")[1]["entries"]
             self.assertEqual(
                 [(one["kind"], one["amount"], one["instalment"], one["portion"]) for one in told],
                 [("fee", 500, 3, None), ("penalty", 3433, 1, None), ("waiver", 3433, 1, "penalties")],
             )
+            ruth.go(LOAN)
             self.assertEqual(ruth.figures()["Left to pay"], "1,025.00")
             self.assertEqual(ruth.errors(), [])
 

@@ -1,14 +1,23 @@
 // Graphs by Chart.js. The same figures always stand in a table too.
+import {Problem} from "./api.js";
 import {element} from "./elements.js";
 import {dayOfNumber, numberOfDay} from "./days.js";
 import {locale, say, showDay, showMoney} from "./words.js";
+
+const IS_DARK = matchMedia("screen and (prefers-color-scheme: dark)").matches;
 
 export const CLASS_COLOURS = {
     none: "#3d8f8a",
     c1_30: "#e3b23c",
     c31_60: "#e07a3f",
-    c61_90: "#c4424f",
-    over_90: "#7a1f3d"
+    c61_90: IS_DARK ? "#dc5a67" : "#c4424f",
+    over_90: IS_DARK ? "#b9609b" : "#7a1f3d"
+};
+const LINE_COLOURS = IS_DARK ? {planned: "#9aa7b3", real: "#6fd0c8"} : {planned: "#6b7785", real: "#0b6e69"};
+
+const DARK = {
+    color: "#c3cdd4",
+    borderColor: "#3a464e"
 };
 
 // Chart.js takes floating-point numbers: they draw a bar or a line, and every figure in words comes from the cents
@@ -22,10 +31,27 @@ function canvasFor(words) {
     return {canvas, node: element("div", {class: "graph"}, canvas)};
 }
 
-// Chart.js measures the place where it draws, so a graph is drawn once it stands in the page.
-function drawn(canvas, settings) {
+let loading = null;
+
+// Chart.js is larger than all pages: it is loaded once a graph is to be drawn.
+function loadChart() {
+    loading ??= new Promise((done, failed) => {
+        const onerror = () => {
+            loading = null;
+            failed(new Problem({}));
+        };
+        document.head.append(element("script", {src: "/lib/chart/chart.min.js", onload: done, onerror}));
+    });
+    return loading;
+}
+
+// Chart.js measures the place where it draws, so a graph is drawn once it stands in the page. Where it can't be loaded
+// the table beside it has the same figures.
+async function drawn(canvas, settings) {
+    await loadChart();
     requestAnimationFrame(() => {
         if (canvas.isConnected) {
+            Object.assign(Chart.defaults, IS_DARK ? DARK : {});
             new Chart(
                 canvas,
                 {...settings, options: {locale, maintainAspectRatio: false, animation: false, ...settings.options}});
@@ -86,8 +112,10 @@ export function balanceSteps({planned, real, words}) {
     drawn(canvas, {
         type: "line",
         data: {
-            datasets:
-                [line(say("graph.planned"), planned, "#6b7785", [5, 4]), line(say("graph.real"), real, "#0b6e69", [])]
+            datasets: [
+                line(say("graph.planned"), planned, LINE_COLOURS.planned, [5, 4]),
+                line(say("graph.real"), real, LINE_COLOURS.real, [])
+            ]
         },
         options: {
             scales: {

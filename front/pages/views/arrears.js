@@ -1,7 +1,7 @@
 // Arrears: the report as a table and as a graph, and an office's overdue loans.
 import {card, element, emptyState, fill, link, spinner, button} from "../shared/elements.js";
 import {read} from "../shared/api.js";
-import {renewDay, session} from "../shared/session.js";
+import {may, OFFICER, renewDay, session} from "../shared/session.js";
 import {
     ACTIVE,
     asTree,
@@ -89,8 +89,10 @@ async function officeArrears(page, office, report) {
     const line = report.offices.find((one) => one.office === office.number);
     const place = element("div", {}, spinner(say("loading")));
     const title = say("arrears.office", {office: `${office.number} ${office.name}`});
+    const penalties = link(`#/penalties/${office.number}`, say("penalties.way"), {class: "btn btn-outline-primary"});
     fill(
-        page, pageHead({title, trail: [[say("way.arrears"), "#/arrears"]]}),
+        page,
+        pageHead({title, trail: [[say("way.arrears"), "#/arrears"]], actions: may(OFFICER) ? [penalties] : []}),
         line && card(null, table({
                                caption: title,
                                rows: [row([{head: `${office.number} ${office.name}`}, ...lineCells(line)])],

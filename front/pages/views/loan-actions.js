@@ -227,24 +227,8 @@ function instalmentChoice(instalments) {
     });
 }
 
-async function enterWaiver(told, again) {
-    const choices = told.instalments.flatMap(
-        (one) => Object.entries(desk.outstandingPortions(one, told.entries))
-                     .filter(([portion, cents]) => portion !== "principal" && cents > 0n)
-                     .map(([portion, cents]) => [`${one.number} ${portion}`, `${say("instalment.of", {
-                                                     number: one.number
-                                                 })} · ${say(`portion.${portion}`)} ${showMoney(cents)}`]));
-    if (choices.length === 0) {
-        note(say("do.waiver.none"));
-        return;
-    }
-    const fields = {what: choiceField({label: say("do.waiver.choose"), choices, wide: true}), reason: reasonField()};
-    const send = keptWriting(({what, reason}) => {
-        const [instalment, portion] = [Number(what.split(" ")[0]), what.split(" ")[1]];
-        const isSame = (entry) => entry.instalment === instalment && entry.portion === portion;
-        return entryWriting(told, {path: "waivers", kind: "waiver", body: {instalment, portion, reason}, isSame});
-    });
-    await carryOut({name: "waiver", told, again, fields, send});
+function enterWaiver(told) {
+    location.hash = `#/waivers/${told.loan}`;
 }
 
 function enterWriteOff(told, again) {
