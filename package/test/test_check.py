@@ -70,17 +70,25 @@ class Check(roots.ServedDesk):
         self.assertEqual(self.ask("GET", "/api/business-day")[0], 200)
 
     def test_a_program_that_does_not_answer_is_started_again(self):
-        """It stands still, and the lock of a backup that never ends keeps the check from having it go on."""
+        """What leads to it hangs; both are started again."""
         before = self.shown("MainPID")["MainPID"]
         client = self.enter("Before it hung")
-        self.root.start("flock /var/lib/microloan sleep 100")
-        self.root.run("systemctl kill --signal=STOP --kill-who=main microloan")
+        self.root.run("systemctl kill --signal=STOP --kill-who=main microloan-port")
         self.watch()
         self.assertIn("didn't answer for a minute, and is started again", self.told())
         self.wait_until(lambda: self.shown("ActiveState", "MainPID")["MainPID"] not in (before, "0"))
         self.wait_until(lambda: self.shown("ActiveState")["ActiveState"] == "active")
         self.assertEqual(self.name_of(client), "Before it hung")
-        self.root.run("kill $(pidof flock sleep); true")
+
+    def test_a_program_that_a_backup_has_stand_still_is_left(self):
+        """The folder is locked, as by a backup that copies a large file."""
+        self.root.start("flock /var/lib/microloan sleep 30")
+        self.root.run("systemctl kill --signal=STOP --kill-who=main microloan")
+        before = self.shown("MainPID", "NRestarts")
+        self.watch()
+        self.assertEqual(self.shown("MainPID", "NRestarts"), before)
+        self.assertNotIn("go on", self.told())
+        self.root.run("systemctl kill --signal=CONT --kill-who=main microloan")
 
     def test_a_file_that_is_removed_or_replaced_is_told_within_a_minute(self):
         for spoil in (f"rm {FILE}-wal", f"cp {FILE} {FILE}.new; mv {FILE}.new {FILE}", f"ln {FILE} {FILE}.second"):

@@ -13,6 +13,7 @@ import select
 import shutil
 import signal
 import sqlite3
+import stat
 import struct
 import subprocess
 import sys
@@ -175,6 +176,14 @@ def end_of_child(child, failed=None):
     if status not in (0, DIFFERS):
         raise Failed(f"the child that works as the owner ended: {status}")
     return status == 0
+
+
+def require_own(path):
+    """What root runs is root's alone to write."""
+    for name in (path, os.path.dirname(path)):
+        found = os.stat(name)
+        if found.st_uid != 0 or found.st_mode & (stat.S_IWGRP | stat.S_IWOTH):
+            raise Failed(f"{name} can be written by others than root, and isn't run")
 
 
 def sweep(folder, *beginnings):

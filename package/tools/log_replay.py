@@ -1,8 +1,9 @@
 """Answers the messages of the front's log once more over a copy of an institution, and compares the statuses.
 
 A message is a mapping: `line` the request line, `status` what was answered then, `lost` whether no reply of the
-program's is known, `moment`, `who`, and `where` it stands. A lost one may have been carried out or not. What comes after
-it tells: the numbers that the program gives, and the receipts that it knows, depend on it.
+program's is known or that was F20, `given_up` whether it was F20, `moment`, `who`, and `where` it stands. A lost one may
+have been carried out or not. What comes after it tells: the numbers that the program gives, and the receipts that it
+knows, depend on it. F20 says that it wasn't, but the disk may have kept the one commit whose fault has shut the program.
 """
 import dataclasses
 import json
@@ -16,6 +17,13 @@ sys.path += [os.path.join(HERE, *up, "audit") for up in (("..", ".."), ("..",), 
 import day
 import institution_files as files
 import log_place
+
+
+MOST_TRIED = 4  # of lost messages that come together
+
+
+class Untold(Exception):
+    """Where a lost message stands of which nothing tells whether it was carried out."""
 
 
 @dataclasses.dataclass
@@ -38,6 +46,7 @@ def messages_of(lines, log):
             message |= {"file": log, "line": f"{number} after the backup"}
             told = {"line": day.line_of(message), "status": message["status"], "lost": day.is_lost(message)}
             told |= {"moment": message["time"], "who": message["user"], "where": day.place_of(message)}
+            told["given_up"] = str(message["upstream"]) == "503"
             messages.append(told)
     return messages, count
 
@@ -98,33 +107,53 @@ def swappable(messages):
     return pairs
 
 
-def settle(program, path, messages, number):
-    """Whether the lost message of this number was carried out; nothing where what comes after it doesn't tell."""
-    without = messages[:number] + [other for other in messages[number + 1 :] if not other["lost"]]
-    within = messages[: number + 1] + without[number:]
-    reached = agreeing(without, replies_over_a_copy(program, path, without)) - number
-    reached_within = agreeing(within, replies_over_a_copy(program, path, within)) - number - 1
-    return None if reached == reached_within else reached_within > reached
+def run_of_lost(messages, number):
+    """How many messages from one on are lost, one after the other."""
+    return next((at for at, message in enumerate(messages[number:]) if not message["lost"]), len(messages) - number)
+
+
+def settle(program, path, messages, number, count):
+    """Which of some lost messages was carried out; None for none of them. Where what follows doesn't tell, it is Untold.
+
+    The program answers one message after the other: of those that were lost together at most one was in hand.
+    """
+    rest = [message for message in messages[number + count :] if not message["lost"]]
+
+    def reached(one):
+        trial = messages[:number] + one + rest
+        return agreeing(trial, replies_over_a_copy(program, path, trial)) - number - len(one)
+
+    without = reached([])
+    within = {at: reached([messages[at]]) for at in range(number, number + min(count, MOST_TRIED))}
+    best = max(within.values())
+    if best > without:
+        return next(at for at, found in within.items() if found == best)
+    numbers = [numbers_of(message) for message in rest]
+    for at, found in within.items():
+        if found == without and not messages[at]["given_up"] and numbers_of(messages[at]) in numbers:
+            raise Untold(messages[at]["where"])
+    return None
 
 
 def settled(program, path, messages):
     """The messages that are to be answered, what is told of the lost ones, and where it has to stop, if anywhere."""
     told, number = [], 0
     while number < len(messages):
-        message = messages[number]
-        if not message["lost"]:
+        count = run_of_lost(messages, number)
+        if count == 0:
             number += 1
             continue
-        carried_out = settle(program, path, messages, number)
-        others = [numbers_of(later) for later in messages[number + 1 :]]
-        if carried_out is None and numbers_of(message) in others:
+        try:
+            carried_out = settle(program, path, messages, number, count)
+        except Untold as where:
             reason = "its reply was lost, and what comes after it doesn't tell whether it was carried out"
-            return messages[:number], told, f"{reason}: {message['where']}"
-        told.append(f"its reply was lost; it was {'carried out' if carried_out else 'left out'}: {message['where']}")
-        if carried_out:
-            number += 1
-        else:
-            messages = messages[:number] + messages[number + 1 :]
+            return messages[:number], told, f"{reason}: {where}"
+        for at in range(number, number + count):
+            done = "carried out" if at == carried_out else "left out"
+            told.append(f"its reply was lost; it was {done}: {messages[at]['where']}")
+        kept = [] if carried_out is None else [messages[carried_out]]
+        messages = messages[:number] + kept + messages[number + count :]
+        number += len(kept)
     return messages, told, None
 
 
