@@ -205,14 +205,20 @@ class Desk:
         """A browser in which the person is signed in, at the first page, its content so many columns wide."""
         driver = new_browser(width, height, language)
         self.drivers.append(driver)
-        if name is not None and self.sign_in:
-            driver.get(self.url + "/sign-in.html")
-            driver.add_cookie({"name": "desk", "value": self.new_session(name, password), "path": "/", "httpOnly": True})
-        elif name is not None:
-            # The password in the address signs in. A page whose address has one can't ask for anything: go on without.
-            driver.get(f"http://{name}:{password_of(name, password)}@127.0.0.1:{self.nginx.port}/me")
+        if name is not None:
+            self.let_in(driver, name, password)
         driver.get(self.url + "/")
         return driver
+
+    def let_in(self, driver, name, password=None):
+        """Signs a person in, in a browser where nobody is."""
+        if self.sign_in:
+            driver.get(self.url + "/sign-in.html")
+            driver.delete_all_cookies()
+            driver.add_cookie({"name": "desk", "value": self.new_session(name, password), "path": "/", "httpOnly": True})
+        else:
+            # The password in the address signs in. A page whose address has one can't ask for anything: go on without.
+            driver.get(f"http://{name}:{password_of(name, password)}@127.0.0.1:{self.nginx.port}/me")
 
     def close(self, driver):
         """Ends a browser before the desk ends."""
