@@ -148,9 +148,10 @@ class SignIn:
             time.sleep(0.05)
 
     def stop(self):
-        for process in self.processes.values():
+        """The engine would wait a minute for the connections that nginx keeps. All that it holds is in files."""
+        for name, process in self.processes.items():
             with contextlib.suppress(ProcessLookupError):
-                process.terminate()
+                os.killpg(process.pid, signal.SIGKILL if name == "engine" else signal.SIGTERM)
             process.wait()
         self.processes = {}
 

@@ -7,7 +7,7 @@ import {adoptOlder, unsentLines, whenDraftsChange} from "./shared/drafts.js";
 import {institution, learnInstitution} from "./shared/institution.js";
 import {refusalLine, showRefusal} from "./shared/refusals.js";
 import {officeNamed, offices} from "./shared/desk.js";
-import {ownActs} from "./shared/person.js";
+import {leaveForSignIn, ownActs} from "./shared/person.js";
 import {LANGUAGES, chooseLanguage, language, locale, say, showDay} from "./shared/words.js";
 
 // each in a file of views/ of its name, loaded once it is shown
@@ -186,6 +186,9 @@ async function begin() {
         window.addEventListener("unhandledrejection", tellProblem);
         await showPage();
     } catch (problem) {
+        if (problem.front === "password" && await leaveForSignIn()) {
+            return;
+        }
         showRefusal(fill(desk, element("div", {class: "container py-5"})).firstChild, problem, begin);
     }
 }

@@ -14,6 +14,7 @@ Screenshots go into the folder that MICROLOAN_SHOTS names, else into out/shots o
 import atexit
 import base64
 import http.client
+import itertools
 import json
 import os
 import shutil
@@ -28,6 +29,8 @@ sys.path.insert(0, os.path.dirname(os.path.dirname(os.path.abspath(__file__))))
 import running
 
 PASSWORD, FIRST = "password-of-{}", "first-word-of-{}"
+FORM = "application/x-www-form-urlencoded"
+ADDRESSES = itertools.count()
 SESSIONS = os.environ.get("MICROLOAN_SIGN_IN") == "sessions"
 PEOPLE = {"amina": "1/1", "ruth": "2/1", "paulo": "21/1", "zoe": "21/2", "tom": "21/3"}  # of the demonstration
 PATIENCE = 60  # seconds that a reply may take
@@ -147,16 +150,16 @@ class Desk:
 
     def post(self, path, form, fields=()):
         """Sends a form, as the page of the sign-in does. The status and what is answered."""
-        sent = [("Content-Type", "application/x-www-form-urlencoded"), ("X-Desk", "1"), *fields]
-        return self.send(None, "POST", path, urllib.parse.urlencode(form).encode(), sent)
+        sent = [("Content-Type", FORM), ("X-Desk", "1"), *fields]
+        status, _, data = self.exchange(None, "POST", path, form_data(form), sent, address=another_address())
+        return status, json.loads(data)
 
     def cookie_of(self, name, password=None):
         """The cookie of a person's session, which begins where there is none; None where it is refused."""
         key = name, password_of(name, password)
         if key not in self.cookies:
-            form = urllib.parse.urlencode({"user": name, "password": key[1]}).encode()
-            fields = [("Content-Type", "application/x-www-form-urlencoded"), ("X-Desk", "1")]
-            _, answered, _ = self.exchange(None, "POST", "/session", form, fields)
+            form, fields = form_data({"user": name, "password": key[1]}), [("Content-Type", FORM), ("X-Desk", "1")]
+            _, answered, _ = self.exchange(None, "POST", "/session", form, fields, address=another_address())
             self.cookies[key] = (answered["Set-Cookie"] or "").split(";")[0]
         return self.cookies[key]
 
@@ -168,9 +171,10 @@ class Desk:
         except ValueError:
             return status, data
 
-    def exchange(self, name, method, path, body=None, fields=None, password=None):
+    def exchange(self, name, method, path, body=None, fields=None, password=None, address="127.0.0.1"):
         """The status, the header fields and the bytes of a reply. `fields` may be pairs, so that a name comes twice."""
-        connection = http.client.HTTPConnection("127.0.0.1", self.nginx.port, timeout=PATIENCE)
+        link = {"timeout": PATIENCE, "source_address": (address, 0)}
+        connection = http.client.HTTPConnection("127.0.0.1", self.nginx.port, **link)
         data = body if body is None or isinstance(body, bytes) else json.dumps(body).encode()
         sent = list(fields.items()) if isinstance(fields, dict) else list(fields or [])
         if name is not None and self.sign_in:
@@ -201,19 +205,35 @@ class Desk:
         """A browser in which the person is signed in, at the first page, its content so many columns wide."""
         driver = new_browser(width, height, language)
         self.drivers.append(driver)
-        if name is not None and self.sign_in:
-            driver.get(self.url + "/sign-in.html")
-            driver.add_cookie({"name": "desk", "value": self.new_session(name, password), "path": "/", "httpOnly": True})
-        elif name is not None:
-            # The password in the address signs in. A page whose address has one can't ask for anything: go on without.
-            driver.get(f"http://{name}:{password_of(name, password)}@127.0.0.1:{self.nginx.port}/me")
+        if name is not None:
+            self.let_in(driver, name, password)
         driver.get(self.url + "/")
         return driver
+
+    def let_in(self, driver, name, password=None):
+        """Signs a person in, in a browser where nobody is."""
+        if self.sign_in:
+            driver.get(self.url + "/sign-in.html")
+            driver.delete_all_cookies()
+            driver.add_cookie({"name": "desk", "value": self.new_session(name, password), "path": "/", "httpOnly": True})
+        else:
+            # The password in the address signs in. A page whose address has one can't ask for anything: go on without.
+            driver.get(f"http://{name}:{password_of(name, password)}@127.0.0.1:{self.nginx.port}/me")
 
     def close(self, driver):
         """Ends a browser before the desk ends."""
         self.drivers.remove(driver)
         driver.quit()
+
+
+def form_data(members):
+    return urllib.parse.urlencode(members).encode()
+
+
+def another_address():
+    """An address of loopback that no other message came from: sign-ins are limited by address."""
+    place = next(ADDRESSES)
+    return f"127.0.{4 + place // 250}.{1 + place % 250}"
 
 
 def password_of(name, password=None):

@@ -9,6 +9,7 @@ import pty
 import re
 import select
 import socket
+import socketserver
 import stat
 import subprocess
 import sys
@@ -66,6 +67,26 @@ def listening(handler):
         server.shutdown()
         thread.join()
         server.server_close()
+
+
+@contextlib.contextmanager
+def listening_socket(port):
+    """A socket of a folder that leads to a port, as the one of a service does. Its path."""
+
+    class Handler(socketserver.StreamRequestHandler):
+        def handle(self):
+            with socket.create_connection(("127.0.0.1", port)) as program:
+                program.sendall(self.request.recv(65536))
+                self.request.sendall(read_all(program))
+
+    with tempfile.TemporaryDirectory() as room:
+        path = os.path.join(room, "desk.sock")
+        with socketserver.ThreadingUnixStreamServer(path, Handler) as server:
+            thread = threading.Thread(target=server.serve_forever)
+            thread.start()
+            yield path
+            server.shutdown()
+            thread.join()
 
 
 class SignIn(unittest.TestCase):
@@ -554,6 +575,60 @@ class People(unittest.TestCase):
         self.assertEqual(DESK.send("zita", "GET", "/me", password="another of them")[0], 200)
         self.assertEqual(self.people("remove", "zita")[0], 0)
         self.assertEqual(DESK.send("zita", "GET", "/me", password="another of them")[0], 401)
+
+
+    def test_easy_passwords_are_refused(self):
+        """Some of the commonest, by length and by cracklib; none is kept."""
+        for password in ("12345678", "password", "qwertyuiop", "iloveyou", "football", "tom tom tom", "aaaaaaaaaaaa"):
+            with self.subTest(password):
+                status, _, said = self.people("add", "ann", "2/4", password=password)
+                self.assertEqual(status, 1)
+                self.assertIn("too easy to guess", said)
+        self.assertEqual(self.people("list")[1], "")
+
+    def test_a_member_of_staff_who_is_not_there_is_refused(self):
+        with listening_socket(DESK.serve.port) as path:
+            asked = "--desk", path
+            self.assertEqual(self.people("add", "tom", "2/3", *asked)[0], 0)
+            status, _, said = self.people("add", "ghost", "9/9", *asked)
+            self.assertEqual((status, said), (1, "people: the desk has no member of staff 9/9: enter them first\n"))
+        status, _, said = self.people("add", "ghost", "9/9", *asked)
+        self.assertIn("--unasked adds without asking", said)
+        self.assertEqual(self.people("add", "ghost", "9/9", *asked, "--unasked")[0], 0)
+
+    def test_a_list_that_the_front_has_not_read_is_told(self):
+        self.folder = DESK.nginx.people
+        pid = ["--pid", os.path.join(DESK.folder, "nginx.pid")]
+        DESK.nginx.reload()
+        time.sleep(1.1)  # the kernel tells the start of a process by whole seconds or so
+        self.assertEqual(self.people("list", *pid)[2], "")
+        self.assertEqual(self.people("add", "zuri", "2/96")[0], 0)
+        self.assertIn("the front runs with an earlier list", self.people("list", *pid)[2])
+        time.sleep(1.1)
+        DESK.nginx.reload()
+        self.assertEqual(self.people("list", *pid)[2], "")
+        self.assertEqual(self.people("remove", "zuri")[0], 0)
+
+    def test_a_reader_only_looks(self):
+        self.folder = DESK.nginx.people
+        self.assertEqual(self.people("add", "auditor", "2/2", "--reader", password="no")[0], 1)
+        self.assertEqual(self.people("remove", "zoe")[0], 0)
+        self.assertEqual(self.people("add", "auditor", "2/2", "--reader")[0], 0)
+        self.assertIn("auditor 2/2 (reader)\n", self.people("list")[1])
+        DESK.nginx.reload()
+        before = count_clients()
+        own = {"password": "password of one"}
+        self.assertEqual(DESK.send("auditor", "GET", "/api/offices", **own), (200, NORTH))
+        self.assertEqual(DESK.send("auditor", *add_client("Looked"), **own), (403, {"front": "reader"}))
+        for method in ("PUT", "DELETE", "PATCH", "OPTIONS", "PROPFIND"):
+            refused = DESK.send("auditor", method, "/api/business-day", {"day": "2024-01-02"}, **own)
+            self.assertEqual(refused, (403, {"front": "reader"}))
+        self.assertEqual(count_clients(), before)
+        browser = DESK.browser("auditor", password="password of one")
+        desk_wait(lambda: "auditor" in browser.page_source)
+        self.people("remove", "auditor")
+        self.people("add", "zoe", "2/2", password=desk.PASSWORD.format("zoe"))
+        DESK.nginx.reload()
 
 
 class Demonstration(unittest.TestCase):

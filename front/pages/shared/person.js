@@ -33,6 +33,16 @@ async function signOut() {
     leave("");
 }
 
+// Goes to the sign-in where there is one. With Basic the browser itself asks, and the page stays.
+export async function leaveForSignIn() {
+    const reply = await fetch("/me");
+    const hasPage = reply.status === 401 && !reply.headers.has("WWW-Authenticate");
+    if (hasPage) {
+        leave(location.hash);
+    }
+    return hasPage;
+}
+
 function lockWhenIdle() {
     let clock = 0;
     const begin = () => {

@@ -29,7 +29,7 @@ function readJson(text) {
 export async function asked(path, members, method = "POST") {
     const {isDone, text} = await answered(path, members, method);
     const read = readJson(text);
-    if (!isDone || read?.result === 0) {
+    if (!isDone || (read?.error && read.result !== 1)) {
         throw new Refused(String(read?.front ?? read?.refused ?? read?.error ?? "other"));
     }
     return read ?? text;

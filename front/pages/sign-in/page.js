@@ -142,10 +142,7 @@ function showOwnPassword() {
 
 async function showSecondFactor() {
     show(word("code.title"), back());
-    const {secret, token, error} = await asked("/session/getkey", {});
-    if (error) {
-        throw new Refused(error);
-    }
+    const {secret, token} = await asked("/session/getkey", {});
     const address = `otpauth://totp/microloan:${user}?secret=${secret}&issuer=microloan`;
     const send = async (code) => {
         await asked("/session/verify", {token, code, TOTPName: "telephone"});
