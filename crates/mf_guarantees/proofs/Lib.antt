@@ -4,3 +4,4 @@ pub mod ReachLemmas
 pub mod RemainLemmas
 pub mod RequestLemmas
 pub mod ReversalLemmas
+pub mod SourceLemmas

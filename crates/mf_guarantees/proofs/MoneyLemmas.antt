@@ -13,6 +13,8 @@ use Rattle.mf_model.specs.Store.{ledger_at, account_of}
 use Rattle.mf_model.proofs.Lasting.{account_of_loan}
 use Rattle.mf_model.proofs.SoundLemmas.{last_sound}
 use Rattle.mf_guarantees.specs.Money.{IsAccountedFor}
+use Rattle.mf_guarantees.specs.Sources.{HasSources}
+use Rattle.mf_guarantees.proofs.SourceLemmas.{sources}
 
 accounted : (loan : DisbursedLoan) → IsSoundDisbursed loan → IsAccountedFor loan
 accounted loan sound = record {
@@ -43,3 +45,8 @@ pub within_after : (lines : List Line) (i : Institution) (loan : Account) (accou
     → AreInRange lines → account_of (last lines i).catalogue (ledger_at loan (last lines i)) ≡ Some account
     → AreWithin (state_of_loan account).rows
 within_after lines i loan account s r there = (good-sound account (sound_after lines i loan account s r there)).within
+
+pub sources_after : (lines : List Line) (i : Institution) (loan : Account) (account : DisbursedLoan) → IsSound i
+    → AreInRange lines → account_of (last lines i).catalogue (ledger_at loan (last lines i)) ≡ Some account
+    → HasSources account
+sources_after lines i loan account s r there = sources account (sound_after lines i loan account s r there)

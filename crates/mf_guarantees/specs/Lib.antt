@@ -3,3 +3,4 @@ pub mod Ageing
 pub mod Reach
 pub mod Kept
 pub mod Money
+pub mod Sources

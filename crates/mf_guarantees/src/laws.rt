@@ -26,6 +26,7 @@ ghost use Rattle.mf_model.specs.Run.{Line, last};
 ghost use Rattle.mf_model.specs.Sound.{IsSound, AreInRange};
 ghost use Rattle.mf_model.specs.Store.{ledger_at, account_of};
 ghost use Rattle.mf_guarantees.specs.Money.{IsAccountedFor};
+ghost use Rattle.mf_guarantees.specs.Sources.{HasSources};
 ghost use Rattle.mf_guarantees.specs.Roles.{is_repayment, is_concession};
 ghost use Rattle.mf_guarantees.specs.Ageing.{lateness, on_time, worked_loans};
 ghost use Rattle.mf_model.specs.declared.request.LoanRequest.TheVariants.{Repay, Post};
@@ -106,6 +107,15 @@ pub fn nobody_pays_more_than_is_owed()
         IsSound i → AreInRange lines →
         account_of (last lines i).catalogue (ledger_at loan (last lines i)) ≡ Some account →
         AreWithin (state_of_loan account).rows }
+{}
+
+/// Whatever requests come, every cent that a loan owes has a source: the schedule by which it was paid out, or a fee or a
+/// penalty that stands. So no request changes the principal or the interest of a loan that was paid out.
+pub fn every_cent_owed_has_a_source()
+    ensures { (i : Institution) (lines : List Line) (loan : Account) (account : DisbursedLoan) →
+        IsSound i → AreInRange lines →
+        account_of (last lines i).catalogue (ledger_at loan (last lines i)) ≡ Some account →
+        HasSources account }
 {}
 
 /// An entry that is entered and then reversed leaves the sums of a loan as if it had never been entered.
