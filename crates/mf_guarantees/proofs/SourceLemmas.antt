@@ -20,7 +20,8 @@ use Rattle.mf_account.specs.Applicable.{HasInstalment}
 use Rattle.mf_account.specs.AtOnce.{rows_charged}
 use Rattle.mf_account.specs.Effect.{State, Part, after_entry, settle, settle_row, owe_row, with_settled, with_charge}
 use Rattle.mf_account.specs.Effect.{parts_of}
-use Rattle.mf_account.specs.Loan.{DisbursedLoan, IsSoundDisbursed, schedule_of, orders_of, cell_places_of, state_of_loan}
+use Rattle.mf_account.specs.Loan.{DisbursedLoan, IsSoundDisbursed, schedule_of, orders_of, cell_places_of}
+use Rattle.mf_account.specs.Loan.{state_of_loan}
 use Rattle.mf_account.specs.Safe.{IsBounded}
 use Rattle.mf_account.specs.Standing.{standing_entries}
 use Rattle.mf_account.proofs.ConserveLemmas.{sum-same, principal-sound}

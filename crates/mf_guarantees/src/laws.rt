@@ -109,8 +109,8 @@ pub fn nobody_pays_more_than_is_owed()
         AreWithin (state_of_loan account).rows }
 {}
 
-/// Whatever requests come, every cent that a loan owes has a source: the schedule by which it was paid out, or a fee or a
-/// penalty that stands. So no request changes the principal or the interest of a loan that was paid out.
+/// Whatever requests come, every cent that a loan owes has a source: the schedule by which it was paid out, or a fee or
+/// a penalty that stands. So no request changes the principal or the interest of a loan that was paid out.
 pub fn every_cent_owed_has_a_source()
     ensures { (i : Institution) (lines : List Line) (loan : Account) (account : DisbursedLoan) →
         IsSound i → AreInRange lines →
