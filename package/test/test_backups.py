@@ -240,8 +240,10 @@ class Backups(roots.ServedDesk):
         self.root.start(taker)
         self.wait_until(lambda: "While it is away 4" in self.root.run(f"cat {kept}"), 120)
         log = "/var/log/microloan/messages.log"
-        same = f"cat {log}-* {log} 2>/dev/null | cmp - {kept} && echo same; true"
-        self.wait_until(lambda: self.root.run(same) == "same\n")
+        lines = "grep -E 'Sent to the other machine|While it is away'"
+        sent = self.root.run(f"{lines} {log}")
+        self.assertEqual(len(sent.splitlines()), 6)
+        self.wait_until(lambda: self.root.run(f"{lines} {kept}") == sent)
         self.root.run("kill $(cat /run/taker.pid); rm /etc/rsyslog.d/microloan.conf; systemctl restart rsyslog")
 
     def test_an_upgrade_makes_one_first(self):
@@ -318,21 +320,31 @@ class Backups(roots.ServedDesk):
         self.root.run("MICROLOAN_WITHOUT_BACKUP=1 apt-get -qq purge -y microloan 2>&1; systemctl stop rsyslog; rm -rf "
                       f"/etc/microloan /var/lib/microloan /var/log/microloan {BACKUPS} /root/paper.key")
         # the new machine: the package, what was taken off the old one, and the sheet of paper
-        self.root.run("apt-get -qq install -y /root/microloan.deb 2>&1")
-        self.root.run("cat >/root/paper.key", given=self.key + "\n")
-        said = self.root.run(f"microloan-restore {bundle} --key /root/paper.key --signed-by {self.signer} --whole "
-                             f"--and-the-log {copy}")
+        said = self.follow_the_handbook(bundle)
         self.assertIn("messages after the backup, the same (40 changed something)", said)
-        said = self.root.run("microloan-setup")
         self.assertIn("amina is 1/1 already", said)
         self.assertNotIn("AGE-SECRET-KEY", said)
+        self.assertRegex(said, "DESK (OK|WARNING) - ")
         self.assertEqual([self.name_of(it) for it in clients], [f"On the lost machine {it}" for it in range(40)])
         zoe = roots.ask(self.root, "zoe", "a password of zoe's", "GET", "/api/business-day")
         self.assertEqual(zoe, (200, {"day": "2026-11-26"}))
         self.assertEqual(self.root.run("microloan-who client | grep -c 'On the lost machine'"), "40\n")
         type(self).signer = re.search("by the word (RW[0-9A-Za-z+/=]+)", said)[1]
-        self.back_up()
         self.root.run("microloan-restore --try --and-the-log")
+
+    def follow_the_handbook(self, bundle):
+        """Runs the lines of its page. What they print."""
+        with open(os.path.join(roots.TOP, "docs", "handbook.md"), encoding="utf-8") as file:
+            page = file.read().split("### From a dead machine to a running desk")[1].split("```")[1]
+        page = re.sub(r"  +\(.*\)\n", "\n", page.replace("\\\n", " "))
+        page = page.replace("RWR5cbL9..", self.signer).replace("apt install", "apt-get -qq install -y")
+        page = re.sub(r"\./microloan_[0-9.]+_amd64.deb", "/root/microloan.deb", page)
+        page = re.sub(r"/srv/microloan/desk-\S+", bundle, page)
+        said = ""
+        for line in page.strip().splitlines():
+            allowed = "; test $? -le 1" if "microloan-check" in line else ""
+            said += self.root.run(line.removeprefix("$ sudo ") + allowed, given=self.key + "\n")
+        return said
 
 
 if __name__ == "__main__":
