@@ -44,6 +44,20 @@ for _ in range(often):
     subprocess.run(["systemctl", "reset-failed", "microloan-backup"])
 print(still, went_on)
 """
+# Kills restores at drawn moments. What the file is after each; then what killed ones have left after one more.
+KILL_RESTORES = """
+import os, random, signal, subprocess, sys, time
+draw = random.Random(9)
+for _ in range(int(sys.argv[2])):
+    restore = subprocess.Popen(["microloan-restore", sys.argv[1]], start_new_session=True,
+                               stdout=subprocess.DEVNULL, stderr=subprocess.DEVNULL)
+    time.sleep(draw.uniform(0.05, 1.5))
+    os.killpg(restore.pid, signal.SIGKILL)
+    restore.wait()
+    print(subprocess.run("until flock -n /var/lib/microloan true; do sleep 0.01; done; setpriv --reuid=microloan "
+        "--regid=microloan --clear-groups microloan why --file /var/lib/microloan/desk.db", shell=True,
+        stdout=subprocess.PIPE, text=True).stdout.strip())
+"""
 KILL_SETUPS = """
 import os, random, signal, subprocess, sys, time
 draw = random.Random(5)
@@ -141,6 +155,18 @@ class Backups(roots.ServedDesk):
                 self.assertEqual(self.ask("GET", "/api/business-day")[0], 200)
         self.back_up()
         self.assertEqual(self.root.run(f"ls -A {BACKUPS} /var/lib/microloan | grep '^[.]'; true"), "")
+
+    def test_a_restore_that_is_killed(self):
+        """It leaves what was there, or what was restored, whole; or nothing in place, and what was there beside it."""
+        bundle = self.back_up()
+        self.root.run("systemctl stop microloan")
+        said = self.root.run(f"python3 - {bundle} {KILLS}", given=KILL_RESTORES).splitlines()
+        whole = sum(line.endswith("a sound institution, schema 2") for line in said)
+        print(f"of {KILLS} killed restores {whole} left a whole institution in place", flush=True)
+        self.assertEqual(whole + sum("there is no file" in line for line in said), KILLS)
+        self.root.run(f"microloan-restore {bundle}")
+        self.assertEqual(self.root.run(f"ls -A /var/lib/microloan {BACKUPS} | grep '^[.]'; true"), "")
+        self.root.run("rm -r /var/lib/microloan/before-restore-*")
 
     def test_a_setup_that_is_killed(self):
         """It leaves no institution or a whole one; run again it does what is left to do."""
