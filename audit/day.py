@@ -6,7 +6,7 @@ import sys
 
 sys.dont_write_bytecode = True
 sys.path.append(os.path.join(os.path.dirname(os.path.dirname(os.path.abspath(__file__))), "package", "tools"))
-sys.path.append("/usr/share/microloan")
+sys.path.append(os.path.dirname(os.path.dirname(os.path.abspath(__file__))))  # in the package, /usr/share/microloan
 import front_log
 
 READS = ("GET", "HEAD")

@@ -44,6 +44,20 @@ for _ in range(often):
     subprocess.run(["systemctl", "reset-failed", "microloan-backup"])
 print(still, went_on)
 """
+# Kills restores at drawn moments. What the file is after each; then what killed ones have left after one more.
+KILL_RESTORES = """
+import os, random, signal, subprocess, sys, time
+draw = random.Random(9)
+for _ in range(int(sys.argv[2])):
+    restore = subprocess.Popen(["microloan-restore", sys.argv[1]], start_new_session=True,
+                               stdout=subprocess.DEVNULL, stderr=subprocess.DEVNULL)
+    time.sleep(draw.uniform(0.05, 1.5))
+    os.killpg(restore.pid, signal.SIGKILL)
+    restore.wait()
+    print(subprocess.run("until flock -n /var/lib/microloan true; do sleep 0.01; done; setpriv --reuid=microloan "
+        "--regid=microloan --clear-groups microloan why --file /var/lib/microloan/desk.db", shell=True,
+        stdout=subprocess.PIPE, text=True).stdout.strip())
+"""
 KILL_SETUPS = """
 import os, random, signal, subprocess, sys, time
 draw = random.Random(5)
@@ -141,6 +155,18 @@ class Backups(roots.ServedDesk):
                 self.assertEqual(self.ask("GET", "/api/business-day")[0], 200)
         self.back_up()
         self.assertEqual(self.root.run(f"ls -A {BACKUPS} /var/lib/microloan | grep '^[.]'; true"), "")
+
+    def test_a_restore_that_is_killed(self):
+        """It leaves what was there, or what was restored, whole; or nothing in place, and what was there beside it."""
+        bundle = self.back_up()
+        self.root.run("systemctl stop microloan")
+        said = self.root.run(f"python3 - {bundle} {KILLS}", given=KILL_RESTORES).splitlines()
+        whole = sum(line.endswith("a sound institution, schema 2") for line in said)
+        print(f"of {KILLS} killed restores {whole} left a whole institution in place", flush=True)
+        self.assertEqual(whole + sum("there is no file" in line for line in said), KILLS)
+        self.root.run(f"microloan-restore {bundle}")
+        self.assertEqual(self.root.run(f"ls -A /var/lib/microloan {BACKUPS} | grep '^[.]'; true"), "")
+        self.root.run("rm -r /var/lib/microloan/before-restore-*")
 
     def test_a_setup_that_is_killed(self):
         """It leaves no institution or a whole one; run again it does what is left to do."""
@@ -240,8 +266,10 @@ class Backups(roots.ServedDesk):
         self.root.start(taker)
         self.wait_until(lambda: "While it is away 4" in self.root.run(f"cat {kept}"), 120)
         log = "/var/log/microloan/messages.log"
-        same = f"cat {log}-* {log} 2>/dev/null | cmp - {kept} && echo same; true"
-        self.wait_until(lambda: self.root.run(same) == "same\n")
+        lines = "grep -E 'Sent to the other machine|While it is away'"
+        sent = self.root.run(f"{lines} {log}")
+        self.assertEqual(len(sent.splitlines()), 6)
+        self.wait_until(lambda: self.root.run(f"{lines} {kept}") == sent)
         self.root.run("kill $(cat /run/taker.pid); rm /etc/rsyslog.d/microloan.conf; systemctl restart rsyslog")
 
     def test_an_upgrade_makes_one_first(self):
@@ -318,21 +346,31 @@ class Backups(roots.ServedDesk):
         self.root.run("MICROLOAN_WITHOUT_BACKUP=1 apt-get -qq purge -y microloan 2>&1; systemctl stop rsyslog; rm -rf "
                       f"/etc/microloan /var/lib/microloan /var/log/microloan {BACKUPS} /root/paper.key")
         # the new machine: the package, what was taken off the old one, and the sheet of paper
-        self.root.run("apt-get -qq install -y /root/microloan.deb 2>&1")
-        self.root.run("cat >/root/paper.key", given=self.key + "\n")
-        said = self.root.run(f"microloan-restore {bundle} --key /root/paper.key --signed-by {self.signer} --whole "
-                             f"--and-the-log {copy}")
+        said = self.follow_the_handbook(bundle)
         self.assertIn("messages after the backup, the same (40 changed something)", said)
-        said = self.root.run("microloan-setup")
         self.assertIn("amina is 1/1 already", said)
         self.assertNotIn("AGE-SECRET-KEY", said)
+        self.assertRegex(said, "DESK (OK|WARNING) - ")
         self.assertEqual([self.name_of(it) for it in clients], [f"On the lost machine {it}" for it in range(40)])
         zoe = roots.ask(self.root, "zoe", "a password of zoe's", "GET", "/api/business-day")
         self.assertEqual(zoe, (200, {"day": "2026-11-26"}))
         self.assertEqual(self.root.run("microloan-who client | grep -c 'On the lost machine'"), "40\n")
         type(self).signer = re.search("by the word (RW[0-9A-Za-z+/=]+)", said)[1]
-        self.back_up()
         self.root.run("microloan-restore --try --and-the-log")
+
+    def follow_the_handbook(self, bundle):
+        """Runs the lines of its page. What they print."""
+        with open(os.path.join(roots.TOP, "docs", "handbook.md"), encoding="utf-8") as file:
+            page = file.read().split("### From a dead machine to a running desk")[1].split("```")[1]
+        page = re.sub(r"  +\(.*\)\n", "\n", page.replace("\\\n", " "))
+        page = page.replace("RWR5cbL9..", self.signer).replace("apt install", "apt-get -qq install -y")
+        page = re.sub(r"\./microloan_[0-9.]+_amd64.deb", "/root/microloan.deb", page)
+        page = re.sub(r"/srv/microloan/desk-\S+", bundle, page)
+        said = ""
+        for line in page.strip().splitlines():
+            allowed = "; test $? -le 1" if "microloan-check" in line else ""
+            said += self.root.run(line.removeprefix("$ sudo ") + allowed, given=self.key + "\n")
+        return said
 
 
 if __name__ == "__main__":

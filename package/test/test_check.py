@@ -2,6 +2,7 @@
 
 They need root and mmdebstrap. Where a machine lets no systemd run in namespaces, it says why and skips them.
 """
+import contextlib
 import os
 import time
 import unittest
@@ -27,6 +28,17 @@ class Check(roots.ServedDesk):
         super().setUp()
         self.root.run("systemctl stop microloan-check.timer; rm -f /run/microloan-check/state.json")
 
+    @contextlib.contextmanager
+    def institution_kept(self):
+        """Puts the institution back as it was before."""
+        self.root.run("rm -rf /root/kept-lib; cp -a /var/lib/microloan /root/kept-lib")
+        try:
+            yield
+        finally:
+            self.root.run("systemctl kill --signal=KILL microloan; systemctl stop microloan microloan-check.timer; true")
+            self.root.run("umount /var/lib/microloan 2>/dev/null; rm -rf /var/lib/microloan /run/microloan-check/state.json")
+            self.root.run("mv /root/kept-lib /var/lib/microloan; systemctl reset-failed; systemctl start microloan")
+
     def look(self, wanted):
         """What the check says, in one line."""
         said = self.root.run("microloan-check", wanted=wanted)
@@ -35,6 +47,9 @@ class Check(roots.ServedDesk):
 
     def watch(self):
         self.root.run("systemctl start microloan-check; true")
+
+    def wait_until_told(self, text):
+        self.wait_until(lambda: text in self.told(), 20)
 
     def test_in_order(self):
         today = self.root.run("date +%F").strip()
@@ -56,17 +71,17 @@ class Check(roots.ServedDesk):
         self.root.run(f"mv {FILE} {FILE}.kept; systemctl start microloan", wanted=1)
         self.assertIn("the service failed (exit-code)", self.look(2))
         self.watch()
-        self.assertIn("the service failed", self.told())
+        self.wait_until_told("the service failed")
         self.assertEqual(self.shown("ActiveState")["ActiveState"], "failed")
         self.root.run(f"mv {FILE}.kept {FILE}; systemctl reset-failed; systemctl start microloan")
         self.watch()
-        self.assertIn("in order again: service", self.told())
+        self.wait_until_told("in order again: service")
 
     def test_a_program_that_stands_still_goes_on(self):
         self.root.run("systemctl kill --signal=STOP --kill-who=main microloan")
         self.assertIn("the program doesn't answer", self.look(2))
         self.watch()
-        self.assertIn("stood still, and was told to go on", self.told())
+        self.wait_until_told("stood still, and was told to go on")
         self.assertEqual(self.ask("GET", "/api/business-day")[0], 200)
 
     def test_a_program_that_does_not_answer_is_started_again(self):
@@ -75,7 +90,7 @@ class Check(roots.ServedDesk):
         client = self.enter("Before it hung")
         self.root.run("systemctl kill --signal=STOP --kill-who=main microloan-port")
         self.watch()
-        self.assertIn("didn't answer for a minute, and is started again", self.told())
+        self.wait_until_told("didn't answer for a minute, and is started again")
         self.wait_until(lambda: self.shown("ActiveState", "MainPID")["MainPID"] not in (before, "0"))
         self.wait_until(lambda: self.shown("ActiveState")["ActiveState"] == "active")
         self.assertEqual(self.name_of(client), "Before it hung")
@@ -92,9 +107,8 @@ class Check(roots.ServedDesk):
 
     def test_a_file_that_is_removed_or_replaced_is_told_within_a_minute(self):
         for spoil in (f"rm {FILE}-wal", f"cp {FILE} {FILE}.new; mv {FILE}.new {FILE}", f"ln {FILE} {FILE}.second"):
-            with self.subTest(spoil):
-                self.root.run("truncate -s 0 /root/told; cp -a /var/lib/microloan /root/kept-lib")
-                self.root.run("systemctl start microloan-check.timer")
+            with self.subTest(spoil), self.institution_kept():
+                self.root.run("truncate -s 0 /root/told; systemctl start microloan-check.timer")
                 time.sleep(2)
                 self.root.run(spoil)
                 began = time.monotonic()
@@ -103,9 +117,6 @@ class Check(roots.ServedDesk):
                 took = time.monotonic() - began
                 print(f"{spoil}: told after {took:.0f} s", flush=True)
                 self.assertLess(took, WITHIN)
-                self.root.run("systemctl stop microloan-check.timer; systemctl kill --signal=KILL microloan; true")
-                self.root.run("systemctl stop microloan; rm -rf /var/lib/microloan /run/microloan-check/state.json")
-                self.root.run("mv /root/kept-lib /var/lib/microloan; systemctl reset-failed; systemctl start microloan")
 
     def test_what_the_handbook_says_of_a_file_that_was_removed(self):
         for spoil in (f"rm {FILE}-wal", f"rm {FILE} {FILE}-wal"):
@@ -130,28 +141,29 @@ class Check(roots.ServedDesk):
         self.root.run(f"truncate -s -3 {LOG}")
 
     def test_a_full_disk(self):
-        """The program is shut; it isn't started again while there is no room, and is when there is."""
-        self.root.run("systemctl stop microloan; cp -a /var/lib/microloan /root/kept-lib; "
-                      "mount -t tmpfs -o size=1m,mode=700,uid=$(id -u microloan),gid=$(id -g microloan) none "
-                      "/var/lib/microloan; cp -a /root/kept-lib/. /var/lib/microloan; systemctl start microloan")
-        try:
+        """Nothing more is entered; it isn't started again while there is no room, and is when there is."""
+        owner = "mode=700,uid=$(id -u microloan),gid=$(id -g microloan)"
+        with self.institution_kept():
+            self.root.run(f"systemctl stop microloan; mount -t tmpfs -o size=1m,{owner} none /var/lib/microloan;"
+                          f"cp -a /root/kept-lib/desk.db* /var/lib/microloan; systemctl start microloan")
             for place in range(MOST_ENTERED):
                 if self.ask("POST", "/api/clients", {"office": 1, "name": f"Client {place} {'x' * 80}"})[0] != 201:
                     break
             said = self.look(2)
-            self.assertIn("the program answers 503 F20", said)
+            self.assertIn("the last that was entered was answered F20", said)
             self.assertIn("/var/lib/microloan has 0 MB free", said)
-            self.assertIn("messages were answered F20", said)
+            before = self.shown("MainPID")
             self.watch()
-            self.assertIn("isn't started again: its disk is full", self.told())
+            self.wait_until_told("the last that was entered was answered F20")
+            self.watch()
+            self.assertEqual(self.told().count("was answered F20"), 1)
+            self.assertEqual(self.shown("MainPID"), before)
             self.root.run("mount -o remount,size=200m /var/lib/microloan")
             self.watch()
-            self.assertIn("was shut after a fault of its file or disk, and is started again", self.told())
-            self.wait_until(lambda: self.ask("GET", "/api/business-day")[0] == 200)
-            self.assertEqual(self.name_of(self.enter("After the full disk")), "After the full disk")
-        finally:
-            self.root.run("systemctl stop microloan; umount /var/lib/microloan; systemctl start microloan")
-            self.root.run(f"truncate -s 0 {LOG}")
+            self.wait_until_told("was shut by a fault of its file or disk, and is started again")
+            client = {"office": 1, "name": "After the full disk"}
+            self.wait_until(lambda: self.ask("POST", "/api/clients", client)[0] == 201)
+        self.root.run(f"truncate -s 0 {LOG}")
 
     def test_backups_that_are_old_or_stay_here(self):
         self.root.run(f"mkdir /root/aside; mv {BACKUPS}/* /root/aside")

@@ -131,7 +131,10 @@ class Installed(unittest.TestCase):
         wanted = {
             "/var/lib/microloan": "700 microloan:microloan",
             "/var/lib/microloan/desk.db": "600 microloan:microloan",
-            "/var/backups/microloan": "700 microloan:microloan",
+            "/var/backups/microloan": "700 root:root",
+            "/etc/microloan/keys": "700 root:root",
+            "/etc/microloan/keys/sign.key": "600 root:root",
+            "/etc/microloan/keys/machine.key": "600 root:root",
             "/etc/microloan": "750 root:www-data",
             "/etc/microloan/passwords": "640 root:www-data",
             "/var/log/microloan/messages.log": "640 www-data:adm",
@@ -166,7 +169,7 @@ class Installed(unittest.TestCase):
         moved = self.root.run("microloan-day 2026-11-27 --user amina", given=PASSWORD + "\n")
         self.assertEqual(moved, "2026-11-26 -> 2026-11-27\n")
         said = self.root.run("microloan-backup")
-        self.assertIn("business day 2026-11-27, 0 loans, 0 entries", said)
+        self.assertIn("business day 2026-11-27, 1 clients, 0 loans, 0 entries", said)
         backup = said.split(": ")[0]
         self.assertEqual(self.modes(backup)[backup], "600 microloan:microloan")
         self.assertIn("amina 1/1 200 PUT /api/business-day", self.root.run("microloan-who day"))
@@ -196,7 +199,7 @@ class Installed(unittest.TestCase):
     def restore(self, backup):
         self.install()
         said = self.root.run(f"microloan-restore {backup}")
-        self.assertIn("business day 2026-11-27, 0 loans, 0 entries", said)
+        self.assertIn("business day 2026-11-27, 1 clients, 0 loans, 0 entries", said)
         said = self.root.run("microloan-setup --user amina", given=PASSWORD + "\n")
         self.assertIn("is there, and is kept", said)
         self.start()

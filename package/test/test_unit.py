@@ -1,6 +1,6 @@
-"""Tests of the unit and its timer under a running systemd, in a fresh root of Debian; needs root and mmdebstrap.
+"""Tests of the unit under a running systemd, in a fresh root of Debian: starts, stops, crashes, and who reaches it.
 
-Where a machine lets no systemd run in namespaces, it says why and skips them.
+They need root and mmdebstrap. Where a machine lets no systemd run in namespaces, it says why and skips them.
 """
 import re
 import time

@@ -22,12 +22,12 @@ def lines_of(log):
             yield from (line for line in file if line.endswith(b"\n"))
 
 
-def tail_of(file, size):
-    """The whole lines that end within the first bytes of a file, as many as are wanted."""
+def tail_of(file, size, count=LINES):
+    """The last whole lines within the first bytes of a file, so many at most."""
     begin = max(0, size - TAIL)
     file.seek(begin)
     lines = file.read(size - begin).splitlines(keepends=True)
-    return [line for line in lines[1 if begin else 0 :] if line.endswith(b"\n")][-LINES:]
+    return [line for line in lines[1 if begin else 0 :] if line.endswith(b"\n")][-count:]
 
 
 def place_at(log, inode, size):
