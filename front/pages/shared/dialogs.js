@@ -27,8 +27,9 @@ function dialogParts({text, fields, action, isGrave}) {
     const submit = element("button", {type: "submit", class: `btn ${isGrave ? "btn-danger" : "btn-primary"}`}, action);
     const cancel = element(
         "button", {type: "button", class: "btn btn-outline-secondary", "data-bs-dismiss": "modal"}, say("cancel"));
+    const words = [text].flat().filter(Boolean);
     const body = element(
-        "div", {class: "modal-body"}, [text].flat().map((words) => element("div", {class: "mb-3"}, words)),
+        "div", {class: "modal-body"}, words.map((part) => element("div", {class: "mb-3"}, part)),
         element("div", {class: "row g-3"}, Object.values(fields).map(({node}) => node)), trouble);
     const form = element(
         "form", {novalidate: true, class: "dialog-form"}, body,

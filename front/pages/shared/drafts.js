@@ -21,9 +21,27 @@ function kept() {
     return Object.keys(localStorage).map((key) => ({key, ...placeOf(key)})).filter(({loan}) => loan !== undefined);
 }
 
+export const NO_DRAFT = {
+    text: "",
+    cents: null,
+    receipt: null,
+    collector: "",
+    result: null,
+    why: ""
+};
+
+// What was typed counts as the cents that it was read as then, also where the reader's locale is another one now. What
+// can't be read is still told of.
 function readDraft(key) {
-    const draft = JSON.parse(localStorage.getItem(key));
-    return {...draft, cents: draft.cents === null ? null : BigInt(draft.cents)};
+    const written = localStorage.getItem(key);
+    try {
+        const draft = {...NO_DRAFT, ...JSON.parse(written)};
+        const cents = draft.cents === null ? null : BigInt(draft.cents);
+        const isSame = cents === null || readMoney(draft.text) === cents;
+        return {...draft, cents, text: isSame ? draft.text : showMoney(cents)};
+    } catch {
+        return {...NO_DRAFT, text: written};
+    }
 }
 
 // by loan
@@ -48,7 +66,13 @@ function adopt(key) {
 }
 
 export function adoptOlder() {
-    Object.keys(localStorage).filter((key) => key.startsWith("round ")).forEach(adopt);
+    for (const key of Object.keys(localStorage).filter((one) => /^round \S+ \d+ [\d-]{10}$/.test(one))) {
+        try {
+            adopt(key);
+        } catch (problem) {
+            console.error(key, problem);  // it stays where it is
+        }
+    }
 }
 
 const tellers = new Set();

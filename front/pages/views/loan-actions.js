@@ -55,6 +55,24 @@ async function carryOut({name, told, again, values = {}, fields = {}, isGrave = 
     document.getElementById("title")?.focus({preventScroll: true});
 }
 
+// the fields, and one for the reason, which is asked for where the day lies more than a week back
+function withReason(fields) {
+    const {input} = fields.day;
+    const isOld = () => daysBetween(input.value || session.day, session.day) > OLD_DAYS;
+    const reason = reasonField({isNeeded: isOld});
+    const showReason = () => {
+        reason.node.hidden = !isOld();
+    };
+    input.addEventListener("input", showReason);
+    input.addEventListener("change", showReason);
+    showReason();
+    return {...fields, reason};
+}
+
+function withoutEmpty({reason, ...values}) {
+    return reason === "" ? values : {...values, reason};
+}
+
 // a step to another status
 
 function stepTo(step, status, isGrave = false) {
@@ -82,13 +100,13 @@ function stepWriting(told, step, status, body) {
 }
 
 async function disburse(told, again) {
-    const fields = {
+    const fields = withReason({
         day: dayField(
             {label: say("loan.paid-out"), value: session.day, most: session.day, hint: say("do.disburse.hint")})
-    };
+    });
     const charge = told.terms.disbursement_charge;
     const text = charge === null ? [] : [handedOver(told, await desk.charge(charge))];
-    const send = keptWriting(({day}) => stepWriting(told, "disburse", desk.ACTIVE, {day}));
+    const send = keptWriting((values) => stepWriting(told, "disburse", desk.ACTIVE, withoutEmpty(values)));
     const sendAndTell = async (values) => {
         await send(values);
         const now = await desk.loan(told.loan).catch(() => null);
@@ -122,8 +140,7 @@ function enterRepayment(told, again) {
     const due = sum(told.instalments.filter((one) => one.due <= session.day).map((one) => one.outstanding));
     const next = BigInt(told.instalments.find(desk.isOpen)?.outstanding ?? 0);
     const owed = desk.total(told.outstanding);
-    const reason = reasonField({isNeeded: () => isOld()});
-    const fields = {
+    const fields = withReason({
         amount: moneyField({
             label: say("amount"),
             value: proposed(due > 0n && isAskedFor(due) ? due : next, owed),
@@ -131,13 +148,7 @@ function enterRepayment(told, again) {
         }),
         day: dayField({label: say("do.repayment.day"), value: session.day, least: told.day, most: session.day}),
         receipt: receiptField({label: say("receipt"), value: desk.nextReceipt(told.loan)}),
-        reason,
-    };
-    const isOld = () => daysBetween(fields.day.input.value || session.day, session.day) > OLD_DAYS;
-    const showReason = () => (reason.node.hidden = !isOld());
-    fields.day.input.addEventListener("input", showReason);
-    fields.day.input.addEventListener("change", showReason);
-    showReason();
+    });
     const known = knownOf(told, told.entries);
     const check = async (values) => asked(await doubtsOf({loan: told.loan, ...values}, known), values);
     return carryOut({name: "repayment", told, again, fields, check, send: (values) => sendRepayment(told, values)});
@@ -147,10 +158,10 @@ function asked(doubt, {amount}) {
     return doubt && {doubts: doubtWords(doubt), action: say("do.repayment.sure", {amount: showMoney(amount)})};
 }
 
-async function sendRepayment({loan}, {reason, ...repayment}) {
+async function sendRepayment({loan}, repayment) {
     desk.keepReceipt(loan, repayment.receipt);
     try {
-        await repay(loan, reason === "" ? repayment : {...repayment, reason});
+        await repay(loan, withoutEmpty(repayment));
     } catch (problem) {
         if (problem.fault === "F15") {
             desk.endReceipt(loan);

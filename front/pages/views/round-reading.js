@@ -14,18 +14,10 @@ import {
 } from "../shared/desk.js";
 import {daysBetween} from "../shared/days.js";
 import {sum} from "../shared/money.js";
-import {draftsOf, endDraft} from "../shared/drafts.js";
+import {draftsOf, endDraft, NO_DRAFT} from "../shared/drafts.js";
 import {isAskedFor} from "../shared/institution.js";
 import {knownOf} from "../shared/repayments.js";
 import {nextReceipt, paymentsOf} from "./round-receipts.js";
-
-const NOTHING_TYPED = {
-    text: "",
-    cents: null,
-    collector: "",
-    result: null,
-    why: ""
-};
 
 // Answers the lines, how many loans have too little due to be asked for, and the loans that have no line.
 export async function readRound(office, day) {
@@ -57,7 +49,7 @@ async function readLine(place, instalments, draft) {
     if (isEntered) {
         endDraft(place);  // its reply was lost, or another entered the same payment of this round
     }
-    const kept = isEntered || draft === undefined ? {...NOTHING_TYPED, receipt: null} : draft;
+    const kept = isEntered || draft === undefined ? NO_DRAFT : draft;
     return {
         ...place,
         name: await clientName(told.client),

@@ -4,7 +4,7 @@ import {renewDay, session} from "../shared/session.js";
 import {asTree, entries as readEntries, loan as readLoan, offices} from "../shared/desk.js";
 import {daysBetween, isDay} from "../shared/days.js";
 import {sum} from "../shared/money.js";
-import {draftsOf, endDraft, keepDraft, throwAway, whenDraftsChange} from "../shared/drafts.js";
+import {draftsOf, endDraft, keepDraft, NO_DRAFT, throwAway, whenDraftsChange} from "../shared/drafts.js";
 import {doubtsOf, doubtWords, knownOf, OLD_DAYS} from "../shared/repayments.js";
 import {say, sayCount, showCount, showDay, showMoney} from "../shared/words.js";
 import {officeChoice, pageHead} from "../shared/tables.js";
@@ -57,7 +57,7 @@ function takeDrafts(made, loan) {
     for (const line of made.lines.filter((one) => (loan === undefined || one.loan === loan) && !one.isWriting)) {
         const draft = drafts.get(line.loan);
         const isGone = draft === undefined && line.text !== "" && !line.isSending;
-        Object.assign(line, draft ?? {text: "", cents: null, result: null, why: ""});
+        Object.assign(line, draft ?? NO_DRAFT, {receipt: draft?.receipt ?? nextReceipt(line, line.payments)});
         made.table.show(line);
         if (isGone) {  // entered or thrown away in another tab
             renew(made, line).catch(() => {});
