@@ -171,7 +171,7 @@ class Installed(unittest.TestCase):
         said = self.root.run("microloan-backup")
         self.assertIn("business day 2026-11-27, 1 clients, 0 loans, 0 entries", said)
         backup = said.split(": ")[0]
-        self.assertEqual(self.modes(backup)[backup], "600 microloan:microloan")
+        self.assertEqual(self.modes(backup)[backup], "600 root:root")
         self.assertIn("amina 1/1 200 PUT /api/business-day", self.root.run("microloan-who day"))
         # a rotated log is read too, and what comes after it goes into the new one
         self.root.run("logrotate --force /etc/logrotate.d/microloan")
