@@ -7,7 +7,7 @@ import roots
 
 PACKAGES = (
     "slapd slapd-contrib lemonldap-ng-fastcgi-server liblemonldap-ng-portal-perl libnet-ldap-perl"
-    " libio-socket-timeout-perl libunicode-string-perl libconvert-base32-perl python3-ldap curl openssl"
+    " libio-socket-timeout-perl libunicode-string-perl libconvert-base32-perl libdigest-hmac-perl python3-ldap curl openssl"
 )
 FIRST, OWN = "a first word of amina", "amina has her own word"
 UNITS = ("microloan-directory", "microloan-engine", "microloan-passwords")
