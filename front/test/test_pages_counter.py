@@ -207,6 +207,7 @@ class SharedRounds(loans.Case):
             self.assertEqual(it.send("tom", "GET", "/api/loans/0002-000001")[1]["status"], 600)
             zoe.go(ROUND)
             zoe.wait(lambda: "1,020.00 entered by 2/3" in zoe.text("main"), "what was entered")
+            self.assertNotIn("Further payment", zoe.text("main"), "nothing is left to pay")
 
     def test_collector_of_each_amount(self):
         """Who is named when an amount is typed collected it."""

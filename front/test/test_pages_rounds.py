@@ -102,6 +102,7 @@ class Rounds(loans.Case):
             for field, text in zip(fields, ("1,000", "20", "1,0", "1.5")):
                 field.send_keys(text)
             self.assertIn("is-invalid", fields[2].get_attribute("class"))
+            self.assertIn("Type an amount as 1,234.56", tom.text("main"))
             it.send("ruth", "POST", "/api/loans/0002-000002/write-off")
             tom.press("Enter 3 repayments")
             tom.wait_for_dialog("20.00 is more than the 0.00 that is left to pay.")

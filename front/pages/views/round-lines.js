@@ -162,10 +162,13 @@ function resultNodes(line, desk) {
     const isRefused = line.result !== null && line.result.startsWith("F");
     const words = line.cents !== null && isRefused ? say("round.further-with", {amount: showMoney(line.cents)}) :
                                                      say("round.further");
-    const mayAdd = standing.length > 0 && !desk.isEarly && (!isOpen(line) || line.result === "F15");
+    const mayAdd =
+        standing.length > 0 && line.owed > 0n && !desk.isEarly && (!isOpen(line) || line.result === "F15");
     const further = mayAdd &&
         button(words, () => desk.further(line), {class: "btn btn-sm btn-outline-primary", disabled: line.isLocked});
-    return [...paid, line.isSending ? say("sending") : ofLine(line.result), further].filter(Boolean);
+    const wrong = line.text !== "" && line.cents === null &&
+        element("div", {class: "line-refusal"}, say("field.money.wrong", {example: showMoney(123456n)}));
+    return [...paid, line.isSending ? say("sending") : ofLine(line.result), wrong, further].filter(Boolean);
 }
 
 function ofLine(result) {
