@@ -209,6 +209,22 @@ class SharedRounds(loans.Case):
             zoe.wait(lambda: "1,020.00 entered by 2/3" in zoe.text("main"), "what was entered")
             self.assertNotIn("Further payment", zoe.text("main"), "nothing is left to pay")
 
+    def test_lines_stay_where_others_cannot_be_read(self):
+        """The connection is lost while loans are looked at that are no longer due: the lines and what is typed stay."""
+        paid = b'2/3 POST /loans/0002-000001/repayments {"amount":68333,"day":"2024-03-31"}\n'
+        with loans.desk_with(rounds.FORTY + paid) as it:
+            tom = self.reader(it, "tom")
+            tom.script(
+                "const real = window.fetch; window.fetch = async (url, options) => {"
+                "if (url.endsWith('/loans/0002-000001/entries')) throw new TypeError('lost'); return real(url, options); }"
+            )
+            tom.script(f"location.hash = '#/{ROUND}'")
+            tom.wait(lambda: len(tom.all(".paid-field")) == rounds.COUNT - 1, "the lines")
+            self.field(tom, 1).send_keys("5")
+            tom.wait(lambda: "The connection was lost" in tom.text("main") or tom.all("main .alert"), "the refusal")
+            self.assertEqual(self.field(tom, 1).get_attribute("value"), "5")
+            self.assertEqual(len(tom.all(".paid-field")), rounds.COUNT - 1)
+
     def test_collector_of_each_amount(self):
         """Who is named when an amount is typed collected it."""
         with loans.desk_with(rounds.FORTY) as it:

@@ -10,6 +10,7 @@ import {say, sayCount, showCount, showDay, showMoney} from "../shared/words.js";
 import {officeChoice, pageHead} from "../shared/tables.js";
 import {choiceField, dayField, reasonField, textField} from "../shared/forms.js";
 import {ask} from "../shared/dialogs.js";
+import {refusalBox} from "../shared/refusals.js";
 import {isOpen, lineTable, sumsByCollector} from "./round-lines.js";
 import {readOthers, readRound} from "./round-reading.js";
 import {nextReceipt, paymentsOf} from "./round-receipts.js";
@@ -54,9 +55,10 @@ function followDrafts(made) {
 
 function takeDrafts(made, loan) {
     const drafts = draftsOf(made.office, made.day);
-    for (const line of made.lines.filter((one) => (loan === undefined || one.loan === loan) && !one.isWriting)) {
+    const isMeant = (line) => (loan === undefined || line.loan === loan) && !line.isWriting && !line.isLocked;
+    for (const line of made.lines.filter(isMeant)) {
         const draft = drafts.get(line.loan);
-        const isGone = draft === undefined && line.text !== "" && !line.isSending;
+        const isGone = draft === undefined && line.text !== "";
         Object.assign(line, draft ?? NO_DRAFT, {receipt: draft?.receipt ?? nextReceipt(line, line.payments)});
         made.table.show(line);
         if (isGone) {  // entered or thrown away in another tab
@@ -155,9 +157,10 @@ function arrangement(made) {
     return element("div", {class: "filters d-print-none"}, find, order.node, made.isEarly ? null : made.collector.node);
 }
 
-// What this round has of loans that are no longer due is looked for once its lines are shown.
+// What this round has of loans that are no longer due is looked for once its lines are shown, which stay where that
+// fails.
 async function addOthers(made) {
-    await readOthers(made, (line) => {
+    const found = (line) => {
         made.lines.push(line);
         if (made.table === undefined) {
             showRound(made);
@@ -165,7 +168,15 @@ async function addOthers(made) {
             made.table.add(line);
             showState(made);
         }
-    });
+    };
+    try {
+        await readOthers(made, found);
+    } catch (problem) {
+        if (made.table === undefined) {
+            throw problem;
+        }
+        fill(made.parts.trouble, refusalBox(problem));
+    }
 }
 
 function readyLines({lines}) {
