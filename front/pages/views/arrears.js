@@ -16,7 +16,7 @@ import {
 } from "../shared/desk.js";
 import {centsOfText, sum} from "../shared/money.js";
 import {daysBetween} from "../shared/days.js";
-import {say, showCount, showDay, showMoney, showPercent} from "../shared/words.js";
+import {say, showCount, showDay, showPercent} from "../shared/words.js";
 import {amount, day, pageHead, row, table} from "../shared/tables.js";
 import {classBars, CLASS_COLOURS} from "../shared/graphs.js";
 

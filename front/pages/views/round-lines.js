@@ -103,25 +103,14 @@ function reasonChoice(line) {
 function lineRow(line, desk) {
     const input = paidField(line);
     const why = reasonChoice(line);
+    const [since, due, owed] = [element("span"), element("span"), element("span")];
     const result = element("div", {class: "line-result", "aria-live": "polite"});
     const receipt = element("span", {class: "receipt"});
-    const due = element("span", {});
-    const owed = element("span", {});
-    const since = element("span", {});
     const show = () => {
-        const isTyped = input.value.trim() === line.text;
-        if (!isTyped) {
-            input.value = line.text;
-        }
-        why.value = line.why;
-        const isWrong = line.text !== "" && line.cents === null;
-        input.classList.toggle("is-invalid", isWrong);
-        input.setAttribute("aria-invalid", String(isWrong));
-        input.readOnly = desk.isEarly || line.isLocked || !isOpen(line);
-        why.disabled = input.readOnly;
+        showField(line, desk, input, why);
+        fill(since, sinceNodes(line));
         due.textContent = showMoney(line.due);
         owed.textContent = showMoney(line.owed);
-        fill(since, sinceNodes(line));
         receipt.textContent = isOpen(line) ? line.receipt : "";
         result.replaceChildren(...resultNodes(line, desk));
     };
@@ -143,6 +132,18 @@ function lineRow(line, desk) {
         {number: due}, {number: owed}, {number: input}, why, [result, receipt]
     ]);
     return {tr, show, type, focus: () => input.focus()};
+}
+
+function showField(line, desk, input, why) {
+    if (input.value.trim() !== line.text) {
+        input.value = line.text;
+    }
+    const isWrong = line.text !== "" && line.cents === null;
+    input.classList.toggle("is-invalid", isWrong);
+    input.setAttribute("aria-invalid", String(isWrong));
+    input.readOnly = desk.isEarly || line.isLocked || !isOpen(line);
+    why.value = line.why;
+    why.disabled = input.readOnly;
 }
 
 function sinceNodes({since, days, due}) {

@@ -6,7 +6,7 @@ function startOf({office, day, loan}) {
     return `${office}-${day.replaceAll("-", "")}-${loan.slice(5)}`;
 }
 
-export function receiptOf(place, number) {
+function receiptOf(place, number) {
     return number === 1 ? startOf(place) : `${startOf(place)}-${number}`;
 }
 
