@@ -1,5 +1,5 @@
-"""The counter: amounts as they are typed, rounds that several people enter, what was typed and not sent, dialogs and the
-browser's way back. The loans are those of the tests of rounds: 1,000.00 over three months, of which 683.33 are due."""
+"""The counter: amounts as they are typed, rounds that several people enter, what was typed and not sent, dialogs and
+the browser's way back. The loans are those of the tests of rounds: 1,000.00 over three months, 683.33 of it due."""
 import json
 import unittest
 
@@ -45,7 +45,7 @@ class Amounts(loans.Case):
             self.assertEqual(tom.errors(), [])
 
     def test_asked_again(self):
-        """Above what is owed, the same sum again, and a sum that another entered meanwhile; Enter alone sends nothing."""
+        """Above what is owed, the same again, and a sum that another entered meanwhile; Enter alone sends nothing."""
         with loans.desk_with(loans.PAID_OUT) as it:
             tom = self.reader(it, "tom")
             self.dialog(it, tom)
@@ -172,7 +172,7 @@ class SharedRounds(loans.Case):
         who.press(f"Enter {count} repayment" + ("" if count == 1 else "s"))
 
     def test_two_people_one_round(self):
-        """An officer and a teller enter the same lines: each once. Another sum is told, and entered as a further one."""
+        """An officer and a teller enter the same lines: each once. Another sum is told, and entered as a further."""
         with loans.desk_with(rounds.FORTY) as it:
             tom, zoe = self.reader(it, "tom"), self.reader(it, "zoe")
             for who in (tom, zoe):
@@ -216,7 +216,7 @@ class SharedRounds(loans.Case):
             tom = self.reader(it, "tom")
             tom.script(
                 "const real = window.fetch; window.fetch = async (url, options) => {"
-                "if (url.endsWith('/loans/0002-000001/entries')) throw new TypeError('lost'); return real(url, options); }"
+                "if (url.endsWith('/0002-000001/entries')) throw new TypeError('lost'); return real(url, options); }"
             )
             tom.script(f"location.hash = '#/{ROUND}'")
             tom.wait(lambda: len(tom.all(".paid-field")) == rounds.COUNT - 1, "the lines")
@@ -244,8 +244,8 @@ class RoundWork(loans.Case):
     """The round as work: found, ordered, typed line by line, on a phone too."""
 
     def shown(self, who):
-        rows = "return [...document.querySelectorAll('.round-lines tbody tr:not([hidden])')].map((one) => one.cells[1].innerText)"
-        return who.script(rows)
+        rows = "document.querySelectorAll('.round-lines tbody tr:not([hidden])')"
+        return who.script(f"return [...{rows}].map((one) => one.cells[1].innerText)")
 
     def test_found_and_ordered(self):
         lines = rounds.FORTY.replace(b'"name":"Client 7"', b'"name":"Zo\xc3\xa9"') + (

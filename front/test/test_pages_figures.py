@@ -1,4 +1,4 @@
-"""Words and figures: what is overdue, what is handed over, what the institution tells of itself, and what is printed."""
+"""Words and figures: what is overdue, handed over, told by the institution of itself, and printed."""
 import base64
 import json
 import os
@@ -15,7 +15,8 @@ CHARGED = loans.LINES + b"".join(
     b'1/1 POST /charges {"name":"%s","kind":"disbursement","calc":"%s","value":%d}\n' % charge
     + loans.PRODUCT.replace(b'"overdue_charge":2', b'"disbursement_charge":%d' % number)
     + b'2/2 POST /clients {"office":2,"name":"Amina"}\n'
-    + b'2/2 POST /loans {"client":"0002-00000%d","product":%d,"principal":100020,"periods":3}\n' % (number - 2, number - 1)
+    + b'2/2 POST /loans {"client":"0002-00000%d","product":%d,' % (number - 2, number - 1)
+    + b'"principal":100020,"periods":3}\n'
     + b"2/1 POST /loans/0002-00000%d/approve\n" % (number - 2)
     for number, charge in enumerate(
         ((b"Papers", b"percent-of-amount", 250), (b"Visit", b"flat", 1200), (b"Risk", b"percent-of-interest", 500)), 3
