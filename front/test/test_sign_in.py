@@ -1,6 +1,7 @@
 """Tests of the sign-in by sessions: of a person who sees it the first time, of managers, of tools, and of strangers."""
 import json
 import os
+import re
 import subprocess
 import sys
 import time
@@ -169,13 +170,17 @@ class ANewPerson(unittest.TestCase):
         self.wait_for("From now on a code is asked for")
         session = Session("sara")
         self.assertEqual(session.cookie, "")  # the password alone begins none
+        token = re.search('name="token" value="([0-9a-f]+)"', session.reply)[1]
+        self.assertEqual(DESK.send(None, "GET", "/me", fields=[("Cookie", f"desk={token}")])[0], 401)
         self.browser.delete_all_cookies()
         self.browser.get(f"{DESK.url}/#/arrears")
         self.wait_for("Sign in")
         self.type("sara", desk.PASSWORD.format("sara"))
         self.wait_for("The code that your telephone shows")
+        logged = len(DESK.strangers)
         self.type("000000")
         self.wait_for("The code is wrong.")
+        desk_wait(lambda: any(" refused for sara from " in line for line in DESK.strangers[logged:]))
         self.type(code_of(secret))
         desk_wait(lambda: self.browser.current_url == f"{DESK.url}/#/arrears")
         self.assertEqual(people("forget-code", "sara")[0], 0)
@@ -188,6 +193,17 @@ class Sessions(unittest.TestCase):
         session = Session("tom")
         self.assertRegex(session.set_cookie, r"^desk=[0-9a-f]{64}; Path=/; HttpOnly; SameSite=Strict$")
         self.assertEqual(session.ask("GET", "/me"), (200, {"user": "tom", "staff": "2/3", "session": True}))
+
+    def test_a_session_is_never_handed_on(self):
+        """Who signs in where somebody is signed in already gets a session of their own, with another cookie."""
+        tom = Session("tom")
+        form = desk.form_data({"user": "ruth", "password": desk.PASSWORD.format("ruth")})
+        fields = [("Content-Type", desk.FORM), ("X-Desk", "1"), ("Cookie", tom.cookie)]
+        _, answered, _ = DESK.exchange(None, "POST", "/session", form, fields)
+        cookie = answered["Set-Cookie"].split(";")[0]
+        self.assertNotEqual(cookie, tom.cookie)
+        self.assertEqual(DESK.send(None, "GET", "/me", fields=[("Cookie", cookie)])[1]["user"], "ruth")
+        self.assertEqual(tom.ask("GET", "/me")[1]["user"], "tom")
 
     def test_staff_is_the_directorys(self):
         session = Session("tom")
