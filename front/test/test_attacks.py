@@ -191,6 +191,14 @@ class Spelling(OverTheProgram):
         self.assertEqual(sorted("/api" + path for path in passed), sorted(line["path"] for line in DESK.log[logged:]))
         self.assertEqual(len(passed), 4)
 
+    def test_nobody_is_sent_to_another_host(self):
+        """A folder without its slash is answered by a redirect, to the host that was asked."""
+        sent = message("tom", "GET", "/files").replace(b"Host: x", b"Host: evil.example")
+        reply = answered(sent)
+        self.assertEqual(status_of(reply), 301)
+        self.assertIn(b"\r\nLocation: /files/\r\n", reply)
+        self.assertNotIn(b"evil", reply)
+
     def test_each_line_of_the_log_can_be_answered_again(self):
         """The largest message that passes makes a request line that `batch` takes."""
         longest = "/api/" + "/".join(["9" * 64] * 8)

@@ -1,4 +1,5 @@
 """Tests of the sign-in by sessions: of a person who sees it the first time, of managers, of tools, and of strangers."""
+import http.server
 import json
 import os
 import re
@@ -12,7 +13,7 @@ import desk
 import running
 from selenium.webdriver.common.by import By
 from selenium.webdriver.common.keys import Keys
-from test_front import LINES, NORTH, desk_wait
+from test_front import LINES, NORTH, desk_wait, listening
 
 PEOPLE = {"head": "1/1", "ruth": "2/1", "tom": "2/3", "sami": "3/1"}
 PEOPLE_SCRIPT = os.path.join(running.FRONT, "people")
@@ -236,6 +237,32 @@ class Sessions(unittest.TestCase):
                 sent = [("Cookie", session.cookie), *fields]
                 self.assertEqual(DESK.send(None, "POST", path, b"", sent), (403, {"front": "origin"}))
         self.assertTrue(session.is_on())
+
+    def test_a_page_of_another_site_reads_nothing_as_the_person(self):
+        """The browser doesn't send the cookie along, so that the log has nothing under the person's name."""
+        page = f"<!doctype html><img src='{DESK.url}/api/charges/777'><img src='{DESK.url}/me'>".encode()
+
+        class Handler(http.server.BaseHTTPRequestHandler):
+            def do_GET(self):
+                self.send_response(200)
+                self.send_header("Content-Type", "text/html")
+                self.end_headers()
+                self.wfile.write(page)
+
+            def log_message(self, *_):
+                """No line on standard error."""
+
+        browser = DESK.browser("sami")
+        desk_wait(lambda: any(line["user"] == "sami" for line in DESK.log))
+        with listening(Handler) as port:
+            asked = len(DESK.strangers)
+            browser.get(f"http://localhost:{port}/")
+            desk_wait(lambda: sum("nobody for ?" in line for line in DESK.strangers[asked:]) >= 2)
+        self.assertEqual([line for line in DESK.log if line["path"] == "/api/charges/777"], [])
+
+    def test_what_stands_behind_a_password_counts(self):
+        for more in ("\0", "\0more", " ", "x"):
+            self.assertEqual(Session("tom", desk.PASSWORD.format("tom") + more).cookie, "")
 
     def test_sign_out_ends_it_at_once(self):
         session, other = Session("tom"), Session("tom")
