@@ -410,6 +410,15 @@ class Guessing(unittest.TestCase):
         self.assertEqual(found.stdout, "")
 
 
+class TheSameAttacks(unittest.TestCase):
+    def test_attacks(self):
+        """What test_attacks tries over Basic, tried over sessions."""
+        words = [sys.executable, os.path.join(os.path.dirname(__file__), "run"), "test_attacks"]
+        settings = os.environ | {"MICROLOAN_SIGN_IN": "sessions"}
+        done = subprocess.run(words, env=settings, capture_output=True, text=True, check=False)
+        self.assertEqual(done.returncode, 0, done.stdout)
+
+
 class TheEngineIsDown(unittest.TestCase):
     def test_it_is_told(self):
         with desk.Desk(lines=LINES, people={"tom": "2/3"}, sessions=True) as it:
