@@ -48,12 +48,12 @@ def connected(address="127.0.0.1", at=None):
     return socket.create_connection(("127.0.0.1", (at or DESK).nginx.port), timeout=30, source_address=(address, 0))
 
 
-def answered(data, address="127.0.0.1", at=None):
+def answered(data, address="127.0.0.1", at=None, patience=2):
     """What the front answers to bytes, also where it keeps the connection or waits for more."""
     with connected(address, at) as client:
         with contextlib.suppress(BrokenPipeError, ConnectionResetError):
             client.sendall(data)
-        client.settimeout(2)
+        client.settimeout(patience)
         found = b""
         with contextlib.suppress(ConnectionResetError, TimeoutError):
             while more := client.recv(65536):
@@ -299,7 +299,7 @@ def median_time(name, address="127.0.0.1", count=60):
     times = []
     for _ in range(count):
         began = time.perf_counter()
-        reply = answered(message(name, "GET", "/api/offices"), address)
+        reply = answered(message(name, "GET", "/api/offices"), address, patience=30)
         times.append(time.perf_counter() - began)
         if status_of(reply) != 200:
             raise AssertionError(f"{name} was answered {reply[:200]}")
