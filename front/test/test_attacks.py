@@ -48,12 +48,12 @@ def connected(address="127.0.0.1", at=None):
     return socket.create_connection(("127.0.0.1", (at or DESK).nginx.port), timeout=30, source_address=(address, 0))
 
 
-def answered(data, address="127.0.0.1", at=None):
+def answered(data, address="127.0.0.1", at=None, patience=2):
     """What the front answers to bytes, also where it keeps the connection or waits for more."""
     with connected(address, at) as client:
         with contextlib.suppress(BrokenPipeError, ConnectionResetError):
             client.sendall(data)
-        client.settimeout(2)
+        client.settimeout(patience)
         found = b""
         with contextlib.suppress(ConnectionResetError, TimeoutError):
             while more := client.recv(65536):
@@ -191,6 +191,14 @@ class Spelling(OverTheProgram):
         self.assertEqual(sorted("/api" + path for path in passed), sorted(line["path"] for line in DESK.log[logged:]))
         self.assertEqual(len(passed), 4)
 
+    def test_nobody_is_sent_to_another_host(self):
+        """A folder without its slash is answered by a redirect, to the host that was asked."""
+        sent = message("tom", "GET", "/files").replace(b"Host: x", b"Host: evil.example")
+        reply = answered(sent)
+        self.assertEqual(status_of(reply), 301)
+        self.assertIn(b"\r\nLocation: /files/\r\n", reply)
+        self.assertNotIn(b"evil", reply)
+
     def test_each_line_of_the_log_can_be_answered_again(self):
         """The largest message that passes makes a request line that `batch` takes."""
         longest = "/api/" + "/".join(["9" * 64] * 8)
@@ -291,7 +299,7 @@ def median_time(name, address="127.0.0.1", count=60):
     times = []
     for _ in range(count):
         began = time.perf_counter()
-        reply = answered(message(name, "GET", "/api/offices"), address)
+        reply = answered(message(name, "GET", "/api/offices"), address, patience=30)
         times.append(time.perf_counter() - began)
         if status_of(reply) != 200:
             raise AssertionError(f"{name} was answered {reply[:200]}")

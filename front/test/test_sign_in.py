@@ -1,6 +1,8 @@
 """Tests of the sign-in by sessions: of a person who sees it the first time, of managers, of tools, and of strangers."""
+import http.server
 import json
 import os
+import re
 import subprocess
 import sys
 import time
@@ -11,7 +13,7 @@ import desk
 import running
 from selenium.webdriver.common.by import By
 from selenium.webdriver.common.keys import Keys
-from test_front import LINES, NORTH, desk_wait
+from test_front import LINES, NORTH, desk_wait, listening
 
 PEOPLE = {"head": "1/1", "ruth": "2/1", "tom": "2/3", "sami": "3/1"}
 PEOPLE_SCRIPT = os.path.join(running.FRONT, "people")
@@ -169,13 +171,17 @@ class ANewPerson(unittest.TestCase):
         self.wait_for("From now on a code is asked for")
         session = Session("sara")
         self.assertEqual(session.cookie, "")  # the password alone begins none
+        token = re.search('name="token" value="([0-9a-f]+)"', session.reply)[1]
+        self.assertEqual(DESK.send(None, "GET", "/me", fields=[("Cookie", f"desk={token}")])[0], 401)
         self.browser.delete_all_cookies()
         self.browser.get(f"{DESK.url}/#/arrears")
         self.wait_for("Sign in")
         self.type("sara", desk.PASSWORD.format("sara"))
         self.wait_for("The code that your telephone shows")
+        logged = len(DESK.strangers)
         self.type("000000")
         self.wait_for("The code is wrong.")
+        desk_wait(lambda: any(" refused for sara from " in line for line in DESK.strangers[logged:]))
         self.type(code_of(secret))
         desk_wait(lambda: self.browser.current_url == f"{DESK.url}/#/arrears")
         self.assertEqual(people("forget-code", "sara")[0], 0)
@@ -188,6 +194,17 @@ class Sessions(unittest.TestCase):
         session = Session("tom")
         self.assertRegex(session.set_cookie, r"^desk=[0-9a-f]{64}; Path=/; HttpOnly; SameSite=Strict$")
         self.assertEqual(session.ask("GET", "/me"), (200, {"user": "tom", "staff": "2/3", "session": True}))
+
+    def test_a_session_is_never_handed_on(self):
+        """Who signs in where somebody is signed in already gets a session of their own, with another cookie."""
+        tom = Session("tom")
+        form = desk.form_data({"user": "ruth", "password": desk.PASSWORD.format("ruth")})
+        fields = [("Content-Type", desk.FORM), ("X-Desk", "1"), ("Cookie", tom.cookie)]
+        _, answered, _ = DESK.exchange(None, "POST", "/session", form, fields)
+        cookie = answered["Set-Cookie"].split(";")[0]
+        self.assertNotEqual(cookie, tom.cookie)
+        self.assertEqual(DESK.send(None, "GET", "/me", fields=[("Cookie", cookie)])[1]["user"], "ruth")
+        self.assertEqual(tom.ask("GET", "/me")[1]["user"], "tom")
 
     def test_staff_is_the_directorys(self):
         session = Session("tom")
@@ -220,6 +237,32 @@ class Sessions(unittest.TestCase):
                 sent = [("Cookie", session.cookie), *fields]
                 self.assertEqual(DESK.send(None, "POST", path, b"", sent), (403, {"front": "origin"}))
         self.assertTrue(session.is_on())
+
+    def test_a_page_of_another_site_reads_nothing_as_the_person(self):
+        """The browser doesn't send the cookie along, so that the log has nothing under the person's name."""
+        page = f"<!doctype html><img src='{DESK.url}/api/charges/777'><img src='{DESK.url}/me'>".encode()
+
+        class Handler(http.server.BaseHTTPRequestHandler):
+            def do_GET(self):
+                self.send_response(200)
+                self.send_header("Content-Type", "text/html")
+                self.end_headers()
+                self.wfile.write(page)
+
+            def log_message(self, *_):
+                """No line on standard error."""
+
+        browser = DESK.browser("sami")
+        desk_wait(lambda: any(line["user"] == "sami" for line in DESK.log))
+        with listening(Handler) as port:
+            asked = len(DESK.strangers)
+            browser.get(f"http://localhost:{port}/")
+            desk_wait(lambda: sum("nobody for ?" in line for line in DESK.strangers[asked:]) >= 2)
+        self.assertEqual([line for line in DESK.log if line["path"] == "/api/charges/777"], [])
+
+    def test_what_stands_behind_a_password_counts(self):
+        for more in ("\0", "\0more", " ", "x"):
+            self.assertEqual(Session("tom", desk.PASSWORD.format("tom") + more).cookie, "")
 
     def test_sign_out_ends_it_at_once(self):
         session, other = Session("tom"), Session("tom")
@@ -365,6 +408,15 @@ class Guessing(unittest.TestCase):
             ["grep", "-rlE", "a-wrong-word-to-find|password-of-tom", DESK.folder], capture_output=True, text=True, check=False
         )
         self.assertEqual(found.stdout, "")
+
+
+class TheSameAttacks(unittest.TestCase):
+    def test_attacks(self):
+        """What test_attacks tries over Basic, tried over sessions."""
+        words = [sys.executable, os.path.join(os.path.dirname(__file__), "run"), "test_attacks"]
+        settings = os.environ | {"MICROLOAN_SIGN_IN": "sessions"}
+        done = subprocess.run(words, env=settings, capture_output=True, text=True, check=False)
+        self.assertEqual(done.returncode, 0, done.stdout)
 
 
 class TheEngineIsDown(unittest.TestCase):

@@ -262,15 +262,15 @@ class Who(unittest.TestCase):
         DESK.send("paulo", "POST", f"/api/loans/{loan}/approve")
         DESK.send("paulo", "POST", f"/api/loans/{loan}/disburse", {"day": "2026-09-30"})
         DESK.send("zoe", "POST", "/api/clients", {"office": 99, "name": name})
-        DESK.send("paulo", "POST", f"/api/loans/{loan}/reject", password="wrong")
+        DESK.send("paulo", "POST", f"/api/loans/{loan}/reject", password="wrong")  # in the log of strangers alone
         approved = f"paulo 21/1 200 POST /api/loans/{loan}/approve"
-        desk_wait(lambda: DESK.log[-1]["status"] == 401)
+        desk_wait(lambda: '"office": 99' in DESK.log[-1]["body"])
         self.assertEqual(who("approve", "--loan", loan), [approved])
         paid = f'paulo 21/1 200 POST /api/loans/{loan}/disburse {{"day": "2026-09-30"}}'
         self.assertEqual(who("--loan", loan), [approved, paid])
         self.assertEqual(who("pay-out", "--user", "paulo", "--loan", loan), [paid])
         self.assertEqual(who("--loan", loan, "--user", "zoe"), [])
-        refused = [f"tom 21/3 403 POST /api/loans/{loan}/approve", f"paulo - 401 POST /api/loans/{loan}/reject"]
+        refused = [f"tom 21/3 403 POST /api/loans/{loan}/approve"]
         self.assertEqual(who("--refused", "--loan", loan), refused)
         self.assertEqual(who("--since", "2099-01-01"), [])
         shown = who("client", "--refused", "--user", "zoe")[-1]

@@ -1,5 +1,5 @@
-// What a person does with their own sign-in, at the top of each page: lock, sign out, own password. Only where the front
-// has sessions: with Basic the browser keeps the password, and nothing ends it.
+// What a person does with their own sign-in, at the top of each page: lock, sign out, own password. Only where the
+// front has sessions: with Basic the browser keeps the password, and nothing ends it.
 import {button, element, link} from "./elements.js";
 import {word} from "../sign-in/words.js";
 
@@ -82,5 +82,7 @@ export function ownActs({hasSession}) {
     const small = "btn btn-sm btn-outline-light";
     return element(
         "div", {class: "d-flex gap-1"}, button(word("lock"), lock, {class: small, id: "lock", title: word("lock.key")}),
-        element("details", {class: "position-relative", id: "own-acts"}, element("summary", {class: small}, word("own-acts")), list));
+        element(
+            "details", {class: "position-relative", id: "own-acts"},
+            element("summary", {class: small}, word("own-acts")), list));
 }

@@ -12,7 +12,8 @@ let user = "";
 function field(label, attributes) {
     const id = freshId("field");
     const input = element("input", {class: "form-control", id, required: true, ...attributes});
-    return {input, node: element("div", {class: "mb-3"}, element("label", {class: "form-label", "for": id}, label), input)};
+    const node = element("div", {class: "mb-3"}, element("label", {class: "form-label", "for": id}, label), input);
+    return {input, node};
 }
 
 function passwordField(label, autocomplete) {
@@ -50,9 +51,10 @@ function form(fields, action, send) {
 function languageChoice() {
     const options = LANGUAGES.map(
         ([name, words]) => element("option", {value: name, selected: name === language, lang: name}, words));
+    const choose = () => chooseLanguage(select.value);
     const select = element(
-        "select", {class: "form-select form-select-sm w-auto", "aria-label": word("language"), onchange: () => chooseLanguage(select.value)},
-        options);
+        "select",
+        {class: "form-select form-select-sm w-auto", "aria-label": word("language"), onchange: choose}, options);
     return select;
 }
 
@@ -108,7 +110,8 @@ function showCode(token, password) {
 }
 
 function newPasswords(before, send) {
-    const fields = [...before, passwordField(word("new"), "new-password"), passwordField(word("again"), "new-password")];
+    const fresh = ["new", "again"].map((key) => passwordField(word(key), "new-password"));
+    const fields = [...before, ...fresh];
     const checked = (...values) => {
         if (values.at(-1) !== values.at(-2)) {
             throw new Refused("differ");
@@ -116,7 +119,8 @@ function newPasswords(before, send) {
         return send(...values);
     };
     return element(
-        "div", {class: "col-md-5"}, form(fields, word("change"), checked), element("p", {class: "form-text mt-3"}, word("rule")));
+        "div", {class: "col-md-5"}, form(fields, word("change"), checked),
+        element("p", {class: "form-text mt-3"}, word("rule")));
 }
 
 function showFirst(old) {
@@ -180,15 +184,25 @@ async function showPeople() {
             own.input.select();
         }
     };
+    show(
+        word("people"), element("div", {class: "col-md-5"}, own.node),
+        element("div", {class: "table-responsive"}, peopleTable(people, act)), back());
+}
+
+function peopleTable(people, act) {
     const small = {class: "btn btn-sm btn-outline-primary me-2"};
-    const rows = people.map((person) => element(
-        "tr", {}, element("td", {}, person.name), element("td", {}, person.staff), element("td", {}, stateOf(person)),
-        element("td", {class: "text-end"}, button(word("reset"), act(person, "/people/reset", "reset.done"), small),
-            person.locked && button(word("unlock"), act(person, "/people/unlock", "unlock.done"), small))));
-    const heads = [word("name"), word("people.staff"), word("people.state"), ""].map((text) => element("th", {scope: "col"}, text));
-    const table = element("table", {class: "table align-middle"}, element("thead", {}, element("tr", {}, heads)),
+    const acts = (person) => [
+        button(word("reset"), act(person, "/people/reset", "reset.done"), small),
+        person.locked && button(word("unlock"), act(person, "/people/unlock", "unlock.done"), small),
+    ];
+    const cells = (person) => [person.name, person.staff, stateOf(person)].map((text) => element("td", {}, text));
+    const rows = people.map(
+        (person) => element("tr", {}, cells(person), element("td", {class: "text-end"}, acts(person))));
+    const titles = [word("name"), word("people.staff"), word("people.state"), ""];
+    const heads = titles.map((text) => element("th", {scope: "col"}, text));
+    return element(
+        "table", {class: "table align-middle"}, element("thead", {}, element("tr", {}, heads)),
         element("tbody", {}, rows));
-    show(word("people"), element("div", {class: "col-md-5"}, own.node), element("div", {class: "table-responsive"}, table), back());
 }
 
 const OWN_PAGES = {"#password": showOwnPassword, "#code": showSecondFactor, "#people": showPeople};

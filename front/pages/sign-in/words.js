@@ -20,7 +20,8 @@ const en = {
     "code.ask": "The code that your telephone shows",
     "code.enter": "Go on",
     "code.title": "A code at each sign-in",
-    "code.why": "With it, a stolen password alone lets nobody in. Enter this key in an app for such codes (TOTP), then type" +
+    "code.why": "With it, a stolen password alone lets nobody in. Enter this key in an app for such codes" +
+        " (TOTP), then type" +
         " the code that it shows.",
     "code.key": "Key",
     "code.open": "Open in the app on this device",
@@ -80,7 +81,8 @@ const fr = {
     "code.ask": "Le code que montre votre téléphone",
     "code.enter": "Continuer",
     "code.title": "Un code à chaque connexion",
-    "code.why": "Ainsi un mot de passe volé ne suffit à personne. Saisissez cette clé dans une application de codes (TOTP), puis" +
+    "code.why": "Ainsi un mot de passe volé ne suffit à personne. Saisissez cette clé dans une application de" +
+        " codes (TOTP), puis" +
         " tapez le code qu’elle montre.",
     "code.key": "Clé",
     "code.open": "Ouvrir dans l’application de cet appareil",
@@ -96,7 +98,8 @@ const fr = {
     "people.own": "Votre propre mot de passe, pour confirmer",
     "reset": "Nouveau mot de passe",
     "unlock": "Débloquer",
-    "reset.done": "Le premier mot de passe de {name} est {password}. Ne le dites à personne d’autre ; il n’est montré qu’une fois.",
+    "reset.done": "Le premier mot de passe de {name} est {password}. Ne le dites à personne d’autre ; il n’est" +
+        " montré qu’une fois.",
     "unlock.done": "{name} peut se connecter de nouveau.",
     "back": "Retour au guichet",
     "out": "Se déconnecter",
@@ -110,7 +113,8 @@ const fr = {
     "told.badCode": "Le code est faux.",
     "told.totpExistingKey": "Un code est déjà demandé. Si le téléphone est perdu, le responsable du système y met fin.",
     "told.password": "Le mot de passe est faux.",
-    "told.locked": "Trop de mots de passe faux. Attendez dix minutes, ou demandez à votre responsable de vous débloquer.",
+    "told.locked": "Trop de mots de passe faux. Attendez dix minutes, ou demandez à votre responsable de vous" +
+        " débloquer.",
     "told.short": "Le nouveau mot de passe a moins de 10 caractères.",
     "told.easy": "Le nouveau mot de passe est facile à deviner.",
     "told.had": "Vous avez déjà eu ce mot de passe.",
@@ -140,7 +144,8 @@ const es = {
     "code.ask": "El código que muestra su teléfono",
     "code.enter": "Seguir",
     "code.title": "Un código cada vez que entra",
-    "code.why": "Así una contraseña robada no basta a nadie. Introduzca esta clave en una aplicación de códigos (TOTP) y escriba" +
+    "code.why": "Así una contraseña robada no basta a nadie. Introduzca esta clave en una aplicación de códigos" +
+        " (TOTP) y escriba" +
         " el código que muestra.",
     "code.key": "Clave",
     "code.open": "Abrir en la aplicación de este aparato",
@@ -170,7 +175,8 @@ const es = {
     "told.badCode": "El código no es correcto.",
     "told.totpExistingKey": "Ya se pide un código. Si perdió el teléfono, quien lleva el sistema lo quita.",
     "told.password": "La contraseña no es correcta.",
-    "told.locked": "Demasiadas contraseñas incorrectas. Espere diez minutos, o pida a su responsable que le desbloquee.",
+    "told.locked": "Demasiadas contraseñas incorrectas. Espere diez minutos, o pida a su responsable que le" +
+        " desbloquee.",
     "told.short": "La contraseña nueva tiene menos de 10 caracteres.",
     "told.easy": "La contraseña nueva es fácil de adivinar.",
     "told.had": "Ya tuvo esa contraseña.",
@@ -200,7 +206,8 @@ const sw = {
     "code.ask": "Msimbo unaoonyeshwa na simu yako",
     "code.enter": "Endelea",
     "code.title": "Msimbo kila unapoingia",
-    "code.why": "Hivyo nywila iliyoibwa haimtoshi mtu. Weka ufunguo huu katika programu ya misimbo (TOTP), kisha andika msimbo" +
+    "code.why": "Hivyo nywila iliyoibwa haimtoshi mtu. Weka ufunguo huu katika programu ya misimbo (TOTP)," +
+        " kisha andika msimbo" +
         " inaouonyesha.",
     "code.key": "Ufunguo",
     "code.open": "Fungua katika programu ya kifaa hiki",
