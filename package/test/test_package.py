@@ -100,7 +100,8 @@ class Installed(unittest.TestCase):
         self.root.run(f"install -d {os.path.dirname(address)}")
         self.root.start(f"systemd-socket-activate --listen={address} {passed_on}")
         self.root.run(f"while ! chmod 660 {address}; do sleep 0.1; done; chgrp www-data {address}")
-        self.wait_until(lambda: ":1FF4 " in self.root.run("cat /proc/net/tcp"))
+        # port 8180, listening
+        self.wait_until(lambda: ":1FF4 00000000:0000 0A" in self.root.run("cat /proc/net/tcp"))
         self.root.run("nginx")
 
     def stop(self):
