@@ -35,8 +35,8 @@ class Check(roots.ServedDesk):
         try:
             yield
         finally:
-            self.root.run("systemctl kill --signal=KILL microloan; systemctl stop microloan microloan-check.timer; true")
-            self.root.run("umount /var/lib/microloan 2>/dev/null; rm -rf /var/lib/microloan /run/microloan-check/state.json")
+            self.root.run("systemctl kill --signal=KILL microloan; systemctl stop microloan microloan-check.timer;"
+                          "umount /var/lib/microloan 2>/dev/null; rm -rf /var/lib/microloan /run/microloan-check/*")
             self.root.run("mv /root/kept-lib /var/lib/microloan; systemctl reset-failed; systemctl start microloan")
 
     def look(self, wanted):
