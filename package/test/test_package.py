@@ -97,7 +97,7 @@ class Installed(unittest.TestCase):
         port = self.root.run("cat /lib/systemd/system/microloan-port.socket")
         address = re.search("ListenStream=(.*)", port)[1]
         passed_on = "/lib/systemd/systemd-socket-proxyd 127.0.0.1:8180"
-        self.root.run(f"install -d {os.path.dirname(address)}")
+        self.root.run(f"install -d {os.path.dirname(address)}; rm -f {address}")
         self.root.start(f"systemd-socket-activate --listen={address} {passed_on}")
         self.root.run(f"while ! chmod 660 {address}; do sleep 0.1; done; chgrp www-data {address}")
         # port 8180, listening
