@@ -12,7 +12,7 @@ from roots import BACKUPS, FILE
 
 LOG = "/var/log/microloan/messages.log"
 OFFSITE = "/etc/microloan/hooks/offsite"
-WITHIN = 70  # seconds in which the institution is told of what is urgent: the check runs each minute
+WITHIN = 60  # seconds in which the institution is told of what is urgent
 MOST_ENTERED = 3000  # clients that are entered until a small disk is full
 
 
@@ -35,8 +35,8 @@ class Check(roots.ServedDesk):
         try:
             yield
         finally:
-            self.root.run("systemctl kill --signal=KILL microloan; systemctl stop microloan microloan-check.timer; true")
-            self.root.run("umount /var/lib/microloan 2>/dev/null; rm -rf /var/lib/microloan /run/microloan-check/state.json")
+            self.root.run("systemctl kill --signal=KILL microloan; systemctl stop microloan microloan-check.timer;"
+                          "umount /var/lib/microloan 2>/dev/null; rm -rf /var/lib/microloan /run/microloan-check/*")
             self.root.run("mv /root/kept-lib /var/lib/microloan; systemctl reset-failed; systemctl start microloan")
 
     def look(self, wanted):
@@ -130,7 +130,8 @@ class Check(roots.ServedDesk):
                 commands = text.replace("\\\n", "").replace("$ sudo ", "").strip().splitlines()
                 self.assertEqual(len(commands), 6)
                 for command in commands:
-                    self.root.run(f"{command} || test '{command[:22]}' = 'systemctl stop microlo'")
+                    # a stop may fail, since the file isn't there
+                    self.root.run(f"{command}; true" if command == "systemctl stop microloan" else command)
                 self.assertEqual([self.name_of(it) for it in clients], names)
 
     def test_a_log_that_is_replaced_or_cut_short(self):

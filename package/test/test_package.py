@@ -97,10 +97,11 @@ class Installed(unittest.TestCase):
         port = self.root.run("cat /lib/systemd/system/microloan-port.socket")
         address = re.search("ListenStream=(.*)", port)[1]
         passed_on = "/lib/systemd/systemd-socket-proxyd 127.0.0.1:8180"
-        self.root.run(f"install -d {os.path.dirname(address)}")
+        self.root.run(f"install -d {os.path.dirname(address)}; rm -f {address}")
         self.root.start(f"systemd-socket-activate --listen={address} {passed_on}")
         self.root.run(f"while ! chmod 660 {address}; do sleep 0.1; done; chgrp www-data {address}")
-        self.wait_until(lambda: ":1FF4 " in self.root.run("cat /proc/net/tcp"))
+        # port 8180, listening
+        self.wait_until(lambda: ":1FF4 00000000:0000 0A" in self.root.run("cat /proc/net/tcp"))
         self.root.run("nginx")
 
     def stop(self):
@@ -124,7 +125,8 @@ class Installed(unittest.TestCase):
         said = self.install()
         self.assertIn("microloan: now run microloan-setup, as root", said)
         self.assertEqual(self.root.run("pidof microloan nginx", wanted=1), "")
-        self.assertEqual(self.root.run("systemd-analyze verify --man=no /lib/systemd/system/microloan*[^@].*"), "")
+        units = "$(ls -d /lib/systemd/system/microloan*.* | grep -v @)"
+        self.assertEqual(self.root.run(f"systemd-analyze verify --man=no {units}"), "")
         said = self.root.run("microloan-setup --user amina --day 2026-11-26", given=PASSWORD + "\n")
         self.assertIn("its business day is 2026-11-26", said)
         self.assertIn("amina signs in as 1/1", said)

@@ -34,6 +34,7 @@ class Sessions(roots.ServedDesk):
         self.signs_in_and_is_let_in_by_the_tools()
         self.keeps_people()
         self.answers_by_tls()
+        self.comes_back_with_a_backup()
 
     def signs_in_and_is_let_in_by_the_tools(self):
         status, head, _ = self.post("/session", {"user": "amina", "password": OWN})
@@ -63,6 +64,17 @@ class Sessions(roots.ServedDesk):
         self.assertIn("all", self.root.run(report, given=OWN + "\n"))
         shown = self.root.run("curl -s -o /dev/null -w '%{http_code} %{redirect_url}' http://desk.example.org/x")
         self.assertEqual(shown, "301 https://desk.example.org/x")
+
+    def comes_back_with_a_backup(self):
+        """The directory is lost; the backup has the people, their own passwords and what the engine needs."""
+        self.root.run("systemctl start microloan-backup")
+        self.root.run("systemctl stop microloan " + " ".join(UNITS) + "; rm -rf /var/lib/microloan-signin")
+        said = self.root.run("microloan-restore --whole")
+        self.assertIn("the people, the settings and the hooks of the backup are in place", said)
+        self.root.run("microloan-setup --sessions")
+        self.assertEqual(self.root.run("microloan-people list"), "amina 1/1\n")
+        report = "setpriv --reuid=nobody --regid=nogroup --clear-groups microloan-report --user amina"
+        self.wait_until(lambda: "all" in self.root.run(f"{report} 2>&1; true", given=OWN + "\n"))
 
 
 if __name__ == "__main__":

@@ -102,6 +102,19 @@ class Unit(roots.ServedDesk):
         self.assertGreater(int(self.shown("NRestarts")["NRestarts"]), 3)
         self.wait_until(lambda: "microloan: failed" in self.told())
 
+    def test_the_hook_that_tells(self):
+        hook = "/etc/microloan/hooks/alert"
+        self.root.run("microloan-alert --try")
+        self.assertRegex(self.told(), "microloan: this is a test\n$")
+        self.root.run("microloan-alert microloan-check 'a line'")
+        self.assertRegex(self.told(), "microloan-check: a line\n$")
+        self.root.run(f"chmod o+w {hook}; truncate -s 0 /root/told")
+        self.assertIn("can be written by others than root", self.root.run("microloan-alert --try", wanted=1))
+        self.assertEqual(self.told(), "")
+        self.root.run(f"chmod 755 {hook}; mv {hook} {hook}.kept")
+        self.assertIn("nobody was told", self.root.run("microloan-alert --try", wanted=1))
+        self.root.run(f"mv {hook}.kept {hook}")
+
     def test_thirty_starts(self):
         """Started thirty times it is there each time: whether the program still runs is never mistaken."""
         for _ in range(6):

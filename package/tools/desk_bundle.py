@@ -6,13 +6,14 @@ The folder of the keys is root's alone:
     sign.key, sign.pub the pair of minisign by which bundles are signed
 
 A bundle holds, in this order: desk.json (when and where it was made, what it holds, its place in the log), desk.db,
-then the settings as etc/.., and the log as log/.. .
+then the settings as etc/.., the people of the sign-in by sessions as sign-in/.., and the log as log/.. .
 """
 import contextlib
 import gzip
 import io
 import json
 import os
+import pwd
 import re
 import stat
 import subprocess
@@ -20,6 +21,7 @@ import tarfile
 
 KEYS = "/etc/microloan/keys"
 LOG_FOLDER = "log/"
+SIGN_IN = "/var/lib/microloan-signin"
 SETTINGS = ("/etc/microloan", "/etc/microloan-client", "/etc/nginx/sites-available/microloan")
 RECIPIENT = re.compile(r"age1[0-9a-z]{20,}")
 
@@ -135,6 +137,21 @@ def add_settings(tar, keys):
         for name in names:
             if not os.path.islink(name):
                 add_file(tar, name.lstrip("/"), name)
+
+
+def add_sign_in(tar):
+    """Puts the people of the sign-in by sessions into a tar file: their directory as text, secrets, second factors."""
+    settings = os.path.join(SIGN_IN, "slapd.conf")
+    if not os.path.exists(settings):
+        return
+    owner = pwd.getpwuid(os.stat(settings).st_uid).pw_name
+    people = run("setpriv", f"--reuid={owner}", f"--regid={owner}", "--clear-groups", "slapcat", "-f", settings)
+    add_text(tar, "sign-in/people.ldif", people + "\n")
+    codes = os.path.join(SIGN_IN, "engine", "codes")
+    names = ["portal.word", "key.word"] + [f"engine/codes/{name}" for name in sorted(os.listdir(codes))]
+    for name in names:
+        if os.path.isfile(os.path.join(SIGN_IN, name)):
+            add_file(tar, f"sign-in/{name}", os.path.join(SIGN_IN, name))
 
 
 def sign(path, keys, comment):

@@ -1,9 +1,10 @@
 """Answers the messages of the front's log once more over a copy of an institution, and compares the statuses.
 
 A message is a mapping: `line` the request line, `status` what was answered then, `lost` whether no reply of the
-program's is known or that was F20, `given_up` whether it was F20, `moment`, `who`, and `where` it stands. A lost one may
-have been carried out or not. What comes after it tells: the numbers that the program gives, and the receipts that it
-knows, depend on it. F20 says that it wasn't, but the disk may have kept the one commit whose fault has shut the program.
+program's is known or that was F20, `given_up` whether it was F20, `moment`, `who`, and `where` it stands. A lost one
+may have been carried out or not. What comes after it tells: the numbers that the program gives, and the receipts that
+it knows, depend on it. F20 says that it wasn't, but the disk may have kept the one commit whose fault has shut the
+program.
 """
 import dataclasses
 import json
@@ -113,7 +114,7 @@ def run_of_lost(messages, number):
 
 
 def settle(program, path, messages, number, count):
-    """Which of some lost messages was carried out; None for none of them. Where what follows doesn't tell, it is Untold.
+    """Which of some lost messages was carried out; None for none of them. Where what follows doesn't tell: Untold.
 
     The program answers one message after the other: of those that were lost together at most one was in hand.
     """
