@@ -1,0 +1,32 @@
+//! Laws of journals. Each function does nothing: its contract is the law.
+
+ghost use Rattle.std.specs.Prelude.{◌≡◌, ◌⊎◌, ℕ, List, [], ◌∷◌, length};
+ghost use Rattle.mf_model.specs.Institution.{Institution, newly_made};
+ghost use Rattle.mf_model.specs.Run.{Line, last};
+ghost use Rattle.mf_journal.specs.Chain.{JournalLine, IsJournalLine, AreJournalLines, IsCollision, text_of_line, chain};
+ghost use Rattle.mf_journal.specs.Journal.{lines_of, IsPlayOf};
+ghost use Rattle.mf_journal.specs.WorkedJournal.{morning, of_morning};
+
+/// No two lines of a journal have one text.
+pub fn one_text_one_line()
+    ensures { (a b : JournalLine) → IsJournalLine a → IsJournalLine b → text_of_line a ≡ text_of_line b → a ≡ b }
+{}
+
+/// Two journals with the same chain after equally many lines began alike and have the same lines, or two different
+/// texts with one SHA-256 are found. So a chain that was noted down tells all lines up to it.
+pub fn one_chain_one_journal()
+    ensures { (f g : List ℕ) (xs ys : List JournalLine) → length f ≡ length g → AreJournalLines xs
+        → AreJournalLines ys → length xs ≡ length ys → chain f xs ≡ chain g ys →
+        ((f ≡ g) × (xs ≡ ys)) ⊎ ((s : List ℕ) × (t : List ℕ) × IsCollision s t) }
+{}
+
+/// What any run leaves of an institution is the play of the run's journal: its accepted writes alone, again accepted,
+/// on the same days and with the same replies.
+pub fn journal_replays()
+    ensures { (i : Institution) (run : List Line) → IsPlayOf (lines_of run i) i (last run i) }
+{}
+
+/// Worked out: what is read, refused or given up has no line of the journal.
+pub fn worked_journal()
+    ensures { (day : ℕ) → lines_of morning (newly_made day) ≡ of_morning day }
+{}

@@ -1,0 +1,7 @@
+//! The journal of an institution: what it is, the text of a line, and the chain that ties a line to those before it.
+#![tactic(auto)]
+
+pub mod chain;
+pub mod laws;
+
+pub use chain::{JournalRow, link};
