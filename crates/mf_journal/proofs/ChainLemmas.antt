@@ -8,7 +8,7 @@ use Rattle.std.proofs.lemmas.Bool.{cases_eq}
 use Rattle.std.proofs.lemmas.Nat.{from_be_bytes-to_be_bytes_8}
 use Rattle.sha2.proofs.Facts256.{length-sha256}
 use Rattle.mf_journal.specs.Chain.{JournalLine, IsJournalLine, AreJournalLines, IsCollision, number_text, bytes_text}
-use Rattle.mf_journal.specs.Chain.{text_of_line, link, chain}
+use Rattle.mf_journal.specs.Chain.{text_of_line, link, chain_after}
 
 -- two texts that are cut at one length
 cut : (a b c d : List ℕ) → length a ≡ length c → a ++ b ≡ c ++ d → (a ≡ c) × (b ≡ d)
@@ -78,7 +78,7 @@ same_or_not (x ∷ xs) (y ∷ ys) = elim (cases_eq x y) [
 
 -- what two equal chains tell: the same beginning and the same lines, or two texts with one digest
 pub one_chain : (f g : List ℕ) (xs ys : List JournalLine) → length f ≡ length g → AreJournalLines xs
-    → AreJournalLines ys → length xs ≡ length ys → chain f xs ≡ chain g ys
+    → AreJournalLines ys → length xs ≡ length ys → chain_after f xs ≡ chain_after g ys
     → ((f ≡ g) × (xs ≡ ys)) ⊎ ((s : List ℕ) × (t : List ℕ) × IsCollision s t)
 one_chain f g [] [] size are others number e = inl (e, refl)
 one_chain f g [] (y ∷ ys) size are others number e = absurd (omega (arith, number))

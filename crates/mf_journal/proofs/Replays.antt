@@ -6,7 +6,7 @@ use Rattle.mf_model.specs.Institution.{Institution, Change, after_maybe}
 use Rattle.mf_model.specs.Desk.{outcome, change_in}
 use Rattle.mf_model.specs.Run.{Line, change_of_line, next, last}
 use Rattle.mf_model.specs.Answering.{line_answered}
-use Rattle.mf_journal.specs.Journal.{noted_of, lines_of, replay, IsPlayOf}
+use Rattle.mf_journal.specs.Journal.{noted_of, journal_of, replay, IsPlayOf}
 
 -- a line that makes a change is not given up
 answered : (l : Line) (i : Institution) (change : Change) → change_of_line l i ≡ Some change
@@ -21,28 +21,28 @@ answered l i change h = by l.given_up refl
         none≢some e = cc
 
 -- a line before a run that plays again
-step : (l : Line) (ls : List Line) (i : Institution) → IsPlayOf (lines_of ls i) i (last ls i)
-    → IsPlayOf (lines_of ls (next l i)) (next l i) (last ls (next l i)) → (c : Option Change) → change_of_line l i ≡ c
-    → IsPlayOf (lines_of (l ∷ ls) i) i (last (l ∷ ls) i)
+step : (l : Line) (ls : List Line) (i : Institution) → IsPlayOf (journal_of ls i) i (last ls i)
+    → IsPlayOf (journal_of ls (next l i)) (next l i) (last ls (next l i)) → (c : Option Change) → change_of_line l i ≡ c
+    → IsPlayOf (journal_of (l ∷ ls) i) i (last (l ∷ ls) i)
 step l ls i stays goes None e =
     let same : next l i ≡ i = ap (λ c. after_maybe c i) e in
-    let skipped : lines_of (l ∷ ls) i ≡ lines_of ls i =
-    ap (λ c. cond (is_some c) (noted_of l i ∷ lines_of ls (next l i)) (lines_of ls (next l i))) e
-    ∙ ap (lines_of ls) same in
+    let skipped : journal_of (l ∷ ls) i ≡ journal_of ls i =
+    ap (λ c. cond (is_some c) (noted_of l i ∷ journal_of ls (next l i)) (journal_of ls (next l i))) e
+    ∙ ap (journal_of ls) same in
     subst (λ j. IsPlayOf j i (last (l ∷ ls) i)) (sym skipped)
-    (subst (IsPlayOf (lines_of ls i) i) (sym (ap (last ls) same)) stays)
+    (subst (IsPlayOf (journal_of ls i) i) (sym (ap (last ls) same)) stays)
 step l ls i stays goes (Some change) e =
-    let rest : List Line = replay (lines_of ls (next l i)) in
+    let rest : List Line = replay (journal_of ls (next l i)) in
     let same : line_answered l.call ≡ l = answered l i change e in
-    let noted : lines_of (l ∷ ls) i ≡ noted_of l i ∷ lines_of ls (next l i) =
-    ap (λ c. cond (is_some c) (noted_of l i ∷ lines_of ls (next l i)) (lines_of ls (next l i))) e in
-    let again : lines_of (l ∷ rest) i ≡ noted_of l i ∷ lines_of rest (next l i) =
-    ap (λ c. cond (is_some c) (noted_of l i ∷ lines_of rest (next l i)) (lines_of rest (next l i))) e in
+    let noted : journal_of (l ∷ ls) i ≡ noted_of l i ∷ journal_of ls (next l i) =
+    ap (λ c. cond (is_some c) (noted_of l i ∷ journal_of ls (next l i)) (journal_of ls (next l i))) e in
+    let again : journal_of (l ∷ rest) i ≡ noted_of l i ∷ journal_of rest (next l i) =
+    ap (λ c. cond (is_some c) (noted_of l i ∷ journal_of rest (next l i)) (journal_of rest (next l i))) e in
     subst (λ j. IsPlayOf j i (last (l ∷ ls) i)) (sym noted) (record {
-      lines = ap (λ k. lines_of (k ∷ rest) i) same ∙ again ∙ ap (λ js. noted_of l i ∷ js) goes.lines;
+      lines = ap (λ k. journal_of (k ∷ rest) i) same ∙ again ∙ ap (λ js. noted_of l i ∷ js) goes.lines;
       last_is = ap (λ k. last (k ∷ rest) i) same ∙ goes.last_is;
     })
 
-pub plays : (ls : List Line) (i : Institution) → IsPlayOf (lines_of ls i) i (last ls i)
+pub plays : (ls : List Line) (i : Institution) → IsPlayOf (journal_of ls i) i (last ls i)
 plays [] i = record { lines = refl; last_is = refl }
 plays (l ∷ ls) i = step l ls i (plays ls i) (plays ls (next l i)) (change_of_line l i) refl

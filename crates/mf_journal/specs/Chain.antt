@@ -67,9 +67,9 @@ abbrev pub link : List ℕ → JournalLine → List ℕ
 link before l = sha256 (before ++ text_of_line l)
 
 -- the chain after lines
-abbrev pub chain : List ℕ → List JournalLine → List ℕ
-chain before [] = before
-chain before (l ∷ ls) = chain (link before l) ls
+abbrev pub chain_after : List ℕ → List JournalLine → List ℕ
+chain_after before [] = before
+chain_after before (l ∷ ls) = chain_after (link before l) ls
 
 -- two texts with one digest
 pub record IsCollision (s t : List ℕ) : Type 0 where

@@ -12,16 +12,16 @@ abbrev pub call : Option Caller → Request → Call
 call caller request = record { caller = caller; request = request }
 
 -- a line, and whether it is given up
-abbrev pub line : Bool → Option Caller → Request → Line
-line given_up caller request = record { call = call caller request; given_up = given_up }
+abbrev pub sent : Bool → Option Caller → Request → Line
+sent given_up caller request = record { call = call caller request; given_up = given_up }
 
 -- a client is entered and read; another is given up, and entered when it is sent again; an unknown caller is refused
 abbrev pub morning : List Line
-morning = line false (caller 1 1) (enter_client 1 (codes "Amina"))
-    ∷ line false (caller 1 1) (client_shown_request 1 1)
-    ∷ line true (caller 1 1) (enter_client 1 (codes "Carla"))
-    ∷ line false (caller 1 1) (enter_client 1 (codes "Carla"))
-    ∷ line false (caller 1 7) (enter_client 1 (codes "Dora"))
+morning = sent false (caller 1 1) (enter_client 1 (codes "Amina"))
+    ∷ sent false (caller 1 1) (client_shown_request 1 1)
+    ∷ sent true (caller 1 1) (enter_client 1 (codes "Carla"))
+    ∷ sent false (caller 1 1) (enter_client 1 (codes "Carla"))
+    ∷ sent false (caller 1 7) (enter_client 1 (codes "Dora"))
     ∷ []
 
 -- the journal has the two that were entered

@@ -3,8 +3,9 @@
 ghost use Rattle.std.specs.Prelude.{◌≡◌, ◌⊎◌, ℕ, List, [], ◌∷◌, length};
 ghost use Rattle.mf_model.specs.Institution.{Institution, newly_made};
 ghost use Rattle.mf_model.specs.Run.{Line, last};
-ghost use Rattle.mf_journal.specs.Chain.{JournalLine, IsJournalLine, AreJournalLines, IsCollision, text_of_line, chain};
-ghost use Rattle.mf_journal.specs.Journal.{lines_of, IsPlayOf};
+ghost use Rattle.mf_journal.specs.Chain.{JournalLine, IsJournalLine, AreJournalLines, IsCollision};
+ghost use Rattle.mf_journal.specs.Chain.{text_of_line, chain_after};
+ghost use Rattle.mf_journal.specs.Journal.{journal_of, IsPlayOf};
 ghost use Rattle.mf_journal.specs.WorkedJournal.{morning, of_morning};
 
 /// No two lines of a journal have one text.
@@ -16,17 +17,17 @@ pub fn one_text_one_line()
 /// texts with one SHA-256 are found. So a chain that was noted down tells all lines up to it.
 pub fn one_chain_one_journal()
     ensures { (f g : List ℕ) (xs ys : List JournalLine) → length f ≡ length g → AreJournalLines xs
-        → AreJournalLines ys → length xs ≡ length ys → chain f xs ≡ chain g ys →
+        → AreJournalLines ys → length xs ≡ length ys → chain_after f xs ≡ chain_after g ys →
         ((f ≡ g) × (xs ≡ ys)) ⊎ ((s : List ℕ) × (t : List ℕ) × IsCollision s t) }
 {}
 
 /// What any run leaves of an institution is the play of the run's journal: its accepted writes alone, again accepted,
 /// on the same days and with the same replies.
 pub fn journal_replays()
-    ensures { (i : Institution) (run : List Line) → IsPlayOf (lines_of run i) i (last run i) }
+    ensures { (i : Institution) (run : List Line) → IsPlayOf (journal_of run i) i (last run i) }
 {}
 
 /// Worked out: what is read, refused or given up has no line of the journal.
 pub fn worked_journal()
-    ensures { (day : ℕ) → lines_of morning (newly_made day) ≡ of_morning day }
+    ensures { (day : ℕ) → journal_of morning (newly_made day) ≡ of_morning day }
 {}
