@@ -212,6 +212,7 @@ class Way(Case):
         tom = self.reader(it, "tom")
         tom.go(LOAN)
         self.assertIn("31 days overdue · 343.33 in arrears", tom.text(".alert"))
+        self.assertEqual(tom.figures()["Overdue since"], "Feb 29, 2024")
         self.repay(tom, "200.00", "2024-02-29", "N-1")
         self.repay(tom, "500", "2024-03-31", "N-2")
         self.assertEqual(

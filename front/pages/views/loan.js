@@ -86,7 +86,6 @@ function sums(told) {
         BigInt(told.refunded) > 0n          ? figure(say("refunded"), showMoney(told.refunded)) :
                                               null;
     const written = desk.total(told.written_off);
-    const next = told.instalments.find(desk.isOpen);
     return figures(
         figure(say("principal"), showMoney(told.principal)),
         figure(say("left-to-pay"), showMoney(desk.total(told.outstanding)), {isAlarming: told.overdue > 0}),
@@ -94,8 +93,18 @@ function sums(told) {
         over ??
             (written > 0n ?
                  figure(say("written-off"), showMoney(written), {isAlarming: true}) :
-                 figure(
-                     say("loan.next-due"), next ? showMoney(next.outstanding) : "–", {more: next && day(next.due)})));
+                 firstOpen(told)));
+}
+
+// The first instalment with something left to pay: since when it is overdue, or when it falls due.
+function firstOpen(told) {
+    const open = told.instalments.find(desk.isOpen);
+    if (!open) {
+        return figure(say("loan.next-due"), "–");
+    }
+    return told.overdue > 0 ?
+        figure(say("overdue-since"), day(open.due), {more: showMoney(open.outstanding), isAlarming: true}) :
+        figure(say("loan.next-due"), showMoney(open.outstanding), {more: day(open.due)});
 }
 
 function terms(told) {
