@@ -213,9 +213,10 @@ class Desk:
     def let_in(self, driver, name, password=None):
         """Signs a person in, in a browser where nobody is."""
         if self.sign_in:
-            driver.get(self.url + "/sign-in.html")
+            driver.get(self.url + "/lib/")  # of this origin, and loads nothing that a page then has already
             driver.delete_all_cookies()
-            driver.add_cookie({"name": "desk", "value": self.new_session(name, password), "path": "/", "httpOnly": True})
+            session = self.new_session(name, password)
+            driver.add_cookie({"name": "desk", "value": session, "path": "/", "httpOnly": True})
         else:
             # The password in the address signs in. A page whose address has one can't ask for anything: go on without.
             driver.get(f"http://{name}:{password_of(name, password)}@127.0.0.1:{self.nginx.port}/me")
