@@ -5,7 +5,7 @@ const MOST = 1000;  // characters that are kept: a reply to what writes has fewe
 function keep(request, part, flags) {
     const kept = request.variables.reply;
     if (request.variables.writes === "1" && kept.length < MOST) {
-        request.variables.reply = kept + part;
+        request.variables.reply = kept + part.toString();
     }
     request.sendBuffer(part, flags);
 }
