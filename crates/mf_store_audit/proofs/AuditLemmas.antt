@@ -1,12 +1,11 @@
 -- From what is said of the rows that were read to what is said of the tables.
-use Rattle.std.proofs.Common.{◌≡◌, sym, ap, ◌∙◌, subst}
+use Rattle.std.proofs.Common.{◌≡◌, sym, ◌∙◌, subst}
 use Rattle.sqlite.specs.Effect.{Database}
 use Rattle.mf_model.specs.Institution.{Institution}
 use Rattle.mf_store_schema.specs.Rows.{Lists}
 use Rattle.mf_store_schema.specs.Versions.{IsOfVersion}
 use Rattle.mf_store_schema.specs.Writes.{HoldsAt}
 use Rattle.mf_store_schema.specs.declared.versions.Version.{Version}
-use Rattle.mf_store_schema.specs.declared.versions.Version.TheVariants.{First, Second}
 use Rattle.mf_store_sound.specs.Schemas.{lists_at, tables_at}
 use Rattle.mf_store_audit.specs.Findings.{AllBreak, AreOfNone}
 use Rattle.mf_store_sound.specs.Held.{CanBeHeld, DoRise}
@@ -45,7 +44,8 @@ module _ (db : Database) (v : Version) (ours : IsOfVersion v db.schema) where
           sums_are = its.sums_are;
         }
     of_rows keeps (Unsound w rows findings) told =
-        let all = λ lists held. told.1 ∙ only lists held in
+        let all : (lists : Lists) → HoldsAt v db.trees lists → rows ≡ lists_at v lists =
+        λ lists held. told.1 ∙ only lists held in
         let breaks = subst (λ l. AllBreak v l findings.items) (sym told.1) told.3 in (
           none_held told.2,
           subst (λ (x : Version). IsOfVersion x db.schema × ((lists : Lists) → HoldsAt x db.trees lists

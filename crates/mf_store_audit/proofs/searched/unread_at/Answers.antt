@@ -21,4 +21,6 @@ returns-in-Second-clause-kept g c = unchanged_fewer _ (IsOfVersion c.args.versio
 
 pub returns-in-Second-clause-found : goal.returns-in-Second-clause-found
 returns-in-Second-clause-found g c clean its =
-    c.unread-in-Second.ensures.found clean (under_all _ (c.args.version, its) (subst (λ v. IsOfVersion v _) c.in-Second.is its))
+    let k = (state g.S.Store c.args.connection.now).now.schema in
+    c.unread-in-Second.ensures.found clean (under_all k (c.args.version, its) (subst (λ v. IsOfVersion v k)
+    c.in-Second.is its))
