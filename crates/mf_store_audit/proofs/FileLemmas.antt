@@ -1,5 +1,5 @@
 -- What is said of a connection that shows a file is said of the database that the file held.
-use Rattle.std.proofs.Common.{◌≡◌, inl, inr, [], refl, sym, ap, ◌∙◌, subst}
+use Rattle.std.proofs.Common.{◌≡◌, [], refl, sym, ap, ◌∙◌, subst}
 use Rattle.sqlite.specs.Effect.{Database}
 use Rattle.sqlite.specs.Files.{HoldsDatabase}
 use Rattle.sqlite.specs.Schema.{Schema}
@@ -8,8 +8,9 @@ use Rattle.sqlite.specs.Tree.{Trees}
 use Rattle.sqlite_catalog.specs.Listing.{IsSound}
 use Rattle.sqlite_wal.specs.Recovery.{Image}
 use Rattle.mf_store_sql.specs.Tables.{no_schema}
-use Rattle.mf_store_schema.specs.Tables.{schema, first_schema}
 use Rattle.mf_store_schema.specs.Schemas.{IsKnown}
+use Rattle.mf_store_schema.specs.Versions.{IsOfVersion, schema_at}
+use Rattle.mf_store_schema.specs.declared.versions.Version.{Version}
 use Rattle.mf_store_sound.specs.Files.{ShowsFile}
 use Rattle.mf_store_sound.proofs.FileLemmas.{under, seen}
 use Rattle.mf_store_audit.specs.Audits.{IsAuditOf, IsAuditOfFile}
@@ -32,21 +33,18 @@ module _ (image : Image) (s : State) (shows : ShowsFile image s) (trees : Trees)
       ∙ bare) trees holds sound) ∙ is
 
   as_known : IsKnown k → IsKnown s.now.schema
-  as_known (inl present) = inl (was_seen schema refl present)
-  as_known (inr first) = inr (was_seen first_schema refl first)
+  as_known known = (known.0, was_seen (schema_at known.0) refl known.1)
 
-  known_is_held : IsKnown s.now.schema → s.now ≡ held
-  known_is_held (inl present) = is_held schema refl present
-  known_is_held (inr first) = is_held first_schema refl first
+  known_is_held : (v : Version) → IsOfVersion v s.now.schema → s.now ≡ held
+  known_is_held v is = is_held (schema_at v) refl is
 
   told_of : (audit : Audit) → IsAuditOf s.now audit → IsAuditOf held audit
   told_of NoTables told = subst (λ db. IsAuditOf db NoTables) (is_held no_schema refl told) told
   told_of OtherTables told = (λ none. told.0 (was_seen no_schema refl none), λ known. told.1 (as_known known))
-  told_of (Sound n sums) told = subst (λ db. IsAuditOf db (Sound n sums))
-      (known_is_held (elim told.has [ inl present ↦ inl present.1 | inr first ↦ inr first.1 ])) told
-  told_of (Unsound n rows findings) told = subst (λ db. IsAuditOf db (Unsound n rows findings))
-      (known_is_held (elim told.1 [ inl present ↦ inl present.1 | inr first ↦ inr first.1 ])) told
-  told_of (Unreadable n unread) told = subst (λ db. IsAuditOf db (Unreadable n unread)) (known_is_held told.0) told
+  told_of (Sound v sums) told = subst (λ db. IsAuditOf db (Sound v sums)) (known_is_held v told.has.0) told
+  told_of (Unsound v rows findings) told = subst (λ db. IsAuditOf db (Unsound v rows findings))
+      (known_is_held v told.1.0) told
+  told_of (Unreadable v unread) told = subst (λ db. IsAuditOf db (Unreadable v unread)) (known_is_held v told.0) told
 
 module _ (image : Image) (s : State) (shows : ShowsFile image s) where
   pub audit_of_file : (audit : Audit) → IsAuditOf s.now audit → IsAuditOfFile image audit

@@ -6,6 +6,7 @@ ghost use Rattle.mf_model.specs.Institution.{Institution};
 ghost use Rattle.mf_model.specs.Sound.{IsSound};
 ghost use Rattle.mf_store_values.specs.Flat.{tables_of};
 ghost use Rattle.mf_store_sound.specs.Schemas.{tables_under, without_accounts};
+ghost use Rattle.mf_store_schema.specs.declared.versions.Version.{Version};
 ghost use Rattle.mf_store_audit.specs.Findings.{Breaks};
 
 use crate::finding::Finding;
@@ -39,7 +40,8 @@ fn first_difference<T: Same>(rows: &[T], others: &[T]) -> Option<usize>
 /// The first place at which the rows of instalments, or else those of shares, are not those that replaying the entries
 /// of all loans gives. The error is F20, out of memory.
 pub(crate) fn differing_account(alloc: Global, tables: &Tables) -> Result<Option<Finding>, Fault>
-    ensures found { IfOk result (λ found. (schema today : ℕ) → IfSome found (Breaks schema today tables.now)) }
+    ensures found { IfOk result (λ found. (version : Version) (today : ℕ)
+        → IfSome found (Breaks version today tables.now)) }
     ensures none { IfOk result (λ found. IsNone found → (schema : ℕ) (i : Institution) → IsSound i →
         tables_under schema i ≡ without_accounts tables.now →
         ((tables_of i).instalments ≡ tables.now.instalments) × ((tables_of i).shares ≡ tables.now.shares)) }

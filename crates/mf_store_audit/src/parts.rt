@@ -10,6 +10,7 @@ use crate::loans::LoanSetting;
 use crate::offices::{OfficeSetting, is_office};
 use crate::places::next_flaw;
 use mf_base::Fault;
+use mf_store_schema::Version;
 use mf_store_sound::{Tables, business_day};
 use std::alloc::Global;
 
@@ -48,8 +49,8 @@ pub(crate) const PARTS: [Part; 11] = [
 ];
 
 /// That there is not one row of meta.
-fn meta_rows_from(schema: u32, tables: &Tables, from: usize) -> Option<(usize, Finding)>
-    ensures { IfSome result (IsFoundFrom schema tables.now from) }
+fn meta_rows_from(version: Version, tables: &Tables, from: usize) -> Option<(usize, Finding)>
+    ensures { IfSome result (IsFoundFrom version tables.now from) }
 {
     if from == 0 && tables.meta.len() != 1 {
         Some((0, Finding::MetaRows))
@@ -59,8 +60,8 @@ fn meta_rows_from(schema: u32, tables: &Tables, from: usize) -> Option<(usize, F
 }
 
 /// That there is no head office.
-fn head_from(schema: u32, tables: &Tables, from: usize) -> Option<(usize, Finding)>
-    ensures { IfSome result (IsFoundFrom schema tables.now from) }
+fn head_from(version: Version, tables: &Tables, from: usize) -> Option<(usize, Finding)>
+    ensures { IfSome result (IsFoundFrom version tables.now from) }
 {
     if from == 0 && !is_office(tables.offices.as_slice(), HEAD) {
         Some((0, Finding::NoHead))
@@ -70,11 +71,15 @@ fn head_from(schema: u32, tables: &Tables, from: usize) -> Option<(usize, Findin
 }
 
 /// The next row of a loan. There is none where the business day can't be read.
-fn loan_from(schema: u32, tables: &Tables, from: usize) -> Result<Option<(usize, Finding)>, Fault>
-    ensures found { IfOk result (λ next. IfSome next (IsFoundFrom schema tables.now from)) }
+fn loan_from(
+    version: Version,
+    tables: &Tables,
+    from: usize,
+) -> Result<Option<(usize, Finding)>, Fault>
+    ensures found { IfOk result (λ next. IfSome next (IsFoundFrom version tables.now from)) }
     ensures gives_up { IfErr result (λ fault. fault ≡ F20) }
 {
-    let Some(today) = business_day(schema, &tables.meta) else {
+    let Some(today) = business_day(version.number(), &tables.meta) else {
         return Ok(None);
     };
     let setting = LoanSetting {
@@ -88,11 +93,15 @@ fn loan_from(schema: u32, tables: &Tables, from: usize) -> Result<Option<(usize,
 }
 
 /// The next row of an entry. There is none where the business day can't be read.
-fn entry_from(schema: u32, tables: &Tables, from: usize) -> Result<Option<(usize, Finding)>, Fault>
-    ensures found { IfOk result (λ next. IfSome next (IsFoundFrom schema tables.now from)) }
+fn entry_from(
+    version: Version,
+    tables: &Tables,
+    from: usize,
+) -> Result<Option<(usize, Finding)>, Fault>
+    ensures found { IfOk result (λ next. IfSome next (IsFoundFrom version tables.now from)) }
     ensures gives_up { IfErr result (λ fault. fault ≡ F20) }
 {
-    let Some(today) = business_day(schema, &tables.meta) else {
+    let Some(today) = business_day(version.number(), &tables.meta) else {
         return Ok(None);
     };
     let entries = tables.entries.as_slice();
@@ -110,18 +119,18 @@ fn entry_from(schema: u32, tables: &Tables, from: usize) -> Result<Option<(usize
 /// The next finding of a part from a place on, with the place of its row. The error is F20, out of memory.
 pub(crate) fn next_in(
     alloc: Global,
-    schema: u32,
+    version: Version,
     tables: &Tables,
     part: Part,
     from: usize,
 ) -> Result<Option<(usize, Finding)>, Fault>
-    ensures found { IfOk result (λ next. IfSome next (IsFoundFrom schema tables.now from)) }
+    ensures found { IfOk result (λ next. IfSome next (IsFoundFrom version tables.now from)) }
     ensures gives_up { IfErr result (λ fault. fault ≡ F20) }
 {
     match part {
-        Part::MetaRows => Ok(meta_rows_from(schema, tables, from)),
+        Part::MetaRows => Ok(meta_rows_from(version, tables, from)),
         Part::Meta => {
-            let next = next_flaw(schema, tables.meta.as_slice(), from)?;
+            let next = next_flaw(version.number(), tables.meta.as_slice(), from)?;
             Ok(next.map(|(place, flaw)| (place, Finding::Meta { place, flaw })))
         }
         Part::Charges => {
@@ -132,7 +141,7 @@ pub(crate) fn next_in(
             let next = next_flaw(tables.charges.as_slice(), tables.products.as_slice(), from)?;
             Ok(next.map(|(place, flaw)| (place, Finding::Product { place, flaw })))
         }
-        Part::Head => Ok(head_from(schema, tables, from)),
+        Part::Head => Ok(head_from(version, tables, from)),
         Part::Offices => {
             let offices = tables.offices.as_slice();
             let setting = OfficeSetting { alloc, offices };
@@ -147,8 +156,8 @@ pub(crate) fn next_in(
             let next = next_flaw(tables.offices.as_slice(), tables.clients.as_slice(), from)?;
             Ok(next.map(|(place, flaw)| (place, Finding::Client { place, flaw })))
         }
-        Part::Loans => loan_from(schema, tables, from),
-        Part::Entries => entry_from(schema, tables, from),
+        Part::Loans => loan_from(version, tables, from),
+        Part::Entries => entry_from(version, tables, from),
         Part::Receipts => {
             let next = next_flaw(tables.entries.as_slice(), tables.receipts.as_slice(), from)?;
             Ok(next.map(|(place, flaw)| (place, Finding::Receipt { place, flaw })))

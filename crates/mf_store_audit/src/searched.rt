@@ -6,13 +6,14 @@ ghost use Rattle.sqlite.specs.Held.{state};
 ghost use Rattle.sqlite.specs.Schema.{Schema};
 ghost use Rattle.sqlite.specs.State.{HasCleanDisk};
 ghost use Rattle.mf_store_schema.specs.Schemas.{IsKnown, IsPresent, IsUnchangedUnder};
+ghost use Rattle.mf_store_schema.specs.Versions.{IsOfVersion};
 ghost use Rattle.mf_store_audit.specs.Unread.{IsUnread};
 
 use crate::unread::{TableName, Unread, unread_in};
 use mf_base::Fault;
 use mf_store_schema::{
     ChargeRow, ClientRow, EntryRow, InstalmentRow, LoanRow, MetaRow, OfficeRow, ProductRow,
-    ReceiptRow, ShareRow, StaffRow,
+    ReceiptRow, ShareRow, StaffRow, Version,
 };
 use sqlite::{Alter, Connection};
 use std::alloc::Global;
@@ -26,17 +27,17 @@ type Frame = (
 /// The tables of loans and of what was entered for them.
 type Entered = (LoanRow, (EntryRow, ReceiptRow));
 
-/// The tables of the first schema.
-pub(crate) type FirstTables = (Frame, Entered);
+/// The tables that every version has.
+type Common = (Frame, Entered);
 
-/// The tables of today.
-pub(crate) type PresentTables = (Frame, (Entered, (InstalmentRow, ShareRow)));
+/// Those of accounts, which the first version lacks.
+type Accounts = (InstalmentRow, ShareRow);
 
 /// What a search tells: a row that no record can hold, if there is one. The error is F20.
 type Searching = Result<Option<Unread>, Fault>;
 
 /// A table, by its rows' type, or a pair of such.
-pub(crate) trait Searched: Sized {
+trait Searched: Sized {
     /// The schemas that have the tables.
     ghost IsUnder: { Schema → Type 0 } = { IsKnown };
 
@@ -54,6 +55,28 @@ pub(crate) trait Searched: Sized {
             → IfOk result (λ x. IfSome x
             (λ unread. IsUnread unread.table unread.value unread.place (state S.Store connection.old).now.trees)) }
         ensures mode { connection.new.in_transaction ≡ false };
+}
+
+/// The first row that no record can hold, in the tables of a version.
+///
+/// The clause on what is found speaks of a connection whose tables are those of the version, whatever rows stand there.
+pub(crate) fn unread_at<S: Alter>(
+    alloc: Global,
+    connection: &mut Connection<S>,
+    version: Version,
+) -> Searching
+    requires alone { connection.old.in_transaction ≡ false }
+    ensures kept { IsUnchangedUnder (IsOfVersion version) (state S.Store connection.old) (state S.Store connection.new) }
+    ensures gives_up { IfErr result (λ fault. fault ≡ F20) }
+    ensures found { HasCleanDisk (state S.Store connection.new) → IsOfVersion version (state S.Store connection.old).now.schema
+        → IfOk result (λ x. IfSome x
+        (λ unread. IsUnread unread.table unread.value unread.place (state S.Store connection.old).now.trees)) }
+    ensures mode { connection.new.in_transaction ≡ false }
+{
+    match version {
+        Version::First => Common::unread(alloc, connection),
+        Version::Second => <(Common, Accounts) as Searched>::unread(alloc, connection),
+    }
 }
 
 impl<A: Searched, B: Searched> Searched for (A, B) {

@@ -15,20 +15,20 @@ use Rattle.sqlite_store.specs.declared.store.FileStore.{FileStore}
 use Rattle.sqlite_trees.specs.declared.store.Store.{Ghosts as StoreGhosts}
 use Rattle.sqlite_wal.specs.Recovery.{Image}
 use Rattle.mf_store_sql.specs.Tables.{no_schema}
-use Rattle.mf_store_schema.specs.Tables.{schema, first_schema}
-use Rattle.mf_store_schema.specs.Writes.{Holds}
 use Rattle.mf_store_schema.specs.Schemas.{IsKnown}
+use Rattle.mf_store_schema.specs.Versions.{schema_at}
+use Rattle.mf_store_schema.specs.Writes.{Holds, HoldsAt}
+use Rattle.mf_store_schema.specs.declared.versions.Version.{Version}
+use Rattle.mf_store_schema.specs.declared.versions.Version.TheVariants.{Second}
 use Rattle.mf_store_values.specs.Flat.{tables_of}
-use Rattle.mf_store_sound.specs.Schemas.{first_tables_of}
-use Rattle.mf_store_schema.specs.Upgrade.{HoldsFirst}
-use Rattle.mf_store_commits.specs.Tabled.{IsTabled}
+use Rattle.mf_store_sound.specs.Schemas.{tables_at}
 use Rattle.mf_store.specs.Facts.{KnownStore}
 use Rattle.mf_store.specs.Stands.{IsClean}
 use Rattle.mf_store_files.specs.declared.adopted.Refused.{Refused}
 use Rattle.mf_store_files.specs.declared.adopted.Refused.TheVariants.{NoInstitution, Failed}
 use Rattle.mf_store_sound.specs.Files.{HasNoTables, ShowsFile}
-use Rattle.mf_store_files.specs.First.{IsTabledFirst}
-use Rattle.mf_store_sound.specs.Held.{HoldsSound, HoldsSoundFirst}
+use Rattle.mf_store_files.specs.Versions.{IsTabledAt}
+use Rattle.mf_store_sound.specs.Held.{HoldsSoundAt}
 use Rattle.mf_store_files.specs.Opened.{HoldsNoneSound, OpensAsFound, StaysAsFound}
 use Rattle.mf_store_files.specs.Taken.{IsTaken, IsGivenBack}
 use Rattle.mf_store_sound.proofs.FileLemmas.{under, is_one, left_as_held}
@@ -41,24 +41,13 @@ module _ {S : Type 0} (g : StoreGhosts S) (h : Held S) (trees : Trees) where
     trees_are : (state g h).now.trees ≡ trees
     trees_are = ap (λ (db : Database). db.trees) is
 
-  tabled_as : (state g h).now ≡ record { schema = schema; trees = trees } → (held : HoldsSound trees)
-      → IsTabled g h held.institution
-  tabled_as is held = record {
-    sound = held.sound;
-    serves = λ live. record {
-      schema_is = schema_is schema is;
-      holds = subst (λ t. Holds t (Some (tables_of held.institution))) (sym (trees_are schema is)) held.holds;
-    };
-  }
-
-  tabled_first_as : (state g h).now ≡ record { schema = first_schema; trees = trees } → (held : HoldsSoundFirst trees)
-      → IsTabledFirst g h held.institution
-  tabled_first_as is held = record {
+  tabled_as : (v : Version) → (state g h).now ≡ record { schema = schema_at v; trees = trees }
+      → (held : HoldsSoundAt v trees) → IsTabledAt g v h held.institution
+  tabled_as v is held = record {
     sound = held.sound;
     keeps = λ live. record {
-      schema_is = schema_is first_schema is;
-      holds = subst (λ t. HoldsFirst t (first_tables_of held.institution)) (sym (trees_are first_schema is))
-          held.holds;
+      schema_is = schema_is (schema_at v) is;
+      holds = subst (λ t. HoldsAt v t (tables_at v held.institution)) (sym (trees_are (schema_at v) is)) held.holds;
     };
   }
 
@@ -72,80 +61,63 @@ module _ {D : Type 0} {g : Ghosts D} (image : Image) (h : Held (FileStore D g)) 
 
   module _ (store : KnownStore (FileStore D g)) (taken : IsTaken over_files h store)
       (known : ((file_state h).now.schema ≡ no_schema) ⊎ IsKnown (file_state h).now.schema) where
-    sound : IsClean over_files store → (trees : Trees) → HoldsDatabase image trees → IsSound schema trees
-        → HoldsSound trees
-    sound clean trees holds its =
+    sound : IsClean over_files store → (v : Version) (trees : Trees) → HoldsDatabase image trees
+        → IsSound (schema_at v) trees → HoldsSoundAt v trees
+    sound clean v trees holds its =
         let good = taken.premise clean in
-        let is = now_under good schema refl trees holds its in
-        let ours = schema_is over_files h trees schema is in
-        subst HoldsSound (trees_are over_files h trees schema is) (taken.sound clean ours ((shown good).rowids ours))
+        let is = now_under good (schema_at v) refl trees holds its in
+        let ours = schema_is over_files h trees (schema_at v) is in
+        subst (HoldsSoundAt v) (trees_are over_files h trees (schema_at v) is)
+        (taken.sound clean v ours ((shown good).rowids v ours))
 
-    sound_first : IsClean over_files store → (trees : Trees) → HoldsDatabase image trees → IsSound first_schema trees
-        → HoldsSoundFirst trees
-    sound_first clean trees holds its =
-        let good = taken.premise clean in
-        let is = now_under good first_schema refl trees holds its in
-        let ours = schema_is over_files h trees first_schema is in
-        subst HoldsSoundFirst (trees_are over_files h trees first_schema is)
-        (taken.sound_first clean ours ((shown good).first_rowids ours))
-
-    tabled : IsClean over_files store → (trees : Trees) → HoldsDatabase image trees → (held : HoldsSound trees)
-        → IsTabled over_files h held.institution
-    tabled clean trees holds held =
-        tabled_as over_files h trees (now_under (taken.premise clean) schema refl trees holds held.holds.sound) held
-
-    tabled_first : IsClean over_files store → (trees : Trees) → HoldsDatabase image trees
-        → (held : HoldsSoundFirst trees) → IsTabledFirst over_files h held.institution
-    tabled_first clean trees holds held = tabled_first_as over_files h trees (now_under (taken.premise clean)
-        first_schema refl trees holds held.holds.sound) held
+    tabled : IsClean over_files store → (v : Version) (trees : Trees) → HoldsDatabase image trees
+        → (held : HoldsSoundAt v trees) → IsTabledAt over_files v h held.institution
+    tabled clean v trees holds held = tabled_as over_files h trees v
+        (now_under (taken.premise clean) (schema_at v) refl trees holds held.holds.sound) held
 
     pub opens_as_found : OpensAsFound image store
     opens_as_found = record {
       is_open = taken.is_open;
       known = λ clean. is_one image (file_state h) (shown (taken.premise clean)) known;
       sound = sound;
-      stands = λ clean trees holds held. taken.stands clean held.institution (tabled clean trees holds held);
-      leaves = λ clean trees holds held. taken.leaves clean held.institution (tabled clean trees holds held);
-      sound_first = sound_first;
-      stands_first =
-          λ clean trees holds held. taken.stands_first clean held.institution (tabled_first clean trees holds held);
-      leaves_first =
-          λ clean trees holds held. taken.leaves_first clean held.institution (tabled_first clean trees holds held);
+      stands = λ clean v trees holds held. taken.stands clean v held.institution (tabled clean v trees holds held);
+      leaves = λ clean v trees holds held. taken.leaves clean v held.institution (tabled clean v trees holds held);
     }
 
   module _ (new : Held (FileStore D g)) (fault : Fault) (back : IsGivenBack over_files h new fault) where
-    unchanged : HasCleanDisk (file_state new) → (trees : Trees) → HoldsDatabase image trees → IsSound schema trees
-        → (left : Trees) → (file_state new).may_leave left → left ≡ trees
+    unchanged : HasCleanDisk (file_state new) → (trees : Trees) → HoldsDatabase image trees
+        → IsSound (schema_at Second) trees → (left : Trees) → (file_state new).may_leave left → left ≡ trees
     unchanged clean trees holds its left may =
         let good = back.still clean in
-        let ours = schema_is over_files h trees schema (now_under good schema refl trees holds its) in
+        let ours = schema_is over_files h trees (schema_at Second)
+        (now_under good (schema_at Second) refl trees holds its) in
         left_as_held image (file_state h) (shown good) trees holds left ((back.unchanged ours).stop clean (λ live. ours)
         left may)
 
-    left_first : HasCleanDisk (file_state new) → (trees : Trees) → HoldsDatabase image trees
-        → (held : HoldsSoundFirst trees)
+    left_at : HasCleanDisk (file_state new) → (v : Version) (trees : Trees) → HoldsDatabase image trees
+        → (held : HoldsSoundAt v trees)
         → (left : Trees) → (file_state new).may_leave left → left ≡ trees
         ⊎ Holds left (Some (tables_of held.institution))
-    left_first clean trees holds held left may =
+    left_at clean v trees holds held left may =
         let good = back.still clean in
-        let is = now_under good first_schema refl trees holds held.holds.sound in
-        let kept = back.left_first (schema_is over_files h trees first_schema is) in
-        elim (kept.stop clean held.institution (tabled_first_as over_files h trees is held) left may) [
+        let is = now_under good (schema_at v) refl trees holds held.holds.sound in
+        let kept = back.left v (schema_is over_files h trees (schema_at v) is) in
+        elim (kept.stop clean held.institution (tabled_as over_files h trees v is held) left may) [
           | inl before ↦ inl (left_as_held image (file_state h) (shown good) trees holds left before)
           | inr made ↦ inr made
         ]
 
-    refused_first : HasCleanDisk (file_state new) → (trees : Trees) → HoldsDatabase image trees
-        → IsSound first_schema trees → ¬ HoldsSoundFirst trees
+    refused_at : HasCleanDisk (file_state new) → (v : Version) (trees : Trees) → HoldsDatabase image trees
+        → IsSound (schema_at v) trees → ¬ HoldsSoundAt v trees
         → (left : Trees) → (file_state new).may_leave left → left ≡ trees
-    refused_first clean trees holds its none_held left may =
+    refused_at clean v trees holds its none_held left may =
         let good = back.still clean in
-        let is = now_under good first_schema refl trees holds its in
-        let first = schema_is over_files h trees first_schema is in
-        let are = trees_are over_files h trees first_schema is in
-        let kept = back.left_first first in
-        left_as_held image (file_state h) (shown good) trees holds left (kept.refused clean ((shown good).first_rowids
-        first) (λ held. none_held (subst HoldsSoundFirst are held)) left may)
+        let is = now_under good (schema_at v) refl trees holds its in
+        let ours = schema_is over_files h trees (schema_at v) is in
+        let are = trees_are over_files h trees (schema_at v) is in
+        let kept = back.left v ours in
+        left_as_held image (file_state h) (shown good) trees holds left (kept.refused clean ((shown good).rowids v ours)
+        (λ held. none_held (subst (HoldsSoundAt v) are held)) left may)
 
     foreign : HasCleanDisk (file_state new) → (trees : Trees) (k : Schema) → HoldsDatabase image trees → IsSound k trees
         → k ≢ no_schema → ¬ IsKnown k
@@ -166,8 +138,8 @@ module _ {D : Type 0} {g : Ghosts D} (image : Image) (h : Held (FileStore D g)) 
     pub stays_as_found : StaysAsFound image new fault
     stays_as_found = record {
       unchanged = unchanged;
-      left_first = left_first;
-      refused_first = refused_first;
+      left = left_at;
+      refused = refused_at;
       foreign = foreign;
     }
 
@@ -176,14 +148,10 @@ module _ {D : Type 0} {g : Ghosts D} (image : Image) (h : Held (FileStore D g)) 
     none_sound told some clean =
         let good = back.still clean in record {
           some = λ nothing. some ((shown good).none nothing).schema_is;
-          present = λ trees holds held.
-              let is = now_under good schema refl trees holds held.holds.sound in
-              back.refused told clean (schema_is over_files h trees schema is)
-              (subst HoldsSound (sym (trees_are over_files h trees schema is)) held);
-          first = λ trees holds held.
-              let is = now_under good first_schema refl trees holds held.holds.sound in
-              back.refused_first told clean (schema_is over_files h trees first_schema is)
-              (subst HoldsSoundFirst (sym (trees_are over_files h trees first_schema is)) held);
+          none = λ v trees holds held.
+              let is = now_under good (schema_at v) refl trees holds held.holds.sound in
+              back.refused told clean v (schema_is over_files h trees (schema_at v) is)
+              (subst (HoldsSoundAt v) (sym (trees_are over_files h trees (schema_at v) is)) held);
         }
 
   -- where no institution was to be made

@@ -1,4 +1,4 @@
--- The rows of a sound institution under the first schema, and those that it has under the second.
+-- The rows of a sound institution by the first version, and those that it has by the second.
 use Rattle.std.proofs.Common.{◌≡◌, [], ◌∷◌, List, refl, sym, ap, ◌∙◌, subst}
 use Rattle.std.specs.declared.cmp.Ordering.TheVariants.{Less}
 use Rattle.sqlite_trees.specs.Tree.{IsAscending}
@@ -9,23 +9,24 @@ use Rattle.mf_store_schema.specs.declared.instalments.InstalmentRow.{InstalmentR
 use Rattle.mf_store_schema.specs.declared.meta.MetaRow.{MetaRow}
 use Rattle.mf_store_schema.specs.declared.shares.ShareRow.{ShareRow}
 use Rattle.mf_store_schema.specs.Upgrade.{upgraded_lists, CanUpgrade}
+use Rattle.mf_store_schema.specs.declared.versions.Version.TheVariants.{First, Second}
 use Rattle.mf_store_values.specs.Flat.{tables_of, meta_on}
-use Rattle.mf_store_sound.specs.Schemas.{first_tables_of, meta_under}
+use Rattle.mf_store_sound.specs.Schemas.{meta_under, tables_at}
 use Rattle.mf_store_sound.proofs.RiseLemmas.{instalments_rise, shares_rise}
 
 head_is : (a b : MetaRow) (rest : List MetaRow) → a ∷ [] ≡ b ∷ rest → a ≡ b
 head_is a b rest e = cc
 
--- the row of meta, with the new schema's number
-pub meta_is : (i : Institution) (tables : Lists) (row : MetaRow) (rest : List MetaRow) → first_tables_of i ≡ tables
-    → tables.meta ≡ row ∷ rest → record row { schema = 2 } ≡ meta_on i.catalogue.day
-meta_is i tables row rest are first = ap (λ (r : MetaRow). record r { schema = 2 })
-    (sym (head_is (meta_under 1 i.catalogue.day) row rest (ap (λ (l : Lists). l.meta) are ∙ first)))
+-- the first row of meta among today's rows
+pub meta_is : (i : Institution) (tables : Lists) (row : MetaRow) (rest : List MetaRow) → tables ≡ tables_at Second i
+    → tables.meta ≡ row ∷ rest → row ≡ meta_on i.catalogue.day
+meta_is i tables row rest are first =
+    sym (head_is (meta_on i.catalogue.day) row rest (sym (ap (λ (l : Lists). l.meta) are) ∙ first))
 
 module _ (i : Institution) (meta : MetaRow) (instalments : List InstalmentRow) (shares : List ShareRow)
     (meta_same : meta ≡ meta_on i.catalogue.day) (instalments_same : instalments ≡ (tables_of i).instalments)
     (shares_same : shares ≡ (tables_of i).shares) where
-  pub can_upgrade : IsSound i → CanUpgrade meta instalments shares (first_tables_of i)
+  pub can_upgrade : IsSound i → CanUpgrade meta instalments shares (tables_at First i)
   can_upgrade sound = record {
     old = meta_under 1 i.catalogue.day;
     one = refl;
@@ -35,5 +36,5 @@ module _ (i : Institution) (meta : MetaRow) (instalments : List InstalmentRow) (
     shares_rise = subst (IsAscending (λ a b. by_share a b ≡ Less)) (sym shares_same) (shares_rise i sound);
   }
 
-  pub upgraded_is : upgraded_lists meta instalments shares (first_tables_of i) ≡ tables_of i
-  upgraded_is = λ t. upgraded_lists (meta_same t) (instalments_same t) (shares_same t) (first_tables_of i)
+  pub upgraded_is : upgraded_lists meta instalments shares (tables_at First i) ≡ tables_of i
+  upgraded_is = λ t. upgraded_lists (meta_same t) (instalments_same t) (shares_same t) (tables_at First i)

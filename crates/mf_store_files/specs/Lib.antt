@@ -1,5 +1,5 @@
 pub mod Closed
-pub mod First
 pub mod Opened
 pub mod Stops
 pub mod Taken
+pub mod Versions

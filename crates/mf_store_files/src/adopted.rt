@@ -10,21 +10,22 @@ ghost use Rattle.mf_store_sql.specs.Tables.{no_schema};
 ghost use Rattle.mf_store_sql.specs.Writes.{Serves};
 ghost use Rattle.mf_model.specs.Institution.{Institution, newly_made};
 ghost use Rattle.mf_store_schema.specs.Calls.{IsAsBefore};
-ghost use Rattle.mf_store_schema.specs.Tables.{schema, first_schema};
 ghost use Rattle.mf_store_schema.specs.Writes.{schema_of, Holds};
 ghost use Rattle.mf_store_schema.specs.Schemas.{IsKnown};
-ghost use Rattle.mf_store_schema.specs.Whole.{HaveRowids, HaveFirstRowids};
-ghost use Rattle.mf_store_commits.specs.Tabled.{IsTabled, IsUnfounded};
+ghost use Rattle.mf_store_schema.specs.Versions.{IsOfVersion};
+ghost use Rattle.mf_store_schema.specs.Whole.{HaveRowids};
+ghost use Rattle.mf_store_schema.specs.declared.versions.Version.TheVariants.{Second};
+ghost use Rattle.mf_store_commits.specs.Tabled.{IsUnfounded};
 ghost use Rattle.mf_store.specs.Stands.{StandsFor, IsClean, Leaves, IsOpen};
-ghost use Rattle.mf_store_files.specs.First.{IsTabledFirst, IsLeftFirst};
-ghost use Rattle.mf_store_sound.specs.Held.{HoldsSound, HoldsSoundFirst};
+ghost use Rattle.mf_store_files.specs.Versions.{IsTabledAt, IsLeftAt};
+ghost use Rattle.mf_store_sound.specs.Held.{HoldsSoundAt};
 ghost use Rattle.mf_store_files.specs.Taken.{IsTaken, IsGivenBack};
 
-use crate::upgraded::upgrade_tables;
+use crate::upgraded::bring_up;
 use mf_base::{Day, Fault};
 use mf_store::{Known, Store};
-use mf_store_schema::{Progress, has_no_tables, is_first, is_present};
-use mf_store_sound::{holds_sound, read_sound_first};
+use mf_store_schema::{Progress, Version, has_no_tables, version_of};
+use mf_store_sound::read_sound;
 use sqlite::{Alter, Connection};
 use std::alloc::Global;
 
@@ -36,69 +37,36 @@ pub enum Refused {
     Failed(Fault),
 }
 
-/// A store over tables that there are.
+/// A store over tables of a version, which are brought to today's in one commit where they are older.
 fn take_over<S: Alter, P: Progress>(
     alloc: Global,
     mut connection: Connection<S>,
+    version: Version,
     progress: &mut P,
 ) -> Result<Store<S>, (Fault, Connection<S>)>
     requires alone { connection.in_transaction ≡ false }
     ensures premise { IfOk result (λ store. IsClean S.Store store → HasCleanDisk (state S.Store connection)) }
-    ensures sound { IfOk result (λ store. IsClean S.Store store → (state S.Store connection).now.schema ≡ schema
-        → HaveRowids (state S.Store connection).now.trees → HoldsSound (state S.Store connection).now.trees) }
-    ensures stands { IfOk result (λ store. IsClean S.Store store → (i : Institution) → IsTabled S.Store connection i
-        → StandsFor S.Store store i) }
-    ensures leaves { IfOk result (λ store. IsClean S.Store store → (i : Institution) → IsTabled S.Store connection i
-        → Leaves S.Store store (i ∷ [])) }
-    ensures was_open { IfOk result (λ store. IsClean S.Store store → IsTrue (state S.Store connection).is_open) }
-    ensures open { IfOk result (λ store. IsClean S.Store store → IsOpen S.Store store) }
-    ensures still { IfErr result (λ e. HasCleanDisk (state S.Store e.1) → HasCleanDisk (state S.Store connection)) }
-    ensures errors { IfErr result (λ e. (e.0 ≡ F19) ⊎ (e.0 ≡ F20)) }
-    ensures refused { IfErr result (λ e. e.0 ≡ F19 → HasCleanDisk (state S.Store e.1)
-        → (state S.Store connection).now.schema ≡ schema → ¬ HoldsSound (state S.Store connection).now.trees) }
-    ensures unchanged { IfErr result (λ e. (state S.Store connection).now.schema ≡ schema
-        → IsAsBefore (state S.Store connection) (state S.Store e.1)) }
-    ensures alone { IfErr result (λ e. e.1.in_transaction ≡ false) }
-{
-    let sound = match holds_sound(alloc, &mut connection, progress) {
-        Ok(sound) => sound,
-        Err(fault) => return Err((fault, connection)),
-    };
-    if !sound {
-        return Err((Fault::F19, connection));
-    }
-    match Known::nothing(alloc) {
-        Ok(known) => Ok(Store::over(connection, known)),
-        Err(fault) => Err((fault, connection)),
-    }
-}
-
-/// A store over tables of the first schema that there are, which are brought to the second in one commit.
-fn take_over_first<S: Alter, P: Progress>(
-    alloc: Global,
-    mut connection: Connection<S>,
-    progress: &mut P,
-) -> Result<Store<S>, (Fault, Connection<S>)>
-    requires alone { connection.in_transaction ≡ false }
-    ensures premise { IfOk result (λ store. IsClean S.Store store → HasCleanDisk (state S.Store connection)) }
-    ensures sound { IfOk result (λ store. IsClean S.Store store → (state S.Store connection).now.schema ≡ first_schema
-        → HaveFirstRowids (state S.Store connection).now.trees → HoldsSoundFirst (state S.Store connection).now.trees) }
+    ensures sound { IfOk result (λ store. IsClean S.Store store → IsOfVersion version (state S.Store
+        connection).now.schema → HaveRowids version (state S.Store connection).now.trees
+        → HoldsSoundAt version (state S.Store connection).now.trees) }
     ensures stands { IfOk result (λ store. IsClean S.Store store → (i : Institution)
-        → IsTabledFirst S.Store connection i → StandsFor S.Store store i) }
+        → IsTabledAt S.Store version connection i → StandsFor S.Store store i) }
     ensures leaves { IfOk result (λ store. IsClean S.Store store → (i : Institution)
-        → IsTabledFirst S.Store connection i → Leaves S.Store store (i ∷ [])) }
+        → IsTabledAt S.Store version connection i → Leaves S.Store store (i ∷ [])) }
     ensures was_open { IfOk result (λ store. IsClean S.Store store → IsTrue (state S.Store connection).is_open) }
     ensures open { IfOk result (λ store. IsClean S.Store store → IsOpen S.Store store) }
     ensures still { IfErr result (λ e. HasCleanDisk (state S.Store e.1) → HasCleanDisk (state S.Store connection)) }
     ensures errors { IfErr result (λ e. (e.0 ≡ F19) ⊎ (e.0 ≡ F20)) }
     ensures refused { IfErr result (λ e. e.0 ≡ F19 → HasCleanDisk (state S.Store e.1)
-        → (state S.Store connection).now.schema ≡ first_schema
-        → ¬ HoldsSoundFirst (state S.Store connection).now.trees) }
-    ensures left { IfErr result (λ e. (state S.Store connection).now.schema ≡ first_schema
-        → IsLeftFirst S.Store connection e.1) }
+        → IsOfVersion version (state S.Store connection).now.schema
+        → ¬ HoldsSoundAt version (state S.Store connection).now.trees) }
+    ensures left { IfErr result (λ e. IsOfVersion version (state S.Store connection).now.schema
+        → IsLeftAt S.Store version connection e.1) }
+    ensures unchanged { IfErr result (λ e. version ≡ Second → IsAsBefore (state S.Store connection)
+        (state S.Store e.1)) }
     ensures alone { IfErr result (λ e. e.1.in_transaction ≡ false) }
 {
-    let tables = match read_sound_first(alloc, &mut connection, progress) {
+    let tables = match read_sound(alloc, &mut connection, version, progress) {
         Ok(Some(tables)) => tables,
         Ok(None) => return Err((Fault::F19, connection)),
         Err(fault) => return Err((fault, connection)),
@@ -107,14 +75,14 @@ fn take_over_first<S: Alter, P: Progress>(
         Ok(known) => known,
         Err(fault) => return Err((fault, connection)),
     };
-    match upgrade_tables(alloc, &mut connection, tables) {
+    match bring_up(alloc, &mut connection, version, tables) {
         Ok(()) => Ok(Store::over(connection, known)),
         Err(fault) => Err((fault, connection)),
     }
 }
 
-/// A store over the tables of a connection where they are this program's, of today or of the first schema; these are
-/// brought to today's, in one commit.
+/// A store over the tables of a connection where they are those of a version of this program's; older ones are brought
+/// to today's, in one commit.
 fn take_known<S: Alter, P: Progress>(
     alloc: Global,
     connection: Connection<S>,
@@ -125,18 +93,15 @@ fn take_known<S: Alter, P: Progress>(
     ensures known { IfOk result (λ store. IsKnown (state S.Store connection).now.schema) }
     ensures given_back { IfErr result (λ e. IsGivenBack S.Store connection e.1 e.0) }
 {
-    if is_present(connection.schema()) {
-        return take_over(alloc, connection, progress);
-    }
-    if is_first(connection.schema()) {
-        return take_over_first(alloc, connection, progress);
-    }
-    Err((Fault::F19, connection))
+    let Some(version) = version_of(connection.schema()) else {
+        return Err((Fault::F19, connection));
+    };
+    take_over(alloc, connection, version, progress)
 }
 
 /// A store over the tables of a connection: where there are none, those of a new institution on this day, made in one
-/// commit; else the institution that they hold, whatever the day. Tables of the first schema are brought to the second,
-/// in one commit.
+/// commit; else the institution that they hold, whatever the day. Tables of an older version are brought to today's, in
+/// one commit.
 ///
 /// The day is at most 2099-12-31. F19 tells that the tables are others than this program makes, or that no sound
 /// institution has their rows, and F20 out of memory or a failure of the disk; with either the connection comes back.

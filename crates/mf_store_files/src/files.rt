@@ -25,8 +25,8 @@ use std::rt::HostRuntime;
 
 /// A store over the file at a path, where `start` stands for what the file held: where it had no tables, which is so
 /// too of one that is missing, those of a new institution on this day, made in one commit; else the institution that it
-/// holds, whatever the day. Tables of the first schema are brought to the second, in one commit. A file that is made
-/// has sums of its pages (`mf_store_schema`).
+/// holds, whatever the day. Tables of an older version are brought to today's, in one commit. A file that is made has
+/// sums of its pages (`mf_store_schema`).
 ///
 /// The day is at most 2099-12-31. F19 tells that the tables are others than this program makes, or that no sound
 /// institution has the rows of the file, and F20 out of memory, a file that could not be opened, or a failure of the

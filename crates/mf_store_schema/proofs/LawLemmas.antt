@@ -100,7 +100,7 @@ pub upgrades_first : UpgradesFirst
 upgrades_first meta is ss lists can =
     record {
       fit = (
-        tt,
+        refl,
         instalments_fit (map (λ x. Put (PutShare x)) ss ++ (Put (PutMeta meta) ∷ [])) is
             (record lists { instalments = []; shares = [] }) (λ more. shares_fit (Put (PutMeta meta) ∷ []) ss
             (record lists { instalments = more; shares = [] }) (λ others. (refl, tt))),

@@ -21,7 +21,8 @@ use Rattle.mf_store_sql.proofs.TableLemmas
 use Rattle.mf_store_sql.proofs.TableLemmas.{added, asked_shows}
 use Rattle.mf_store_schema.specs.Tables.{schema}
 use Rattle.mf_store_schema.specs.Rows.{Lists, IsNew, by_share, drop_shares, share_row}
-use Rattle.mf_store_schema.specs.Writes.{lists_changed, schema_of, Holds, HoldsLists, Putting, conditions, kept_in}
+use Rattle.mf_store_schema.specs.declared.versions.Version.TheVariants.{Second}
+use Rattle.mf_store_schema.specs.Writes.{lists_changed, schema_of, Holds, HoldsAt, Putting, conditions, kept_in}
 use Rattle.mf_store_schema.specs.declared.shares.EntryKey.{EntryKey}
 use Rattle.mf_store_schema.proofs.RemoveLemmas.{delete_shares, removes_shares}
 
@@ -48,7 +49,7 @@ module _ {X : Type 0} (t : Columns) (place tree : ℕ) (stored : X → Row) (by 
     (list : Lists → List X) (put : X → Lists → Lists)
     (ordered : (a b : X) → by a b ≡ first_cmp t.key (stored a) (stored b))
     (fits : (x : X) → AreKeepable t.columns (stored x)) (kept : IsKept schema place tree t)
-    (held : (trees : Trees) (lists : Lists) → HoldsLists trees lists → Keeps stored by (trees tree) (list lists))
+    (held : (trees : Trees) (lists : Lists) → HoldsAt Second trees lists → Keeps stored by (trees tree) (list lists))
     (changes : (x : X) (lists : Lists) (trees : Trees) → AllHold trees (changed_at place (kept_in tree stored by
     (put_item by x (list lists))) (conditions lists)) → AllHold trees (conditions (put x lists))) where
   -- the table keeps another list, and the others what they kept

@@ -2,8 +2,9 @@
 use Rattle.std.proofs.Common.{◌≡◌, inl, inr, ◌≤◌, ◌<◌, ◌+◌, ◌^◌, ℕ, ℤ, zero, suc, true, false, List, [], ◌∷◌, map}
 use Rattle.std.proofs.Common.{length, None, refl, sym, ap, subst, arith, is_eq, Less, true≢false}
 use Rattle.std.proofs.Math.Logic.{∥∥₁_elim}
-use Rattle.std.specs.List.{AllByRecursion}
-use Rattle.std.proofs.lemmas.Bool.{and_parts}
+use Rattle.std.specs.List.{AllByRecursion, list_all}
+use Rattle.std.proofs.Math.Dec.{ltb}
+use Rattle.std.proofs.lemmas.Bool.{and_parts, ltb-true}
 use Rattle.sqlite.specs.declared.types.Value.TheVariants.{Null, Int, Real, Text, Blob}
 use Rattle.sqlite.specs.Files.{AreFoundIn}
 use Rattle.sqlite.specs.Order.{Row, column, value_cmp}
@@ -26,7 +27,9 @@ use Rattle.sqlite_store.specs.Listed.{catalog_rows, is_listed}
 use Rattle.sqlite_store.specs.Listing.{file_trees, all_shapes, all_reals}
 use Rattle.sqlite_store.proofs.ListingLemmas.{all_ordered}
 use Rattle.mf_store_sql.specs.Keep.{same_id}
-use Rattle.mf_store_schema.specs.Tables.{schema, first_schema}
+use Rattle.mf_store_schema.specs.Versions.{schema_at}
+use Rattle.mf_store_schema.specs.declared.versions.Version.{Version}
+use Rattle.mf_store_schema.specs.declared.versions.Version.TheVariants.{First, Second}
 use Rattle.mf_store_schema.specs.Whole.{HasRowids, HaveRowidsUnder}
 use Rattle.mf_store_schema.proofs.OpenLemmas.{raw_row}
 
@@ -94,53 +97,16 @@ each_table P (t ∷ ts) h = (h t (inl refl), each_table P ts (λ u there. h u (i
 abbrev pub AreLow : Schema → Type 0
 AreLow k = (trees : Trees) → ((t : ℕ) → t < 2 ^ 32 → HasRowids (trees t)) → HaveRowidsUnder k trees
 
-pub are_low : AreLow schema
-are_low trees empty = (
-  empty 0 (omega arith),
-  (
-    empty 2 (omega arith),
-    (
-      empty 5 (omega arith),
-      (
-        empty 7 (omega arith),
-        (
-          empty 9 (omega arith),
-          (
-            empty 11 (omega arith),
-            (
-              empty 13 (omega arith),
-              (
-                empty 15 (omega arith),
-                (empty 17 (omega arith), (empty 19 (omega arith), (empty 21 (omega arith), tt))),
-              ),
-            ),
-          ),
-        ),
-      ),
-    ),
-  ),
-)
+low_tables : (trees : Trees) → ((t : ℕ) → t < 2 ^ 32 → HasRowids (trees t)) → (ts : List Table)
+    → list_all (λ (t : Table). ltb t.tree (2 ^ 32)) ts ≡ true → AllByRecursion (λ (t : Table). HasRowids (trees t.tree)) ts
+low_tables trees empty [] low = tt
+low_tables trees empty (t ∷ ts) low =
+    let both = and_parts _ _ low in
+    (empty t.tree (ltb-true t.tree (2 ^ 32) both.0), low_tables trees empty ts both.1)
 
-pub first_are_low : AreLow first_schema
-first_are_low trees empty = (
-  empty 0 (omega arith),
-  (
-    empty 2 (omega arith),
-    (
-      empty 5 (omega arith),
-      (
-        empty 7 (omega arith),
-        (
-          empty 9 (omega arith),
-          (
-            empty 11 (omega arith),
-            (empty 13 (omega arith), (empty 15 (omega arith), (empty 17 (omega arith), tt))),
-          ),
-        ),
-      ),
-    ),
-  ),
-)
+pub are_low : (v : Version) → AreLow (schema_at v)
+are_low First trees empty = low_tables trees empty (schema_at First).tables refl
+are_low Second trees empty = low_tables trees empty (schema_at Second).tables refl
 
 -- files that hold a database, or none
 pub rowids_of_files : (k : Schema) (image : Image) (trees : Trees) → AreLow k → AreFoundIn image trees → IsSound k trees

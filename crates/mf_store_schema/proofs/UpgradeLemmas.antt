@@ -11,14 +11,16 @@ use Rattle.mf_store_sql.specs.Texts.{create_text}
 use Rattle.mf_store_sql.specs.Trees.{SameTrees}
 use Rattle.mf_store_sql.specs.Writes.{Serves, Steps}
 use Rattle.mf_store_sql.proofs.SpareLemmas.{all_same, all_and}
-use Rattle.mf_store_schema.specs.Tables.{schema, first_schema, tables, made}
+use Rattle.mf_store_schema.specs.Tables.{schema, tables, made}
+use Rattle.mf_store_schema.specs.Versions.{schema_at}
+use Rattle.mf_store_schema.specs.declared.versions.Version.TheVariants.{First, Second}
 use Rattle.mf_store_schema.specs.InstalmentsTexts as Instalments
 use Rattle.mf_store_schema.specs.SharesTexts as Shares
 use Rattle.mf_store_schema.specs.Rows.{Lists, instalment_row, share_row, by_instalment, by_share}
 use Rattle.mf_store_schema.specs.Writes.{kept_in, conditions}
 use Rattle.mf_store_schema.proofs.MakeLemmas.{kept_none}
 use Rattle.mf_store_schema.proofs.OrderLemmas.{by_instalment_total, by_share_total}
-use Rattle.mf_store_schema.specs.Upgrade.{KeptLists, First, Own, schema_kept, HoldsKept, FitsUpgrade, after_upgrade}
+use Rattle.mf_store_schema.specs.Upgrade.{KeptLists, At, Own, schema_kept, HoldsKept, FitsUpgrade, after_upgrade}
 use Rattle.mf_store_schema.specs.declared.upgrade_writes.UpgradeWrite.TheVariants.{MakeAccountTables}
 
 -- ---- the two tables
@@ -26,21 +28,21 @@ use Rattle.mf_store_schema.specs.declared.upgrade_writes.UpgradeWrite.TheVariant
 abbrev added : List (ℕ × Columns)
 added = drop 9 tables
 
-nine_is : made (take 9 tables) ≡ first_schema
+nine_is : made (take 9 tables) ≡ schema_at First
 unfolding understood everything
 nine_is = refl
 
-eleven_is : made_after first_schema added ≡ schema
+eleven_is : made_after (schema_at First) added ≡ schema
 unfolding understood everything
 eleven_is = refl
 
-both_defined : AreDefined first_schema added
+both_defined : AreDefined (schema_at First) added
 both_defined = subst (λ k. AreDefined k added) nine_is (Instalments.defined, (Shares.defined, tt))
 
 abbrev Stands : Database → KeptLists → Type 0
 Stands = Serves schema_kept HoldsKept
 
-first_trees : (lists : Lists) → SameTrees first_schema.tables (take 9 (conditions lists))
+first_trees : (lists : Lists) → SameTrees (schema_at First).tables (take 9 (conditions lists))
 first_trees lists = (refl, (refl, (refl, (refl, (refl, (refl, (refl, (refl, (refl, tt)))))))))
 
 pub making_accounts : (old new : State) → Makes (map (λ (t : ℕ × Columns). create_text t.1) added) old new
@@ -51,9 +53,10 @@ making_accounts old new makes =
     turns : (lists : KeptLists) → Stands old.now lists → FitsUpgrade MakeAccountTables lists
         → Stands new.now (after_upgrade MakeAccountTables lists)
     turns (Own lists) s fits = absurd fits
-    turns (First m) s fits =
-        let made = makes.made first_schema added refl both_defined s.schema_is s.holds.sound in
-        let nine = all_same old.now.trees new.now.trees first_schema.tables (take 9 (conditions m)) (first_trees m)
+    turns (At Second m) s fits = absurd (cc)
+    turns (At First m) s fits =
+        let made = makes.made (schema_at First) added refl both_defined s.schema_is s.holds.sound in
+        let nine = all_same old.now.trees new.now.trees (schema_at First).tables (take 9 (conditions m)) (first_trees m)
         made.others s.holds.all in
         record {
           schema_is = made.schema_is ∙ eleven_is;

@@ -7,7 +7,11 @@ use Rattle.mf_store_sql.specs.Making.{IsDefined}
 use Rattle.mf_store_sql.specs.Meanings.{Asks, IsKept}
 use Rattle.mf_store_sql.specs.Rows.{AreKeepable, first_cmp}
 use Rattle.mf_store_schema.specs.Keys.{three_numbers}
-use Rattle.mf_store_schema.specs.Tables.{schema, first_schema, tables, made, entries}
+use Rattle.mf_store_schema.specs.Tables.{schema, tables, made, entries}
+use Rattle.mf_store_schema.specs.Versions.{schema_at}
+use Rattle.mf_store_schema.specs.Whole.{IsAskable}
+use Rattle.mf_store_schema.specs.declared.versions.Version.{Version}
+use Rattle.mf_store_schema.specs.declared.versions.Version.TheVariants.{First, Second}
 use Rattle.mf_store_schema.specs.Rows.{entry_row, by_entry}
 use Rattle.mf_store_schema.specs.declared.entries.EntryRow.{EntryRow}
 
@@ -32,9 +36,11 @@ pub lists_by_2 : Asks schema 7 15 entries 2
 unfolding understood everything
 lists_by_2 = record { plain = (refl, refl); unlisted = refl; is = refl }
 
-pub first_shows : Asks first_schema 7 15 entries 0
+-- the schema of each version
+pub asked : (v : Version) → IsAskable (schema_at v) 7 15 entries
 unfolding understood everything
-first_shows = record { plain = (refl, refl); unlisted = refl; is = refl }
+asked First = record { there = refl; asks = record { plain = (refl, refl); unlisted = refl; is = refl } }
+asked Second = record { there = kept.there; asks = kept.shows }
 
 -- after the tables before it
 pub defined : IsDefined (made (take 7 tables)) 15 entries

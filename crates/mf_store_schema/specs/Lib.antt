@@ -1,4 +1,5 @@
 pub mod Tables
+pub mod Versions
 pub mod Fields
 pub mod Keys
 pub mod Rows

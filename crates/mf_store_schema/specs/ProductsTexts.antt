@@ -4,10 +4,14 @@ use Rattle.std.proofs.Common.{inl, inr, refl, rules}
 use Rattle.sqlite_tied.specs.Compute.{everything}
 use Rattle.sqlite.specs.Listing.{understood}
 use Rattle.mf_store_sql.specs.Making.{IsDefined}
-use Rattle.mf_store_sql.specs.Meanings.{Asks, IsKept}
+use Rattle.mf_store_sql.specs.Meanings.{IsKept}
 use Rattle.mf_store_sql.specs.Rows.{AreKeepable, first_cmp}
 use Rattle.mf_store_schema.specs.Keys.{one_number}
-use Rattle.mf_store_schema.specs.Tables.{schema, first_schema, tables, made, products}
+use Rattle.mf_store_schema.specs.Tables.{schema, tables, made, products}
+use Rattle.mf_store_schema.specs.Versions.{schema_at}
+use Rattle.mf_store_schema.specs.Whole.{IsAskable}
+use Rattle.mf_store_schema.specs.declared.versions.Version.{Version}
+use Rattle.mf_store_schema.specs.declared.versions.Version.TheVariants.{First, Second}
 use Rattle.mf_store_schema.specs.Rows.{product_row, by_product}
 use Rattle.mf_store_schema.specs.declared.products.ProductRow.{ProductRow}
 
@@ -28,9 +32,11 @@ kept = record {
   shows = record { plain = (refl, refl); unlisted = refl; is = refl };
 }
 
-pub first_shows : Asks first_schema 5 11 products 0
+-- the schema of each version
+pub asked : (v : Version) → IsAskable (schema_at v) 5 11 products
 unfolding understood everything
-first_shows = record { plain = (refl, refl); unlisted = refl; is = refl }
+asked First = record { there = refl; asks = record { plain = (refl, refl); unlisted = refl; is = refl } }
+asked Second = record { there = kept.there; asks = kept.shows }
 
 -- after the tables before it
 pub defined : IsDefined (made (take 5 tables)) 11 products

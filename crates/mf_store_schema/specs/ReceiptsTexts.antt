@@ -4,10 +4,14 @@ use Rattle.std.proofs.Common.{inl, inr, refl, rules}
 use Rattle.sqlite_tied.specs.Compute.{everything}
 use Rattle.sqlite.specs.Listing.{understood}
 use Rattle.mf_store_sql.specs.Making.{IsDefined}
-use Rattle.mf_store_sql.specs.Meanings.{Asks, IsKept}
+use Rattle.mf_store_sql.specs.Meanings.{IsKept}
 use Rattle.mf_store_sql.specs.Rows.{AreKeepable, first_cmp}
 use Rattle.mf_store_schema.specs.Keys.{number_and_text}
-use Rattle.mf_store_schema.specs.Tables.{schema, first_schema, tables, made, receipts}
+use Rattle.mf_store_schema.specs.Tables.{schema, tables, made, receipts}
+use Rattle.mf_store_schema.specs.Versions.{schema_at}
+use Rattle.mf_store_schema.specs.Whole.{IsAskable}
+use Rattle.mf_store_schema.specs.declared.versions.Version.{Version}
+use Rattle.mf_store_schema.specs.declared.versions.Version.TheVariants.{First, Second}
 use Rattle.mf_store_schema.specs.Rows.{receipt_row, by_receipt}
 use Rattle.mf_store_schema.specs.declared.receipts.ReceiptRow.{ReceiptRow}
 
@@ -28,9 +32,11 @@ kept = record {
   shows = record { plain = (refl, refl); unlisted = refl; is = refl };
 }
 
-pub first_shows : Asks first_schema 8 17 receipts 0
+-- the schema of each version
+pub asked : (v : Version) → IsAskable (schema_at v) 8 17 receipts
 unfolding understood everything
-first_shows = record { plain = (refl, refl); unlisted = refl; is = refl }
+asked First = record { there = refl; asks = record { plain = (refl, refl); unlisted = refl; is = refl } }
+asked Second = record { there = kept.there; asks = kept.shows }
 
 -- after the tables before it
 pub defined : IsDefined (made (take 8 tables)) 17 receipts

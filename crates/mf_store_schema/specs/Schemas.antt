@@ -1,22 +1,20 @@
 -- The schemas that files of this program have, and a connection that nothing changes under some of them.
-use Rattle.std.specs.Prelude.{◌≡◌, ◌⊎◌, IsTrue}
+use Rattle.std.specs.Prelude.{◌≡◌, IsTrue}
 use Rattle.sqlite.specs.Schema.{Schema}
 use Rattle.sqlite.specs.State.{State, HasCleanDisk}
 use Rattle.sqlite.specs.Tree.{Trees}
 use Rattle.mf_store_schema.specs.Calls.{OnlyFaultsShut}
-use Rattle.mf_store_schema.specs.Tables.{schema, first_schema}
+use Rattle.mf_store_schema.specs.Tables.{schema}
+use Rattle.mf_store_schema.specs.Versions.{IsOfVersion}
+use Rattle.mf_store_schema.specs.declared.versions.Version.{Version}
 
 -- the schema of today
 abbrev pub IsPresent : Schema → Type 0
 IsPresent k = k ≡ schema
 
--- the schema is the first one
-abbrev pub IsFirst : Schema → Type 0
-IsFirst k = k ≡ first_schema
-
--- the schema of today, or the first
+-- the schema is that of some version
 abbrev pub IsKnown : Schema → Type 0
-IsKnown k = IsPresent k ⊎ IsFirst k
+IsKnown k = (v : Version) × IsOfVersion v k
 
 -- Nothing is changed where the tables are those of such a schema, and then a stop leaves nothing that it could not
 -- leave before.

@@ -7,7 +7,11 @@ use Rattle.mf_store_sql.specs.Making.{IsDefined}
 use Rattle.mf_store_sql.specs.Meanings.{Asks, IsKept}
 use Rattle.mf_store_sql.specs.Rows.{AreKeepable, first_cmp}
 use Rattle.mf_store_schema.specs.Keys.{two_numbers}
-use Rattle.mf_store_schema.specs.Tables.{schema, first_schema, tables, made, staff}
+use Rattle.mf_store_schema.specs.Tables.{schema, tables, made, staff}
+use Rattle.mf_store_schema.specs.Versions.{schema_at}
+use Rattle.mf_store_schema.specs.Whole.{IsAskable}
+use Rattle.mf_store_schema.specs.declared.versions.Version.{Version}
+use Rattle.mf_store_schema.specs.declared.versions.Version.TheVariants.{First, Second}
 use Rattle.mf_store_schema.specs.Rows.{staff_row, by_staff}
 use Rattle.mf_store_schema.specs.declared.staff.StaffRow.{StaffRow}
 
@@ -32,9 +36,11 @@ pub lists_by_1 : Asks schema 2 5 staff 1
 unfolding understood everything
 lists_by_1 = record { plain = (refl, refl); unlisted = refl; is = refl }
 
-pub first_shows : Asks first_schema 2 5 staff 0
+-- the schema of each version
+pub asked : (v : Version) → IsAskable (schema_at v) 2 5 staff
 unfolding understood everything
-first_shows = record { plain = (refl, refl); unlisted = refl; is = refl }
+asked First = record { there = refl; asks = record { plain = (refl, refl); unlisted = refl; is = refl } }
+asked Second = record { there = kept.there; asks = kept.shows }
 
 -- after the tables before it
 pub defined : IsDefined (made (take 2 tables)) 5 staff

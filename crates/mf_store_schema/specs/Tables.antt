@@ -1,5 +1,5 @@
 -- The tables as data, and the schema that they make.
-use Rattle.std.specs.Prelude.{ℕ, List, [], ◌∷◌, map, flat_map, take, codes}
+use Rattle.std.specs.Prelude.{ℕ, List, [], ◌∷◌, map, flat_map, codes}
 use Rattle.sqlite.specs.Schema.{Schema}
 use Rattle.mf_store_sql.specs.Columns.{Columns, named, unique, Number, Amount, Text, MaybeNumber, MaybeText}
 use Rattle.mf_store_sql.specs.Columns.{sql_table, sql_indexes}
@@ -135,10 +135,6 @@ schema_with ts = record {
 -- today's schema
 abbrev pub schema : Schema
 schema = schema_with tables
-
--- the first schema, which had no tables of instalments and of shares
-abbrev pub first_schema : Schema
-first_schema = schema_with (take 9 tables)
 
 -- the schema once these are made, and no others
 abbrev pub made : List (ℕ × Columns) → Schema

@@ -1,6 +1,6 @@
 -- Tables of whatever rows, and what a text shows of one.
 use Rattle.std.specs.Prelude.{◌≡◌, ℕ, List, map, slice_get, Some}
-use Rattle.std.proofs.Common.{inl, inr, sym, subst}
+use Rattle.std.proofs.Common.{sym, subst}
 use Rattle.std.specs.declared.cmp.Ordering.{Ordering}
 use Rattle.std.specs.declared.cmp.Ordering.TheVariants.{Less}
 use Rattle.std.specs.List.{AllByRecursion}
@@ -14,7 +14,9 @@ use Rattle.sqlite_trees.specs.View.{IsShaped}
 use Rattle.mf_store_sql.specs.Columns.{Columns, sql_table}
 use Rattle.mf_store_sql.specs.Keep.{Keeps}
 use Rattle.mf_store_sql.specs.Meanings.{Asks, IsKept}
-use Rattle.mf_store_schema.specs.Tables.{schema, first_schema}
+use Rattle.mf_store_schema.specs.Tables.{schema}
+use Rattle.mf_store_schema.specs.Versions.{schema_at}
+use Rattle.mf_store_schema.specs.declared.versions.Version.{Version}
 use Rattle.mf_store_schema.specs.Schemas.{IsKnown, IsPresent}
 
 -- the rows stand under rowids that are integers and rise
@@ -25,28 +27,25 @@ HasRowids = IsShaped Table
 abbrev pub HaveRowidsUnder : Schema → Trees → Type 0
 HaveRowidsUnder k trees = AllByRecursion (λ (t : SqlTable). HasRowids (trees t.tree)) k.tables
 
--- so does each table of the program
-abbrev pub HaveRowids : Trees → Type 0
-HaveRowids trees = HaveRowidsUnder schema trees
-
--- so does each table of the first schema
-abbrev pub HaveFirstRowids : Trees → Type 0
-HaveFirstRowids trees = HaveRowidsUnder first_schema trees
+-- so does each table of a version
+abbrev pub HaveRowids : Version → Trees → Type 0
+HaveRowids v trees = HaveRowidsUnder (schema_at v) trees
 
 -- the schema has the table at this place, and understands the text that asks for the whole of it
 pub record IsAskable (k : Schema) (place tree : ℕ) (t : Columns) : Type 0 where
   pub there : slice_get k.tables place ≡ Some (sql_table tree t)
   pub asks : Asks k place tree t 0
 
-module _ (place tree : ℕ) (t : Columns) (kept : IsKept schema place tree t) where
+module _ (place tree : ℕ) (t : Columns) where
   -- today's schema does
-  pub asked_present : (k : Schema) → IsPresent k → IsAskable k place tree t
-  asked_present k is = subst (λ s. IsAskable s place tree t) (sym is) (record { there = kept.there; asks = kept.shows })
+  pub asked_present : IsKept schema place tree t → (k : Schema) → IsPresent k → IsAskable k place tree t
+  asked_present kept k is =
+      subst (λ s. IsAskable s place tree t) (sym is) (record { there = kept.there; asks = kept.shows })
 
-  -- and the first one, where it has the table
-  pub asked_known : IsAskable first_schema place tree t → (k : Schema) → IsKnown k → IsAskable k place tree t
-  asked_known first k (inl is) = asked_present k is
-  asked_known first k (inr is) = subst (λ s. IsAskable s place tree t) (sym is) first
+  -- and that of each version, where all of them have the table
+  pub asked_known : ((v : Version) → IsAskable (schema_at v) place tree t) → (k : Schema) → IsKnown k
+      → IsAskable k place tree t
+  asked_known asked k is = subst (λ s. IsAskable s place tree t) (sym is.1) (asked is.0)
 
 -- what a text that asks for the whole table shows of it
 pub record ShowsTable {X : Type 0} (stored : X → Row) (cmp : X → X → Ordering) (tree rows : List Row) : Type 0 where

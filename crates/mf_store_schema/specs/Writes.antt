@@ -1,5 +1,5 @@
 -- The lists that the tables keep, and what each write makes of them. Before the tables are made there is none.
-use Rattle.std.specs.Prelude.{◌≡◌, ℕ, List, [], ◌∷◌, Option, Some, None, IsSome}
+use Rattle.std.specs.Prelude.{◌≡◌, ℕ, List, [], ◌∷◌, take, Option, Some, None, IsSome}
 use Rattle.std.specs.declared.cmp.Ordering.{Ordering}
 use Rattle.sqlite.specs.Order.{Row}
 use Rattle.sqlite.specs.Schema.{Schema}
@@ -11,6 +11,9 @@ use Rattle.sqlite.specs.State.{State}
 use Rattle.mf_store_sql.specs.Tables.{no_schema}
 use Rattle.mf_store_sql.specs.Writes.{Serves, Steps}
 use Rattle.mf_store_schema.specs.Tables.{schema}
+use Rattle.mf_store_schema.specs.Versions.{count, schema_at}
+use Rattle.mf_store_schema.specs.declared.versions.Version.{Version}
+use Rattle.mf_store_schema.specs.declared.versions.Version.TheVariants.{Second}
 use Rattle.mf_store_schema.specs.Rows.{Lists, empty_lists, meta_row, office_row, staff_row, client_row, charge_row}
 use Rattle.mf_store_schema.specs.Rows.{product_row, loan_row, entry_row, receipt_row, instalment_row, share_row}
 use Rattle.mf_store_schema.specs.Rows.{by_meta, by_office, by_staff, by_client, by_charge, by_product, by_loan}
@@ -37,10 +40,10 @@ conditions lists = kept_in 0 meta_row by_meta lists.meta ∷ kept_in 2 office_ro
     ∷ kept_in 17 receipt_row by_receipt lists.receipts
     ∷ kept_in 19 instalment_row by_instalment lists.instalments ∷ kept_in 21 share_row by_share lists.shares ∷ []
 
--- the trees list the schema and obey it, and keep these lists
-pub record HoldsLists (trees : Trees) (lists : Lists) : Type 0 where
-  pub sound : IsSound schema trees
-  pub all : AllHold trees (conditions lists)
+-- the trees list the schema of a version and obey it, and keep those of these lists that it has tables for
+pub record HoldsAt (v : Version) (trees : Trees) (lists : Lists) : Type 0 where
+  pub sound : IsSound (schema_at v) trees
+  pub all : AllHold trees (take (count v) (conditions lists))
 
 -- the schema of a database that keeps these lists; none where the tables are still to be made
 abbrev pub schema_of : Option Lists → Schema
@@ -50,7 +53,7 @@ schema_of (Some lists) = schema
 -- the trees keep these lists and nothing else
 abbrev pub Holds : Trees → Option Lists → Type 0
 Holds trees None = IsSound no_schema trees
-Holds trees (Some lists) = HoldsLists trees lists
+Holds trees (Some lists) = HoldsAt Second trees lists
 
 -- the lists with a change, where there are tables
 abbrev pub lists_changed : (Lists → Lists) → Option Lists → Option Lists

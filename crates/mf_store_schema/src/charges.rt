@@ -2,7 +2,7 @@
 
 ghost use Rattle.std.specs.Ordering.{is_eq};
 ghost use Rattle.mf_store_schema.specs.Tables.{charges};
-ghost use Rattle.mf_store_schema.specs.ChargesTexts.{kept, fits, ordered, first_shows};
+ghost use Rattle.mf_store_schema.specs.ChargesTexts.{kept, fits, ordered, asked};
 ghost use Rattle.mf_store_schema.specs.Keys.{one_number};
 ghost use Rattle.mf_store_schema.specs.Once.{charge_once};
 ghost use Rattle.mf_store_schema.specs.Rows.{by_charge, charge_row, put_charge, is_row_of_charge};
@@ -113,7 +113,7 @@ impl Table for ChargeRow {
 
     ghost kept = { kept };
 
-    ghost asked = { asked_known 4 9 charges kept (record { there = refl; asks = first_shows }) };
+    ghost asked = { asked_known 4 9 charges asked };
 
     ghost fits = { fits };
 

@@ -2,7 +2,7 @@
 
 ghost use Rattle.std.specs.Ordering.{is_eq};
 ghost use Rattle.mf_store_schema.specs.Tables.{clients};
-ghost use Rattle.mf_store_schema.specs.ClientsTexts.{kept, fits, ordered, lists_by_1, first_shows};
+ghost use Rattle.mf_store_schema.specs.ClientsTexts.{kept, fits, ordered, lists_by_1, asked};
 ghost use Rattle.mf_store_schema.specs.Keys.{one_number, two_numbers};
 ghost use Rattle.mf_store_schema.specs.Once.{client_once};
 ghost use Rattle.mf_store_schema.specs.Rows.{by_client, client_row, put_client, is_row_of_client};
@@ -101,7 +101,7 @@ impl Table for ClientRow {
 
     ghost kept = { kept };
 
-    ghost asked = { asked_known 3 7 clients kept (record { there = refl; asks = first_shows }) };
+    ghost asked = { asked_known 3 7 clients asked };
 
     ghost fits = { fits };
 

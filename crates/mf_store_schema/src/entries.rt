@@ -2,7 +2,7 @@
 
 ghost use Rattle.std.specs.Ordering.{is_eq};
 ghost use Rattle.mf_store_schema.specs.Tables.{entries};
-ghost use Rattle.mf_store_schema.specs.EntriesTexts.{kept, fits, ordered, lists_by_2, first_shows};
+ghost use Rattle.mf_store_schema.specs.EntriesTexts.{kept, fits, ordered, lists_by_2, asked};
 ghost use Rattle.mf_store_schema.specs.Keys.{two_numbers, three_numbers};
 ghost use Rattle.mf_store_schema.specs.Once.{entry_once};
 ghost use Rattle.mf_store_schema.specs.Rows.{by_entry, entry_row, put_entry, is_row_of_entry};
@@ -156,7 +156,7 @@ impl Table for EntryRow {
 
     ghost kept = { kept };
 
-    ghost asked = { asked_known 7 15 entries kept (record { there = refl; asks = first_shows }) };
+    ghost asked = { asked_known 7 15 entries asked };
 
     ghost fits = { fits };
 

@@ -2,7 +2,7 @@
 
 ghost use Rattle.mf_store_schema.specs.Upgrade.{UpgradesFirst};
 
-/// Where the rows rise by key, these writes bring the lists of the first schema to those of the second.
+/// Where the rows rise by key, these writes bring the lists of the first version to those of the second.
 pub fn upgrades_first()
     ensures { UpgradesFirst }
 {}

@@ -1,7 +1,7 @@
 //! The program's tables: their rows and the texts that read and write them, over any store that `sqlite` can change.
 //!
-//! A file may hold the tables of today, those of the first schema, which has none of instalments and of shares, or
-//! whatever a stranger wrote there. Each table is read whole, the first schema is brought to the second in one commit,
+//! A file may hold the tables of any version of the schema, of which the first has none of instalments and of shares, or
+//! whatever a stranger wrote there. Each table is read whole, the first version is brought to the second in one commit,
 //! and a schema that is found is compared with the one that words describe. Contracts speak of the lists of rows that
 //! the tables keep. What institution these are is left to the crates above.
 #![tactic(auto)]
@@ -32,6 +32,7 @@ mod tables;
 mod text;
 mod upgrade_writes;
 mod upgrading;
+mod versions;
 mod whole;
 mod words;
 mod writes;
@@ -43,7 +44,7 @@ pub use groups::{Group, Last};
 pub use instalments::{InstalmentRow, PortionSums};
 pub use loans::{LoanRow, loans_above};
 pub use logs::{has_log, remove_bare_log};
-pub use meta::{FIRST_SCHEMA, MetaRow, SCHEMA};
+pub use meta::{MetaRow, SCHEMA};
 pub use offices::{OfficeRow, offices_within};
 pub use opened::open_file;
 pub use products::ProductRow;
@@ -53,9 +54,10 @@ pub use rows::read_any;
 pub use shares::{EntryKey, ShareRow};
 pub use staff::StaffRow;
 pub use table::{Listed, Table, Values, ask, find_row, list_rows, read_row};
-pub use tables::{has_no_tables, is_first, is_present};
+pub use tables::{has_no_tables, version_of};
 pub use text::Text;
 pub use upgrade_writes::UpgradeWrite;
 pub use upgrading::upgrade;
+pub use versions::Version;
 pub use whole::{every, whole_text};
 pub use writes::StoreWrite;

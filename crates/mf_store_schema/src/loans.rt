@@ -6,7 +6,7 @@ ghost use Rattle.sqlite.specs.Held.{state};
 ghost use Rattle.sqlite.specs.State.{HasCleanDisk};
 ghost use Rattle.std.specs.Ordering.{is_eq};
 ghost use Rattle.mf_store_schema.specs.Tables.{loans};
-ghost use Rattle.mf_store_schema.specs.LoansTexts.{kept, fits, ordered, lists_by_1, first_shows};
+ghost use Rattle.mf_store_schema.specs.LoansTexts.{kept, fits, ordered, lists_by_1, asked};
 ghost use Rattle.mf_store_schema.specs.Keys.{one_number, two_numbers};
 ghost use Rattle.mf_store_schema.specs.Once.{loan_once};
 ghost use Rattle.mf_store_schema.specs.Rows.{by_loan, Lists, loan_row, put_loan, is_row_of_loan};
@@ -147,7 +147,7 @@ impl Table for LoanRow {
 
     ghost kept = { kept };
 
-    ghost asked = { asked_known 6 13 loans kept (record { there = refl; asks = first_shows }) };
+    ghost asked = { asked_known 6 13 loans asked };
 
     ghost fits = { fits };
 

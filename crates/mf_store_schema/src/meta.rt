@@ -2,7 +2,7 @@
 
 ghost use Rattle.std.specs.Ordering.{is_eq};
 ghost use Rattle.mf_store_schema.specs.Tables.{meta};
-ghost use Rattle.mf_store_schema.specs.MetaTexts.{kept, fits, ordered, first_shows};
+ghost use Rattle.mf_store_schema.specs.MetaTexts.{kept, fits, ordered, asked};
 ghost use Rattle.mf_store_schema.specs.Keys.{one_number};
 ghost use Rattle.mf_store_schema.specs.Once.{meta_once};
 ghost use Rattle.mf_store_schema.specs.Rows.{by_meta, meta_row, put_meta, is_row_of_meta};
@@ -40,10 +40,7 @@ pub(crate) const INDEX: IndexWords = IndexWords {
     key: &[1],
 };
 
-/// The first schema, whose nine tables keep no instalments and no shares.
-pub const FIRST_SCHEMA: u32 = 1;
-
-/// The schema of the eleven tables that the program makes.
+/// The number of the schema that the program makes.
 pub const SCHEMA: u32 = 2;
 
 /// The one row of the table meta: what the file is, and the business day.
@@ -107,7 +104,7 @@ impl Table for MetaRow {
 
     ghost kept = { kept };
 
-    ghost asked = { asked_known 0 0 meta kept (record { there = refl; asks = first_shows }) };
+    ghost asked = { asked_known 0 0 meta asked };
 
     ghost fits = { fits };
 

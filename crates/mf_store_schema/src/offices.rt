@@ -6,7 +6,7 @@ ghost use Rattle.sqlite.specs.Held.{state};
 ghost use Rattle.sqlite.specs.State.{HasCleanDisk};
 ghost use Rattle.std.specs.Ordering.{is_eq};
 ghost use Rattle.mf_store_schema.specs.Tables.{offices};
-ghost use Rattle.mf_store_schema.specs.OfficesTexts.{kept, fits, ordered, first_shows};
+ghost use Rattle.mf_store_schema.specs.OfficesTexts.{kept, fits, ordered, asked};
 ghost use Rattle.mf_store_schema.specs.Keys.{one_number};
 ghost use Rattle.mf_store_schema.specs.Once.{office_once};
 ghost use Rattle.mf_store_schema.specs.Rows.{by_office, Lists, office_row, put_office};
@@ -124,7 +124,7 @@ impl Table for OfficeRow {
 
     ghost kept = { kept };
 
-    ghost asked = { asked_known 1 2 offices kept (record { there = refl; asks = first_shows }) };
+    ghost asked = { asked_known 1 2 offices asked };
 
     ghost fits = { fits };
 

@@ -7,9 +7,9 @@ ghost use Rattle.sqlite.specs.Start.{FindsIn};
 ghost use Rattle.sqlite.specs.State.{HasCleanDisk};
 ghost use Rattle.sqlite_store.specs.FileStore.{view};
 ghost use Rattle.sqlite_wal.specs.Files.{image_at};
-ghost use Rattle.mf_store_schema.specs.Tables.{schema};
-ghost use Rattle.mf_store_schema.specs.Tables.{first_schema};
-ghost use Rattle.mf_store_schema.specs.Whole.{HaveRowids, HaveFirstRowids};
+ghost use Rattle.mf_store_schema.specs.Versions.{IsOfVersion};
+ghost use Rattle.mf_store_schema.specs.Whole.{HaveRowids};
+ghost use Rattle.mf_store_schema.specs.declared.versions.Version.{Version};
 
 use crate::logs::remove_bare_log;
 use sqlite::{Connection, Error, FileFrom, FileStore, Start};
@@ -22,10 +22,8 @@ pub fn open_file<S: Start>(
     path: &str,
     start: S,
 ) -> Result<Connection<FileStore<FileFrom<S>>>, Error>
-    ensures rowids { IfOk result (λ c. HasCleanDisk (file_state c) → (file_state c).now.schema ≡ schema
-        → HaveRowids (file_state c).now.trees) }
-    ensures first_rowids { IfOk result (λ c. HasCleanDisk (file_state c) → (file_state c).now.schema ≡ first_schema
-        → HaveFirstRowids (file_state c).now.trees) }
+    ensures rowids { IfOk result (λ c. HasCleanDisk (file_state c) → (v : Version) → IsOfVersion v (file_state c).now.schema
+        → HaveRowids v (file_state c).now.trees) }
     ensures opened { IfOk result (λ c. HasCleanDisk (file_state c) → IsOpened c) }
     ensures found { IfOk result (λ c. HasCleanDisk (file_state c) → FindsIn (image_at S.Start) (file_state c)) }
     ensures sums { IfOk result (λ c. HasCleanDisk (file_state c) → IsBlankAs true (image_at S.Start)

@@ -2,7 +2,7 @@
 
 ghost use Rattle.std.specs.Ordering.{is_eq};
 ghost use Rattle.mf_store_schema.specs.Tables.{products};
-ghost use Rattle.mf_store_schema.specs.ProductsTexts.{kept, fits, ordered, first_shows};
+ghost use Rattle.mf_store_schema.specs.ProductsTexts.{kept, fits, ordered, asked};
 ghost use Rattle.mf_store_schema.specs.Keys.{one_number};
 ghost use Rattle.mf_store_schema.specs.Once.{product_once};
 ghost use Rattle.mf_store_schema.specs.Rows.{by_product, product_row, put_product, is_row_of_product};
@@ -178,7 +178,7 @@ impl Table for ProductRow {
 
     ghost kept = { kept };
 
-    ghost asked = { asked_known 5 11 products kept (record { there = refl; asks = first_shows }) };
+    ghost asked = { asked_known 5 11 products asked };
 
     ghost fits = { fits };
 

@@ -6,7 +6,7 @@ ghost use Rattle.sqlite.specs.Held.{state};
 ghost use Rattle.sqlite.specs.State.{HasCleanDisk};
 ghost use Rattle.std.specs.Ordering.{is_eq};
 ghost use Rattle.mf_store_schema.specs.Tables.{receipts};
-ghost use Rattle.mf_store_schema.specs.ReceiptsTexts.{kept, fits, ordered, first_shows};
+ghost use Rattle.mf_store_schema.specs.ReceiptsTexts.{kept, fits, ordered, asked};
 ghost use Rattle.mf_store_schema.specs.Keys.{number_and_text};
 ghost use Rattle.mf_store_schema.specs.Once.{receipt_once};
 ghost use Rattle.mf_store_schema.specs.Rows.{by_receipt, Lists, receipt_row, put_receipt};
@@ -116,7 +116,7 @@ impl Table for ReceiptRow {
 
     ghost kept = { kept };
 
-    ghost asked = { asked_known 8 17 receipts kept (record { there = refl; asks = first_shows }) };
+    ghost asked = { asked_known 8 17 receipts asked };
 
     ghost fits = { fits };
 

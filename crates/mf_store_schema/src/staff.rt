@@ -2,7 +2,7 @@
 
 ghost use Rattle.std.specs.Ordering.{is_eq};
 ghost use Rattle.mf_store_schema.specs.Tables.{staff};
-ghost use Rattle.mf_store_schema.specs.StaffTexts.{kept, fits, ordered, lists_by_1, first_shows};
+ghost use Rattle.mf_store_schema.specs.StaffTexts.{kept, fits, ordered, lists_by_1, asked};
 ghost use Rattle.mf_store_schema.specs.Keys.{one_number, two_numbers};
 ghost use Rattle.mf_store_schema.specs.Once.{staff_once};
 ghost use Rattle.mf_store_schema.specs.Rows.{by_staff, staff_row, put_staff, is_row_of_staff};
@@ -109,7 +109,7 @@ impl Table for StaffRow {
 
     ghost kept = { kept };
 
-    ghost asked = { asked_known 2 5 staff kept (record { there = refl; asks = first_shows }) };
+    ghost asked = { asked_known 2 5 staff asked };
 
     ghost fits = { fits };
 

@@ -24,7 +24,8 @@ ghost use Rattle.mf_store_schema.specs.Tables.{schema};
 ghost use Rattle.sqlite.specs.declared.error.ErrorCode.TheVariants.{OutOfMemory};
 ghost use Rattle.mf_store_schema.specs.Fields.{HasFields};
 ghost use Rattle.mf_store_schema.specs.Rows.{Lists, IsNew};
-ghost use Rattle.mf_store_schema.specs.Writes.{schema_of, Holds, HoldsLists, Putting, conditions, kept_in};
+ghost use Rattle.mf_store_schema.specs.Writes.{schema_of, Holds, HoldsAt, Putting, conditions, kept_in};
+ghost use Rattle.mf_store_schema.specs.declared.versions.Version.TheVariants.{Second};
 ghost use Rattle.mf_store_schema.specs.Calls.{IsAsBefore, IsKeeping, Shows};
 ghost use Rattle.mf_store_schema.specs.Whole.{IsAskable};
 
@@ -230,7 +231,7 @@ pub trait Table: Sized {
     ghost found: { (key : Self.Key) (x : Self) → is_at key x
         ≡ begins columns.key (Self.Key.values key) (stored x) };
 
-    ghost held: { (trees : Trees) (lists : Lists) → HoldsLists trees lists
+    ghost held: { (trees : Trees) (lists : Lists) → HoldsAt Second trees lists
         → Keeps stored by (trees tree) (list lists) };
 
     ghost changes: { (x : Self) (lists : Lists) (trees : Trees)

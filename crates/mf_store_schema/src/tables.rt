@@ -1,18 +1,19 @@
 //! The tables of the program, in words that a schema found is compared with.
 
-ghost use Rattle.std.specs.Prelude.{◌≡◌, ◌↔◌, IsTrue};
+ghost use Rattle.std.specs.Prelude.{◌≡◌, ◌↔◌, IsTrue, IfSome, IfNone};
 ghost use Rattle.mf_store_sql.specs.Tables.{no_schema};
-ghost use Rattle.mf_store_schema.specs.Tables.{schema};
-ghost use Rattle.mf_store_schema.specs.Tables.{first_schema};
+ghost use Rattle.mf_store_schema.specs.Schemas.{IsKnown};
+ghost use Rattle.mf_store_schema.specs.Versions.{IsOfVersion};
 
 use crate::described::is_schema;
+use crate::versions::Version;
 use crate::words::{IndexWords, TableWords};
 use crate::{
     charges, clients, entries, instalments, loans, meta, offices, products, receipts, shares, staff,
 };
 use sqlite_schema::schema::Schema;
 
-/// Today's tables; the first schema has the first nine.
+/// Today's tables; the first version has the first nine.
 const TABLES: [TableWords; 11] = [
     meta::WORDS,
     offices::WORDS,
@@ -27,7 +28,7 @@ const TABLES: [TableWords; 11] = [
     shares::WORDS,
 ];
 
-/// Their indexes; the first schema has the first ten.
+/// Their indexes; the first version has the first ten.
 const INDEXES: [IndexWords; 12] = [
     meta::INDEX,
     offices::TEXT_INDEX,
@@ -50,16 +51,26 @@ pub fn has_no_tables(found: &Schema) -> bool
     found.tables.is_empty() && found.indexes.is_empty() && found.views.is_empty()
 }
 
-/// Whether a schema is today's.
-pub fn is_present(found: &Schema) -> bool
-    ensures { IsTrue result ↔ (found.now ≡ schema) }
+/// Whether a schema is that of a version.
+fn is_at(found: &Schema, version: Version) -> bool
+    ensures { IsTrue result ↔ IsOfVersion version found.now }
 {
-    is_schema(found, &TABLES, &INDEXES)
+    match version {
+        Version::First => is_schema(found, &TABLES[..9], &INDEXES[..10]),
+        Version::Second => is_schema(found, &TABLES, &INDEXES),
+    }
 }
 
-/// Whether a schema is the first.
-pub fn is_first(found: &Schema) -> bool
-    ensures { IsTrue result ↔ (found.now ≡ first_schema) }
+/// The version whose schema this is, and none where it is that of no version.
+pub fn version_of(found: &Schema) -> Option<Version>
+    ensures some { IfSome result (λ version. IsOfVersion version found.now) }
+    ensures none { IfNone result (¬ IsKnown found.now) }
 {
-    is_schema(found, &TABLES[..9], &INDEXES[..10])
+    if is_at(found, Version::Second) {
+        return Some(Version::Second);
+    }
+    if is_at(found, Version::First) {
+        return Some(Version::First);
+    }
+    None
 }

@@ -1,4 +1,4 @@
-//! The writes that bring the first schema to the second: tables of instalments and of shares are made beside its own.
+//! The writes that bring the first version to the second: tables of instalments and of shares are made beside its own.
 
 ghost use Rattle.std.specs.Prelude.{◌≡◌, IsTrue, OnOk};
 ghost use Rattle.sqlite.specs.State.{HasCleanDisk, KeepsCommit, Survives};
@@ -11,7 +11,7 @@ use crate::{instalments, shares};
 use mf_store_sql::{Write, make};
 use sqlite::{Alter, Error, Transaction};
 
-/// What the commit is made of that brings the first schema to the second.
+/// What the commit is made of that brings the first version to the second.
 #[derive(Drop)]
 pub enum UpgradeWrite {
     /// The tables of instalments and of shares are made.

@@ -1,4 +1,4 @@
-//! The first schema brought to the second in one commit.
+//! The first version of the tables brought to the second in one commit.
 
 ghost use Rattle.std.specs.Prelude.{◌≡◌, ◌⊎◌, false, Some, IsTrue, OnOk, OnErr, IfOk, IfErr};
 ghost use Rattle.mf_base.specs.declared.fault.Fault.TheVariants.{F20};
@@ -9,7 +9,8 @@ ghost use Rattle.mf_store_schema.specs.Calls.{OnlyFaultsShut};
 ghost use Rattle.mf_store_schema.specs.Rows.{Lists};
 ghost use Rattle.mf_store_schema.specs.Writes.{Holds};
 ghost use Rattle.mf_store_schema.specs.Upgrade.{upgrade_writes, upgraded_lists, CanUpgrade};
-ghost use Rattle.mf_store_schema.specs.Upgraded.{IsKeepingFirst, IsUpgradedTo};
+ghost use Rattle.mf_store_schema.specs.declared.versions.Version.TheVariants.{First};
+ghost use Rattle.mf_store_schema.specs.Upgraded.{IsKeepingAt, IsUpgradedTo};
 
 use crate::instalments::InstalmentRow;
 use crate::meta::MetaRow;
@@ -43,7 +44,7 @@ fn all_writes(
     Ok(writes)
 }
 
-/// Brings tables of the first schema to the second, in one commit: tables of instalments and of shares with these rows,
+/// Brings tables of the first version to the second, in one commit: tables of instalments and of shares with these rows,
 /// and this row of meta in place of the old one.
 ///
 /// The clauses speak of rows that rise by key, and of one row of meta under the key of the new one. The error is F20.
@@ -64,14 +65,14 @@ pub fn upgrade<S: Alter>(
         → IsTrue (state S.Store connection.old).is_open }
 
     ensures made { HasCleanDisk (state S.Store connection.new) → OnOk result ((lists : Lists)
-        → CanUpgrade meta instalments.items shares.items lists → IsKeepingFirst (state S.Store connection.old) lists
+        → CanUpgrade meta instalments.items shares.items lists → IsKeepingAt First (state S.Store connection.old) lists
         → IsUpgradedTo (state S.Store connection.new) (upgraded_lists meta instalments.items shares.items lists)) }
     ensures same { HasCleanDisk (state S.Store connection.new) → IsTrue (state S.Store connection.new).is_open
         → OnErr result ((state S.Store connection.new).now ≡ (state S.Store connection.old).now) }
 
-    // A stop leaves what it could leave before, or the second schema whole.
+    // A stop leaves what it could leave before, or the second version whole.
     ensures stop { HasCleanDisk (state S.Store connection.new) → (lists : Lists) → CanUpgrade meta instalments.items
-        shares.items lists → IsKeepingFirst (state S.Store connection.old) lists
+        shares.items lists → IsKeepingAt First (state S.Store connection.old) lists
         → (trees : Trees) → (state S.Store connection.new).may_leave trees → (state S.Store connection.old).may_leave
         trees ⊎ Holds trees (Some (upgraded_lists meta instalments.items shares.items lists)) }
     ensures mode { connection.new.in_transaction ≡ false }

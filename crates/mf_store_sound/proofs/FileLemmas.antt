@@ -12,9 +12,10 @@ use Rattle.sqlite_wal.specs.Recovery.{Image}
 use Rattle.mf_store_sql.specs.Tables.{no_schema}
 use Rattle.mf_store_sql.specs.Writes.{Serves}
 use Rattle.mf_store_schema.specs.Schemas.{IsKnown}
-use Rattle.mf_store_schema.specs.Tables.{first_schema, schema}
+use Rattle.mf_store_schema.specs.Versions.{IsOfVersion}
+use Rattle.mf_store_schema.specs.declared.versions.Version.{Version}
 use Rattle.mf_store_schema.specs.Writes.{schema_of, Holds}
-use Rattle.mf_store_schema.specs.Whole.{HaveRowids, HaveFirstRowids}
+use Rattle.mf_store_schema.specs.Whole.{HaveRowids}
 use Rattle.mf_store_sound.specs.Files.{HasNoTables, ShowsFile}
 use Rattle.mf_store_sound.proofs.BlankLemmas.{empty_if_nothing}
 use Rattle.mf_store_sound.proofs.SchemaLemmas.{nothing_listed, one_schema}
@@ -34,15 +35,14 @@ module _ (image : Image) (s : State) (opens : Opens s) (live : IsLive s) (found 
       ∙ (empty_if_nothing image s.committed.trees nothing found.reads).1)
   no_tables (inr held) = unlisted (ap (λ (trees : Trees). trees catalog_tree) (now_are held.0 held.1) ∙ held.2.1)
 
-  pub shows : (s.now.schema ≡ schema → HaveRowids s.now.trees) → (s.now.schema ≡ first_schema
-      → HaveFirstRowids s.now.trees) → ((left : Trees) → s.may_leave left → left ≡ s.now.trees) → ShowsFile image s
-  shows rowids first_rowids leaves = record {
+  pub shows : ((v : Version) → IsOfVersion v s.now.schema → HaveRowids v s.now.trees)
+      → ((left : Trees) → s.may_leave left → left ≡ s.now.trees) → ShowsFile image s
+  shows rowids leaves = record {
     is_open = opens.is_open;
     none = no_tables;
     holds = now_are;
     sound = (live opens.is_open).0;
     rowids = rowids;
-    first_rowids = first_rowids;
     leaves = leaves;
   }
 
@@ -65,8 +65,7 @@ module _ (image : Image) (s : State) (shows : ShowsFile image s) where
 
   own_views : (s.now.schema ≡ no_schema) ⊎ IsKnown s.now.schema → s.now.schema.views ≡ []
   own_views (inl none) = ap (λ (k : Schema). k.views) none
-  own_views (inr (inl present)) = ap (λ (k : Schema). k.views) present
-  own_views (inr (inr first)) = ap (λ (k : Schema). k.views) first
+  own_views (inr known) = ap (λ (k : Schema). k.views) known.1
 
   -- where the connection has the tables of the program, or none, so has the file
   pub is_one : (s.now.schema ≡ no_schema) ⊎ IsKnown s.now.schema → (trees : Trees) (k : Schema)

@@ -11,6 +11,7 @@ pub mod EnteredLemmas
 pub mod RisingLemmas
 pub mod StaffLemmas
 pub mod LoanPartLemmas
+pub mod MigrateLemmas
 pub mod OfficePartLemmas
 pub mod ReceiptLemmas
 pub mod AllLoanLemmas

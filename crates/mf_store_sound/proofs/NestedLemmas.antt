@@ -1,9 +1,22 @@
 -- All tables as nested pairs, in the order of the schema, and as a record of lists.
-use Rattle.std.proofs.Common.{◌≡◌, ℕ, zero, suc, inl, inr, List, [], ◌∷◌, take}
+use Rattle.std.proofs.Common.{◌≡◌, ℕ, zero, suc, List, [], ◌∷◌, take, drop, sym, subst}
+use Rattle.std.specs.List.{AllByRecursion}
+use Rattle.sqlite.specs.Effect.{Database}
 use Rattle.sqlite.specs.Schema.{Schema}
+use Rattle.sqlite.specs.Table.{Table}
+use Rattle.sqlite_catalog.specs.Listing.{IsSound}
+use Rattle.mf_store_sql.proofs.SpareLemmas.{all_and}
+use Rattle.mf_store_schema.proofs.ReadLemmas.{unchanged_then}
+use Rattle.mf_store_schema.specs.Versions.{IsOfVersion, schema_at}
+use Rattle.mf_store_schema.specs.Whole.{HasRowids, HaveRowids}
+use Rattle.mf_store_schema.specs.Writes.{conditions, HoldsAt}
+use Rattle.mf_store_schema.specs.declared.versions.Version.{Version}
+use Rattle.mf_store_schema.specs.declared.versions.Version.TheVariants.{First, Second}
 use Rattle.sqlite.specs.State.{State}
+use Rattle.sqlite.specs.Tree.{Trees}
+use Rattle.mf_store_sql.specs.Trees.{Condition, AllHold}
 use Rattle.mf_store_schema.specs.Calls.{IsAsBefore}
-use Rattle.mf_store_schema.specs.Schemas.{IsFirst, IsKnown, IsPresent, IsUnchangedUnder}
+use Rattle.mf_store_schema.specs.Schemas.{IsKnown, IsPresent, IsUnchangedUnder}
 use Rattle.mf_store_schema.specs.Rows.{Lists}
 use Rattle.mf_store_schema.specs.declared.charges.ChargeRow.{ChargeRow}
 use Rattle.mf_store_schema.specs.declared.clients.ClientRow.{ClientRow}
@@ -23,7 +36,7 @@ infixr 4 ◌also◌
 abbrev pub ◌also◌ : {A B : Type 0} → A → B → A × B
 a also b = (a, b)
 
--- the lists of the nine tables that both schemas have, and of others
+-- the lists of the nine tables that every version has, and of others
 abbrev pub Nested : Type 0 → Type 0
 Nested Others = List MetaRow × (List OfficeRow × (List StaffRow × (List ClientRow × (List ChargeRow ×
     (List ProductRow × (List LoanRow × (List EntryRow × (List ReceiptRow × Others))))))))
@@ -47,30 +60,40 @@ lists_with t instalments shares = record {
   shares = shares;
 }
 
--- those of all eleven
-abbrev pub Eleven : Type 0
-Eleven = Nested (List InstalmentRow × (List ShareRow × Unit {0}))
+-- those of all versions
+abbrev pub common_of : Lists → Nested (Unit {0})
+common_of l = nested_with l tt
 
-abbrev pub nested : Lists → Eleven
-nested l = nested_with l (l.instalments also l.shares also tt)
+-- those of accounts
+abbrev pub accounts_of : Lists → List InstalmentRow × (List ShareRow × Unit {0})
+accounts_of l = l.instalments also l.shares also tt
 
-abbrev pub lists_of : Eleven → Lists
-lists_of t = lists_with t t.1.1.1.1.1.1.1.1.1.0 t.1.1.1.1.1.1.1.1.1.1.0
+pub same_lists : (a b : Nested (Unit {0})) (is js : List InstalmentRow) (ss ts : List ShareRow) → a ≡ b → is ≡ js
+    → ss ≡ ts → lists_with a is ss ≡ lists_with b js ts
+same_lists a b is js ss ts same rows more = λ t. lists_with (same t) (rows t) (more t)
 
--- those of the first schema
-abbrev pub nested_first : Lists → Nested (Unit {0})
-nested_first l = nested_with l tt
+-- those of any, with those of accounts
+pub all_lists : (a b : Nested (Unit {0})) (c d : List InstalmentRow × (List ShareRow × Unit {0})) → a ≡ b → c ≡ d
+    → lists_with a c.0 c.1.0 ≡ lists_with b d.0 d.1.0
+all_lists a b c d same more = λ t. lists_with (same t) (more t).0 (more t).1.0
 
-pub same_lists : (a b : Nested (Unit {0})) (instalments : List InstalmentRow) (shares : List ShareRow) → a ≡ b
-    → instalments ≡ [] → shares ≡ [] → lists_with a instalments shares ≡ lists_with b [] []
-same_lists a b instalments shares same none empty = λ t. lists_with (same t) (none t) (empty t)
+first_all : {A : Type 0} (P : A → Type 0) (n : ℕ) (xs : List A) → AllByRecursion P xs → AllByRecursion P (take n xs)
+first_all P zero xs all = tt
+first_all P (suc n) [] all = tt
+first_all P (suc n) (x ∷ xs) all = (all.0, first_all P n xs all.1)
+
+-- the first of the trees that keep all lists keep theirs
+pub first_held : (trees : Trees) (n : ℕ) (cs : List Condition) → AllHold trees cs → AllHold trees (take n cs)
+first_held trees zero cs all = tt
+first_held trees (suc n) [] all = tt
+first_held trees (suc n) (c ∷ cs) all = (all.0, first_held trees n cs all.1)
 
 first_true : (n : ℕ) (Ps : List (Type 0)) → AllTrue Ps → AllTrue (take n Ps)
 first_true zero Ps all = tt
 first_true (suc n) [] all = tt
 first_true (suc n) (P ∷ Ps) all = (all.0, first_true n Ps all.1)
 
--- what is said of all tables is said of those of the first schema
+-- what is said of all tables is said of those that every version has
 pub first_nine : (Says : Saying) (lists : Lists) → AllTrue (said_of_each Says lists)
     → AllTrue (take 9 (said_of_each Says lists))
 first_nine Says lists = first_true 9 (said_of_each Says lists)
@@ -80,13 +103,8 @@ first_nine Says lists = first_true 9 (said_of_each Says lists)
 abbrev Nine : Type 0 → Type 0 → Type 0
 Nine P Others = P × (P × (P × (P × (P × (P × (P × (P × (P × Others))))))))
 
-pub under_present : (k : Schema) → IsPresent k → Nine (IsKnown k) (IsPresent k × (IsPresent k × Unit {0}))
-under_present k is = let one : IsKnown k = inl is in
-    one also one also one also one also one also one also one also one also one also is also is also tt
-
-pub under_first : (k : Schema) → IsFirst k → Nine (IsKnown k) (Unit {0})
-under_first k is = let one : IsKnown k = inr is in
-    one also one also one also one also one also one also one also one also one also tt
+pub under_common : (k : Schema) → IsKnown k → Nine (IsKnown k) (Unit {0})
+under_common k one = one also one also one also one also one also one also one also one also one also tt
 
 -- what nothing changes under some schemas is unchanged under fewer
 pub unchanged_fewer : (P Q : Schema → Type 0) (a b : State) → ((k : Schema) → Q k → P k) → IsUnchangedUnder P a b
@@ -108,3 +126,61 @@ unchanged_present P a b has u = record {
   shuts = u.shuts;
   stop = λ clean its. u.stop clean (λ live. has a.now.schema (its live));
 }
+
+-- ---- a version's tables: those that every version has, and those of accounts
+
+pub common_held : (v : Version) (trees : Trees) (lists : Lists) → HoldsAt v trees lists
+    → AllHold trees (take 9 (conditions lists))
+common_held First trees lists h = h.all
+common_held Second trees lists h = first_held trees 9 (conditions lists) h.all
+
+pub common_rowids : (v : Version) (trees : Trees) → HaveRowids v trees → HaveRowids First trees
+common_rowids First trees all = all
+common_rowids Second trees all = first_all (λ (t : Table). HasRowids (trees t.tree)) 9 (schema_at Second).tables all
+
+-- what nothing changes where all versions' tables are read
+pub unchanged_common : (v : Version) (a b : State) → IsUnchangedUnder (λ k. Nine (IsKnown k) (Unit {0})) a b
+    → IsUnchangedUnder (IsOfVersion v) a b
+unchanged_common v a b = unchanged_fewer (λ k. Nine (IsKnown k) (Unit {0})) (IsOfVersion v) a b
+    (λ k its. under_common k (v, its))
+
+pub common_hold : (v : Version) → v ≡ First → (db : Database) (lists : Lists) → IsOfVersion v db.schema
+    → IsSound db.schema db.trees → AllHold db.trees (take 9 (conditions lists)) → HoldsAt v db.trees lists
+common_hold v is db lists ours sound all = subst (λ w. HoldsAt w db.trees lists) (sym is) (record {
+  sound = subst (λ k. IsSound k db.trees) (subst (λ w. IsOfVersion w db.schema) is ours) sound;
+  all = all;
+})
+
+module _ (v : Version) (is : v ≡ Second) where
+  has_accounts : (k : Schema) → IsOfVersion v k → IsPresent k × (IsPresent k × Unit {0})
+  has_accounts k ours = let its = subst (λ w. IsOfVersion w k) is ours in its also its also tt
+
+  -- and then those of accounts
+  pub unchanged_all : (a b c : State) → IsUnchangedUnder (λ k. Nine (IsKnown k) (Unit {0})) a b
+      → IsUnchangedUnder (λ k. IsPresent k × (IsPresent k × Unit {0})) b c → IsUnchangedUnder (IsOfVersion v) a c
+  unchanged_all a b c first second = unchanged_fewer (λ k. Nine (IsKnown k) (Unit {0})
+      × (IsPresent k × (IsPresent k × Unit {0}))) (IsOfVersion v) a c
+      (λ k its. (under_common k (v, its), has_accounts k its))
+      (unchanged_then (λ k. Nine (IsKnown k) (Unit {0})) (λ k. IsPresent k × (IsPresent k × Unit {0})) a b c first
+      second)
+
+  -- the database between the two readings is as it was before
+  module _ (was now : Database) (same : now ≡ was) (ours : IsOfVersion v was.schema) where
+    pub under_accounts : IsPresent now.schema × (IsPresent now.schema × Unit {0})
+    under_accounts = has_accounts now.schema (subst (λ (d : Database). IsOfVersion v d.schema) (sym same) ours)
+
+    pub accounts_held : (lists : Lists) → HoldsAt v was.trees lists → AllHold now.trees (drop 9 (conditions lists))
+    accounts_held lists h = subst (λ (d : Database). AllHold d.trees (drop 9 (conditions lists))) (sym same)
+        (subst (λ w. HoldsAt w was.trees lists) is h).all.1.1.1.1.1.1.1.1.1
+
+    pub accounts_rowids : HaveRowids v was.trees → HasRowids (now.trees 19) × (HasRowids (now.trees 21) × Unit {0})
+    accounts_rowids rowids = subst (λ (d : Database). HasRowids (d.trees 19) × (HasRowids (d.trees 21) × Unit {0}))
+        (sym same) (subst (λ w. HaveRowids w was.trees) is rowids).1.1.1.1.1.1.1.1.1
+
+    pub both_hold : (lists : Lists) → IsSound was.schema was.trees → AllHold was.trees (take 9 (conditions lists))
+        → AllHold now.trees (drop 9 (conditions lists)) → HoldsAt v was.trees lists
+    both_hold lists sound common accounts = subst (λ w. HoldsAt w was.trees lists) (sym is) (record {
+      sound = subst (λ k. IsSound k was.trees) (subst (λ w. IsOfVersion w was.schema) is ours) sound;
+      all = all_and was.trees (take 9 (conditions lists)) (drop 9 (conditions lists)) common
+          (subst (λ (d : Database). AllHold d.trees (drop 9 (conditions lists))) same accounts);
+    })

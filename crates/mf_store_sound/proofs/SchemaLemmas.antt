@@ -1,5 +1,5 @@
 -- Trees list one schema at most, and the schemas of the program differ.
-use Rattle.std.proofs.Common.{◌≡◌, ◌≢◌, ◌+◌, ◌<◌, inl, inr, ℕ, List, [], ◌∷◌, ◌++◌, Ok, false, codes, pos, map, filter}
+use Rattle.std.proofs.Common.{◌≡◌, ◌≢◌, ◌+◌, ◌<◌, ℕ, List, [], ◌∷◌, ◌++◌, Ok, false, codes, pos, map, filter}
 use Rattle.std.proofs.Common.{slice_get, length, refl, sym, ap, ◌∙◌, subst, arith}
 use Rattle.std.specs.List.{AllZip}
 use Rattle.std.specs.Char.{to_ascii_lowercase}
@@ -22,7 +22,9 @@ use Rattle.sqlite_catalog.proofs.SoundLemmas.{lowered}
 use Rattle.sqlite_catalog.proofs.StepLemmas.{named_once}
 use Rattle.mf_store_sql.specs.Tables.{no_schema}
 use Rattle.mf_store_schema.specs.Schemas.{IsKnown}
-use Rattle.mf_store_schema.specs.Tables.{first_schema, schema}
+use Rattle.mf_store_schema.specs.Versions.{schema_at}
+use Rattle.mf_store_schema.specs.declared.versions.Version.{Version}
+use Rattle.mf_store_schema.specs.declared.versions.Version.TheVariants.{First, Second}
 
 same_zipped : {A B : Type 0} (R : A → B → Type 0) → ((x : A) (y z : B) → R x y → R x z → y ≡ z)
     → (xs : List A) (ys zs : List B) → AllZip R xs ys → AllZip R xs zs → ys ≡ zs
@@ -117,17 +119,17 @@ nothing_listed trees s none sound =
     let views = none_either IsViewRow [] s.views tt listed.views in
     λ i. record { tables = tables i; indexes = indexes i; views = views i }
 
--- ---- the three schemas differ
+-- ---- the schemas differ
 
-pub not_first : schema ≡ first_schema → ⊥
-not_first is = let e : 11 ≡ 9 = ap (λ (k : Schema). length k.tables) is in omega (arith, e)
+pub none_at : (v : Version) → no_schema ≡ schema_at v → ⊥
+none_at First is = let e : 0 ≡ 9 = ap (λ (k : Schema). length k.tables) is in omega (arith, e)
+none_at Second is = let e : 0 ≡ 11 = ap (λ (k : Schema). length k.tables) is in omega (arith, e)
 
-pub not_present : no_schema ≡ schema → ⊥
-not_present is = let e : 0 ≡ 11 = ap (λ (k : Schema). length k.tables) is in omega (arith, e)
-
-pub none_first : no_schema ≡ first_schema → ⊥
-none_first is = let e : 0 ≡ 9 = ap (λ (k : Schema). length k.tables) is in omega (arith, e)
+pub one_version : (v w : Version) → schema_at v ≡ schema_at w → v ≡ w
+one_version First First is = refl
+one_version First Second is = let e : 9 ≡ 11 = ap (λ (k : Schema). length k.tables) is in absurd (omega (arith, e))
+one_version Second First is = let e : 11 ≡ 9 = ap (λ (k : Schema). length k.tables) is in absurd (omega (arith, e))
+one_version Second Second is = refl
 
 pub known_some : (k : Schema) → IsKnown k → k ≢ no_schema
-known_some k (inl present) is = not_present (sym is ∙ present)
-known_some k (inr first) is = none_first (sym is ∙ first)
+known_some k known is = none_at known.0 (sym is ∙ known.1)

@@ -1,5 +1,5 @@
 -- What is told of tables that nothing changed, and of the file that they came from.
-use Rattle.std.proofs.Common.{◌≡◌, inl, inr, [], refl, sym, ap, ◌∙◌, subst, IsTrue}
+use Rattle.std.proofs.Common.{◌≡◌, [], refl, sym, ap, ◌∙◌, subst, IsTrue}
 use Rattle.std.specs.Prelude.{◌↔◌}
 use Rattle.sqlite.specs.Effect.{Database}
 use Rattle.sqlite.specs.Files.{HoldsDatabase}
@@ -9,23 +9,22 @@ use Rattle.sqlite.specs.Tree.{Trees}
 use Rattle.sqlite_catalog.specs.Listing.{IsSound}
 use Rattle.sqlite_wal.specs.Recovery.{Image}
 use Rattle.mf_store_sql.specs.Tables.{no_schema}
-use Rattle.mf_store_schema.specs.Tables.{schema, first_schema}
 use Rattle.mf_store_schema.specs.Schemas.{IsKnown}
-use Rattle.mf_store_sound.specs.Held.{HoldsSound, HoldsSoundFirst}
+use Rattle.mf_store_schema.specs.Versions.{schema_at}
+use Rattle.mf_store_sound.specs.Held.{HoldsSoundAt}
 use Rattle.mf_store_sound.specs.Files.{ShowsFile}
 use Rattle.mf_store_sound.specs.Told.{IsToldOf, IsToldOfFile}
 use Rattle.mf_store_sound.specs.declared.judging.Contents.{Contents}
-use Rattle.mf_store_sound.specs.declared.judging.Contents.TheVariants.{Nothing, Present, First, Others}
+use Rattle.mf_store_sound.specs.declared.judging.Contents.TheVariants.{Nothing, Known, Others}
 use Rattle.mf_store_sound.proofs.FileLemmas.{under, seen}
-use Rattle.mf_store_sound.proofs.SchemaLemmas.{not_present, none_first}
+use Rattle.mf_store_sound.proofs.SchemaLemmas.{none_at}
 
 -- ---- what is told of the connection is told of the file
 
 module _ (image : Image) (s : State) (shows : ShowsFile image s) where
   told_nothing : (contents : Contents) → IsToldOf s.now contents → s.now.schema ≡ no_schema → contents ≡ Nothing
   told_nothing Nothing told none = refl
-  told_nothing (Present sound) told none = absurd (not_present (sym none ∙ told.0))
-  told_nothing (First sound) told none = absurd (none_first (sym none ∙ told.0))
+  told_nothing (Known v sound) told none = absurd (none_at v (sym none ∙ told.0))
   told_nothing Others told none = absurd (told.0 none)
 
   module _ (trees : Trees) (k : Schema) (holds : HoldsDatabase image trees) (sound : IsSound k trees) where
@@ -39,18 +38,14 @@ module _ (image : Image) (s : State) (shows : ShowsFile image s) where
     told_tables : (contents : Contents) → IsToldOf s.now contents → IsToldOf (record { schema = k; trees = trees })
         contents
     told_tables Nothing told = is_seen no_schema refl told
-    told_tables (Present held) told =
-        (is_seen schema refl told.0, subst (λ (t : Trees). IsTrue held ↔ HoldsSound t) (shows.holds trees holds) told.1)
-    told_tables (First held) told = (
-      is_seen first_schema refl told.0,
-      subst (λ (t : Trees). IsTrue held
-          ↔ HoldsSoundFirst t) (shows.holds trees holds) told.1,
+    told_tables (Known v held) told = (
+      is_seen (schema_at v) refl told.0,
+      subst (λ (t : Trees). IsTrue held ↔ HoldsSoundAt v t) (shows.holds trees holds) told.1,
     )
     told_tables Others told = (λ none. told.0 (was_seen no_schema refl none), λ known. told.1 (as_known known))
       where
         as_known : IsKnown k → IsKnown s.now.schema
-        as_known (inl present) = inl (was_seen schema refl present)
-        as_known (inr first) = inr (was_seen first_schema refl first)
+        as_known known = (known.0, was_seen (schema_at known.0) refl known.1)
 
   pub told_of_file : (contents : Contents) → IsToldOf s.now contents → IsToldOfFile image contents
   told_of_file contents told = record {

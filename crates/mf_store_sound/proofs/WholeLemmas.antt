@@ -1,5 +1,5 @@
 -- Rows under a schema, and the rows of accounts beside them.
-use Rattle.std.proofs.Common.{◌≡◌, ◌↔◌, ◌∙◌, ℕ, List, refl, sym, ap}
+use Rattle.std.proofs.Common.{◌≡◌, ◌↔◌, ◌∙◌, ℕ, List, [], refl, sym, ap}
 use Rattle.mf_model.specs.Institution.{Institution, Catalogue}
 use Rattle.mf_model.specs.Sound.{IsSound, IsSoundCatalogue}
 use Rattle.mf_store_schema.specs.Rows.{Lists}
@@ -12,8 +12,11 @@ use Rattle.mf_store_schema.specs.declared.shares.ShareRow.{ShareRow}
 use Rattle.mf_store_values.specs.Accounts.{account_instalments, account_shares, PlacedLoan, all_placed, AreLoansOf}
 use Rattle.mf_store_values.specs.Accounts.{AreAccounts}
 use Rattle.mf_store_values.specs.Flat.{charge_as, product_as, numbered_from, instalment_in, share_in, tables_of}
-use Rattle.mf_store_sound.specs.Schemas.{first_tables_of, tables_under, without_accounts}
-use Rattle.mf_store_sound.specs.Sound.{AreOfSound, AreUnder}
+use Rattle.mf_store_sound.specs.Schemas.{tables_at, tables_under, without_accounts}
+use Rattle.mf_store_schema.specs.Versions.{number_of}
+use Rattle.mf_store_schema.specs.declared.versions.Version.{Version}
+use Rattle.mf_store_schema.specs.declared.versions.Version.TheVariants.{First, Second}
+use Rattle.mf_store_sound.specs.Sound.{AreOfSoundAt, AreUnder}
 use Rattle.mf_store_sound.proofs.AllLoanLemmas.{all_rows_of}
 use Rattle.mf_store_sound.proofs.TableLemmas.{of_parts}
 use Rattle.mf_store_sound.proofs.SoundLemmas.{charges_are, products_are, loans_under}
@@ -61,15 +64,33 @@ accounts_are i instalments shares =
       λ has. record { instalments_are = kept ∙ sym has.0; shares_are = parts ∙ sym has.1 },
     )
 
--- ---- both schemas
+-- ---- the rows of a version are those under its number, and those of accounts
 
-pub under_of_whole : (t : Lists) → AreOfSound t → AreUnder 2 t
-under_of_whole t h =
-    record { institution = h.institution; sound = h.sound; rows_are = λ z. without_accounts (h.rows_are z) }
+pub bare_of : (v : Version) (t : Lists) (i : Institution) → tables_at v i ≡ t
+    → tables_under (number_of v) i ≡ without_accounts t
+bare_of First t i is = ap without_accounts is
+bare_of Second t i is = ap without_accounts is
+
+pub under_of : (v : Version) (t : Lists) → AreOfSoundAt v t → AreUnder (number_of v) t
+under_of v t h =
+    record { institution = h.institution; sound = h.sound; rows_are = bare_of v t h.institution h.rows_are }
+
+pub bare_is : (t : Lists) (B : Type 0) → AreUnder 1 t → B ↔ ((t.instalments ≡ []) × (t.shares ≡ []))
+    → B ↔ AreOfSoundAt First t
+bare_is t B u empty = (
+  λ yes.
+      let both = empty.0 yes in
+      record {
+        institution = u.institution;
+        sound = u.sound;
+        rows_are = λ z. record (u.rows_are z) { instalments = sym both.0 z; shares = sym both.1 z };
+      },
+  λ h. empty.1 (ap (λ (l : Lists). l.instalments) (sym h.rows_are), ap (λ (l : Lists). l.shares) (sym h.rows_are)),
+)
 
 pub whole_is : (t : Lists) (B : Type 0) → AreUnder 2 t → Told (λ instalments shares k ps. B
-    ↔ AreAccounts k ps instalments shares) t → B ↔ AreOfSound t
-unfolding under_of_whole
+    ↔ AreAccounts k ps instalments shares) t → B ↔ AreOfSoundAt Second t
+unfolding under_of
 whole_is t B u told =
     let at : (v : AreUnder 2 t) → B ↔ AreAccounts v.institution.catalogue (all_placed v.institution.offices)
     t.instalments t.shares = λ v. told_at (λ instalments shares k ps. B ↔ AreAccounts k ps instalments shares) 2 t v
@@ -81,7 +102,7 @@ whole_is t B u told =
             sound = u.sound;
             rows_are = λ z. record (u.rows_are z) { instalments = sym kept.0 z; shares = sym kept.1 z };
           },
-      λ h. (at (under_of_whole t h)).1 ((accounts_are h.institution t.instalments t.shares).1 (
+      λ h. (at (under_of Second t h)).1 ((accounts_are h.institution t.instalments t.shares).1 (
         ap (λ (l : Lists). l.instalments) (sym h.rows_are),
         ap (λ (l : Lists). l.shares) (sym h.rows_are),
       )),
@@ -96,9 +117,3 @@ pub rows_under_are : (schema : ℕ) (t : Lists) (instalments : List InstalmentRo
 rows_under_are schema t instalments shares told i sound is =
     (accounts_are i instalments shares).0 (told_at (λ none other k ps. AreAccounts k ps instalments shares) schema t
     (record { institution = i; sound = sound; rows_are = is }) told)
-
-pub rows_are_of : (t : Lists) (instalments : List InstalmentRow) (shares : List ShareRow)
-    → Told (λ none other k ps. AreAccounts k ps instalments shares) t → (i : Institution) → IsSound i
-    → first_tables_of i ≡ t → HasRows i instalments shares
-rows_are_of t instalments shares told i sound is =
-    rows_under_are 1 t instalments shares told i sound (λ z. without_accounts (is z))

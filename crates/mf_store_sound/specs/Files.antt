@@ -6,8 +6,9 @@ use Rattle.sqlite.specs.Tree.{Trees}
 use Rattle.sqlite_catalog.specs.Listing.{IsSound}
 use Rattle.sqlite_wal.specs.Recovery.{Image}
 use Rattle.mf_store_sql.specs.Writes.{Serves}
-use Rattle.mf_store_schema.specs.Tables.{first_schema, schema}
-use Rattle.mf_store_schema.specs.Whole.{HaveRowids, HaveFirstRowids}
+use Rattle.mf_store_schema.specs.Versions.{IsOfVersion}
+use Rattle.mf_store_schema.specs.Whole.{HaveRowids}
+use Rattle.mf_store_schema.specs.declared.versions.Version.{Version}
 use Rattle.mf_store_schema.specs.Writes.{schema_of, Holds}
 
 -- The file is missing or empty, or a stop came while it was made: it holds no database yet, or one with nothing in it.
@@ -20,6 +21,5 @@ pub record ShowsFile (image : Image) (s : State) : Type 0 where
   pub none : HasNoTables image → Serves schema_of Holds s.now None
   pub holds : (trees : Trees) → HoldsDatabase image trees → s.now.trees ≡ trees
   pub sound : IsSound s.now.schema s.now.trees
-  pub rowids : s.now.schema ≡ schema → HaveRowids s.now.trees
-  pub first_rowids : s.now.schema ≡ first_schema → HaveFirstRowids s.now.trees
+  pub rowids : (v : Version) → IsOfVersion v s.now.schema → HaveRowids v s.now.trees
   pub leaves : (left : Trees) → s.may_leave left → left ≡ s.now.trees

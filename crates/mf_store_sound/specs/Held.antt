@@ -1,5 +1,5 @@
 -- What tables hold whatever rows stand there: rows of records, and those of a sound institution.
-use Rattle.std.specs.Prelude.{◌≡◌, List, [], ◌∷◌, map, Some}
+use Rattle.std.specs.Prelude.{◌≡◌, List, [], ◌∷◌, map}
 use Rattle.std.specs.List.{AllByRecursion}
 use Rattle.std.specs.declared.cmp.Ordering.{Ordering}
 use Rattle.std.specs.declared.cmp.Ordering.TheVariants.{Less}
@@ -15,10 +15,10 @@ use Rattle.mf_store_schema.specs.Rows.{Lists, meta_row, office_row, staff_row, c
 use Rattle.mf_store_schema.specs.Rows.{loan_row, entry_row, receipt_row, instalment_row, share_row, by_meta, by_office}
 use Rattle.mf_store_schema.specs.Rows.{by_staff, by_client, by_charge, by_product, by_loan, by_entry, by_receipt}
 use Rattle.mf_store_schema.specs.Rows.{by_instalment, by_share}
-use Rattle.mf_store_schema.specs.Writes.{Holds}
-use Rattle.mf_store_values.specs.Flat.{tables_of}
-use Rattle.mf_store_sound.specs.Schemas.{first_tables_of}
-use Rattle.mf_store_schema.specs.Upgrade.{HoldsFirst}
+use Rattle.mf_store_schema.specs.Writes.{HoldsAt}
+use Rattle.mf_store_sound.specs.Schemas.{tables_at}
+use Rattle.mf_store_schema.specs.declared.versions.Version.{Version}
+use Rattle.mf_store_schema.specs.declared.versions.Version.TheVariants.{Second}
 
 -- each comes before the next
 abbrev pub Rises : {A : Type 0} → (A → A → Ordering) → List A → Type 0
@@ -59,14 +59,12 @@ pub record DoRise (lists : Lists) : Type 0 where
 pub record CanBeHeld (lists : Lists) : Type 0 where
   pub all : AllTrue (said_of_each (λ A columns row cmp items. CanHoldRows columns row items) lists)
 
--- the trees hold the rows of a sound institution and nothing else
-pub record HoldsSound (trees : Trees) : Type 0 where
+-- the trees hold the rows of a sound institution, by the tables of a version, and nothing else
+pub record HoldsSoundAt (v : Version) (trees : Trees) : Type 0 where
   pub institution : Institution
   pub sound : IsSound institution
-  pub holds : Holds trees (Some (tables_of institution))
+  pub holds : HoldsAt v trees (tables_at v institution)
 
--- the same of the trees of the first schema, which have no rows of accounts
-pub record HoldsSoundFirst (trees : Trees) : Type 0 where
-  pub institution : Institution
-  pub sound : IsSound institution
-  pub holds : HoldsFirst trees (first_tables_of institution)
+-- the same by today's tables
+abbrev pub HoldsSound : Trees → Type 0
+HoldsSound trees = HoldsSoundAt Second trees

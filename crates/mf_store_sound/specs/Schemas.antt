@@ -1,9 +1,11 @@
--- What the tables of a schema hold of an institution. The first schema has no tables of instalments and of shares.
+-- What the tables of a version of the schema hold of an institution.
 use Rattle.std.specs.Prelude.{ℕ, [], ◌∷◌}
 use Rattle.mf_base.specs.DayText.{day_text}
 use Rattle.mf_model.specs.Institution.{Institution}
 use Rattle.mf_store_schema.specs.Rows.{Lists}
 use Rattle.mf_store_schema.specs.declared.meta.MetaRow.{MetaRow}
+use Rattle.mf_store_schema.specs.declared.versions.Version.{Version}
+use Rattle.mf_store_schema.specs.declared.versions.Version.TheVariants.{First, Second}
 use Rattle.mf_store_values.specs.Flat.{tables_of}
 
 -- the row of meta of a schema
@@ -14,7 +16,12 @@ meta_under schema day = record { one = 1; schema = schema; day = day_text day }
 abbrev pub without_accounts : Lists → Lists
 without_accounts lists = record lists { instalments = []; shares = [] }
 
--- what nine tables hold of an institution, under this schema's number
+-- these lists, but none where a version has no table of them
+abbrev pub lists_at : Version → Lists → Lists
+lists_at First lists = without_accounts lists
+lists_at Second lists = lists
+
+-- what all tables but those of accounts hold of an institution, under this schema's number
 abbrev pub tables_under : ℕ → Institution → Lists
 tables_under schema i = record (tables_of i) {
   meta = meta_under schema i.catalogue.day ∷ [];
@@ -22,6 +29,7 @@ tables_under schema i = record (tables_of i) {
   shares = [];
 }
 
--- what the tables of the first schema hold of an institution
-abbrev pub first_tables_of : Institution → Lists
-first_tables_of i = tables_under 1 i
+-- what the tables of a version hold of an institution
+abbrev pub tables_at : Version → Institution → Lists
+tables_at First i = tables_under 1 i
+tables_at Second i = tables_of i

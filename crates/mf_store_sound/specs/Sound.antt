@@ -10,9 +10,10 @@ use Rattle.mf_store_schema.specs.declared.loans.LoanRow.{LoanRow}
 use Rattle.mf_store_schema.specs.declared.offices.OfficeRow.{OfficeRow}
 use Rattle.mf_store_schema.specs.declared.staff.StaffRow.{StaffRow}
 use Rattle.mf_store_values.specs.Flat.{numbered_from, all_rows, rows_of_loans, entry_rows, own_entries, loans_of}
-use Rattle.mf_store_values.specs.Flat.{staff_in, client_in, loan_in, entry_in, tables_of}
+use Rattle.mf_store_values.specs.Flat.{staff_in, client_in, loan_in, entry_in}
 use Rattle.mf_store_values.specs.Ledgers.{IsPlainLoan}
-use Rattle.mf_store_sound.specs.Schemas.{first_tables_of, tables_under, without_accounts}
+use Rattle.mf_store_sound.specs.Schemas.{tables_at, tables_under, without_accounts}
+use Rattle.mf_store_schema.specs.declared.versions.Version.{Version}
 use Rattle.mf_store_values.specs.Parts.{bare, office_of}
 
 -- the rows are those of one loan of an office, and of its entries
@@ -61,17 +62,11 @@ pub record AreOfficeParts (k : Catalogue) (rows : List OfficeRow) (staff : List 
   pub loans_are : all_rows loan_in loans_of offices ≡ loans
   pub entries_are : entry_rows offices ≡ entries
 
--- there is a sound institution whose rows these are
-pub record AreOfSound (lists : Lists) : Type 0 where
+-- there is a sound institution whose rows these are, by the tables of a version
+pub record AreOfSoundAt (v : Version) (lists : Lists) : Type 0 where
   pub institution : Institution
   pub sound : IsSound institution
-  pub rows_are : tables_of institution ≡ lists
-
--- there is a sound institution whose rows the tables of the first schema hold
-pub record AreOfSoundFirst (lists : Lists) : Type 0 where
-  pub institution : Institution
-  pub sound : IsSound institution
-  pub rows_are : first_tables_of institution ≡ lists
+  pub rows_are : tables_at v institution ≡ lists
 
 -- there is a sound institution whose rows these are, under this schema's number and but for the rows of accounts
 pub record AreUnder (schema : ℕ) (lists : Lists) : Type 0 where

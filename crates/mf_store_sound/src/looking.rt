@@ -10,7 +10,7 @@ ghost use Rattle.mf_store_sound.specs.Told.{IsToldOfFile, finding_of};
 
 use crate::connecting::connect;
 use crate::judging::{Contents, judge};
-use mf_store_schema::remove_bare_log;
+use mf_store_schema::{Version, remove_bare_log};
 use sqlite::{Connection, Error, ErrorCode, FileFrom, FileStore, Start, Unknown};
 use std::rt::HostRuntime;
 
@@ -35,10 +35,8 @@ pub enum Finding {
     NoTables,
     /// A database of something else: it has other tables than this program makes.
     OtherTables,
-    /// Tables of the first schema, with the rows of a sound institution or not.
-    FirstSchema { sound: bool },
-    /// Tables of today, with the rows of a sound institution or not.
-    PresentSchema { sound: bool },
+    /// Tables of a version, with the rows of a sound institution or not.
+    KnownTables { version: Version, sound: bool },
 }
 
 /// Why a file was not opened, by SQLite's error.
@@ -61,8 +59,7 @@ fn finding_of(contents: Contents) -> Finding
 {
     match contents {
         Contents::Nothing => Finding::NoTables,
-        Contents::Present(sound) => Finding::PresentSchema { sound },
-        Contents::First(sound) => Finding::FirstSchema { sound },
+        Contents::Known { version, sound } => Finding::KnownTables { version, sound },
         Contents::Others => Finding::OtherTables,
     }
 }

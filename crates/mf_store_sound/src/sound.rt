@@ -1,12 +1,12 @@
-//! Whether rows of the tables are those of a sound institution, of either schema; and the rows of its accounts.
+//! Whether rows of the tables are those of a sound institution, by any version; and the rows of its accounts.
 
 ghost use Rattle.std.specs.Prelude.{◌≡◌, ◌↔◌, ℕ, IsTrue, IfOk, IfErr};
 ghost use Rattle.mf_base.specs.declared.fault.Fault.TheVariants.{F20};
 ghost use Rattle.mf_model.specs.Institution.{Institution};
 ghost use Rattle.mf_model.specs.Sound.{IsSound};
 ghost use Rattle.mf_store_values.specs.Flat.{tables_of};
-ghost use Rattle.mf_store_sound.specs.Schemas.{first_tables_of, tables_under, without_accounts};
-ghost use Rattle.mf_store_sound.specs.Sound.{AreOfSound, AreOfSoundFirst, AreUnder};
+ghost use Rattle.mf_store_sound.specs.Schemas.{tables_under, without_accounts};
+ghost use Rattle.mf_store_sound.specs.Sound.{AreOfSoundAt, AreUnder};
 
 use crate::callers::are_by_staff;
 use crate::meta::business_day;
@@ -17,7 +17,7 @@ use crate::receipts::are_receipts;
 use crate::tables::Tables;
 use mf_base::Fault;
 use mf_model::MOST_IN_CATALOGUE;
-use mf_store_schema::{FIRST_SCHEMA, InstalmentRow, SCHEMA, ShareRow};
+use mf_store_schema::{InstalmentRow, ShareRow, Version};
 use mf_store_values::{are_accounts, rows_of_accounts};
 use std::alloc::Global;
 
@@ -63,45 +63,35 @@ fn are_under(alloc: Global, schema: u32, tables: &Tables) -> Result<bool, Fault>
     are_receipts(alloc, receipts, entries)
 }
 
-/// Whether there is a sound institution whose rows these are. The error is F20, out of memory.
-pub fn is_sound(alloc: Global, tables: &Tables) -> Result<bool, Fault>
-    ensures exact { IfOk result (λ yes. IsTrue yes ↔ AreOfSound tables.now) }
+/// Whether there is a sound institution whose rows these are, by the tables of a version. The error is F20, out of
+/// memory.
+pub fn is_sound(alloc: Global, version: Version, tables: &Tables) -> Result<bool, Fault>
+    ensures exact { IfOk result (λ yes. IsTrue yes ↔ AreOfSoundAt version tables.now) }
     ensures gives_up { IfErr result (λ fault. fault ≡ F20) }
 {
-    if !are_under(alloc, SCHEMA, tables)? {
+    if !are_under(alloc, version.number(), tables)? {
         return Ok(false);
     }
-    are_accounts(
-        alloc,
-        &tables.charges,
-        &tables.products,
-        &tables.loans,
-        &tables.entries,
-        &tables.instalments,
-        &tables.shares,
-    )
-}
-
-/// Whether there is a sound institution whose rows these are under the first schema, which keeps no rows of accounts.
-/// The error is F20, out of memory.
-pub fn is_sound_first(alloc: Global, tables: &Tables) -> Result<bool, Fault>
-    ensures exact { IfOk result (λ yes. IsTrue yes ↔ AreOfSoundFirst tables.now) }
-    ensures gives_up { IfErr result (λ fault. fault ≡ F20) }
-{
-    if !tables.has_no_accounts() {
-        return Ok(false);
+    match version {
+        Version::First => Ok(tables.has_no_accounts()),
+        Version::Second => are_accounts(
+            alloc,
+            &tables.charges,
+            &tables.products,
+            &tables.loans,
+            &tables.entries,
+            &tables.instalments,
+            &tables.shares,
+        ),
     }
-    are_under(alloc, FIRST_SCHEMA, tables)
 }
 
-/// The rows of instalments and of shares that the accounts of an institution have, by its other rows under either
-/// schema. The error is F20, out of memory.
+/// The rows of instalments and of shares that the accounts of an institution have, by its other rows under any
+/// schema's number. The error is F20, out of memory.
 pub fn account_rows(
     alloc: Global,
     tables: &Tables,
 ) -> Result<(Vec<InstalmentRow>, Vec<ShareRow>), Fault>
-    ensures rows { IfOk result (λ rows. (i : Institution) → IsSound i → first_tables_of i ≡ tables.now →
-        (rows.0.items ≡ (tables_of i).instalments) × (rows.1.items ≡ (tables_of i).shares)) }
     ensures under { IfOk result (λ rows. (schema : ℕ) (i : Institution) → IsSound i →
         tables_under schema i ≡ without_accounts tables.now →
         (rows.0.items ≡ (tables_of i).instalments) × (rows.1.items ≡ (tables_of i).shares)) }

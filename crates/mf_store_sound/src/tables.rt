@@ -27,9 +27,9 @@ pub struct Tables {
     pub entries: Vec<EntryRow>,
     /// The receipts that entries carry, by office.
     pub receipts: Vec<ReceiptRow>,
-    /// The instalments of accounts, by loan; none under the first schema.
+    /// The instalments of accounts, by loan; none by the first version.
     pub instalments: Vec<InstalmentRow>,
-    /// The shares of entries in instalments, by loan; none under the first schema.
+    /// The shares of entries in instalments, by loan; none by the first version.
     pub shares: Vec<ShareRow>,
 }
 

@@ -4,7 +4,7 @@ ghost use Rattle.microloan.specs.Status.{IsPrintStatus};
 
 use crate::places::{Place, place_at};
 use crate::telling::{FAULT, print_line};
-use mf_store_schema::has_log;
+use mf_store_schema::{Version, has_log};
 use mf_store_sound::{Finding, look};
 
 /// Says in a line what opening a file would find, and gives the program's status: 0 where it is opened as the
@@ -45,7 +45,7 @@ fn say_found(rt: &HostRuntime, file: &str, found: Finding) -> u8
 /// Whether a file is opened as the institution that it holds.
 fn is_opened(found: Finding) -> bool {
     match found {
-        Finding::PresentSchema { sound } | Finding::FirstSchema { sound } => sound,
+        Finding::KnownTables { sound, .. } => sound,
         _ => false,
     }
 }
@@ -88,12 +88,21 @@ pub fn words_of(found: Finding) -> &'static str {
         Finding::Unread => "not read to its end: out of memory, or the disk failed",
         Finding::NoTables => "a database without tables; a new institution would be made",
         Finding::OtherTables => "a database of something else",
-        Finding::FirstSchema { sound: true } =>
-            "a sound institution, schema 1; opening it brings it to schema 2",
-        Finding::FirstSchema { sound: false } =>
-            "schema 1, but no sound institution has these rows",
-        Finding::PresentSchema { sound: true } => "a sound institution, schema 2",
-        Finding::PresentSchema { sound: false } =>
-            "schema 2, but no sound institution has these rows",
+        Finding::KnownTables {
+            version: Version::First,
+            sound: true,
+        } => "a sound institution, schema 1; opening it brings it to schema 2",
+        Finding::KnownTables {
+            version: Version::First,
+            sound: false,
+        } => "schema 1, but no sound institution has these rows",
+        Finding::KnownTables {
+            version: Version::Second,
+            sound: true,
+        } => "a sound institution, schema 2",
+        Finding::KnownTables {
+            version: Version::Second,
+            sound: false,
+        } => "schema 2, but no sound institution has these rows",
     }
 }

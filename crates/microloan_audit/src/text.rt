@@ -17,7 +17,7 @@ pub fn audit_text(alloc: Global, audit: &Audit) -> Result<String, Fault> {
             alloc,
             "the database has other tables than this program makes",
         ),
-        Audit::Sound { schema, sums } => sums_text(alloc, *schema, sums),
+        Audit::Sound { version, sums } => sums_text(alloc, version.number(), sums),
         Audit::Unsound {
             tables,
             findings,

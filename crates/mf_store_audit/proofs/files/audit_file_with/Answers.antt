@@ -9,7 +9,7 @@ returns-in-Ok-clause-exact g c clean =
     let told = c.in-Ok in
     let shows = c.in_ok-connection.ensures.shows (told.ensures.kept.premise clean) in
     audit_of_file (image_at g.S.Start) (file_state c.in_ok-connection.connection) shows told.audit
-    (told.ensures.exact clean (record { present = shows.rowids; first = shows.first_rowids }))
+    (told.ensures.exact clean shows.rowids)
 
 pub returns-in-Ok-clause-leaves : goal.returns-in-Ok-clause-leaves
 returns-in-Ok-clause-leaves g c clean trees holds left may =

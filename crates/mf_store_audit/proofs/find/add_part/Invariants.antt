@@ -4,7 +4,7 @@ use Rattle.mf_store_audit.proofs.find.add_part.Given as goal
 
 abbrev pub invariant-loop-place : goal.invariant-loop-place
 invariant-loop-place l =
-    (AllBreak l.schema l.tables l.initial.findings.items → AllBreak l.schema l.tables l.findings.items)
+    (AllBreak l.version l.tables l.initial.findings.items → AllBreak l.version l.tables l.findings.items)
     × (l.all ≡ false → l.findings.items ≡ [])
 
 abbrev pub decreases-loop-place : goal.decreases-loop-place

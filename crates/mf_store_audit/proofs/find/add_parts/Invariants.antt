@@ -3,4 +3,4 @@ use Rattle.mf_store_audit.specs.Findings.{AllBreak}
 use Rattle.mf_store_audit.proofs.find.add_parts.Given as goal
 
 abbrev pub invariant-loop-part : goal.invariant-loop-part
-invariant-loop-part l = AllBreak l.schema l.tables l.findings.items × (l.all ≡ false → length l.findings.items ≤ 1)
+invariant-loop-part l = AllBreak l.version l.tables l.findings.items × (l.all ≡ false → length l.findings.items ≤ 1)

@@ -1,7 +1,32 @@
-use Rattle.std.proofs.Common.{subst}
-use Rattle.mf_store_commits.specs.Tabled.{HasGoodDisk}
+use Rattle.mf_store_files.proofs.AdoptLemmas.{stands_at, leaves_at, left_at}
+use Rattle.mf_store_schema.proofs.ReadLemmas.{at_some}
 use Rattle.mf_store_files.proofs.adopted.take_over.Goals as goal
 
-pub returns-in-Ok-nothing-clause-sound : goal.returns-in-Ok-nothing-clause-sound
-returns-in-Ok-nothing-clause-sound g c clean ours rowids =
-    c.in-Ok.ensures.yes (subst (HasGoodDisk g.S.Store) c.over.ensures.same clean) ours rowids c.if-not-sound.false
+pub returns-in-Ok-bring_up-clause-stands : goal.returns-in-Ok-bring_up-clause-stands
+returns-in-Ok-bring_up-clause-stands g c =
+    let read = c.in-Ok-Some in
+    stands_at g.S.Store c.args.version c.args.connection c.read_sound.new.connection read.ensures.kept read.tables
+    read.ensures.open (λ clean ours. at_some read.field-0 _ read.tables read.field-0-is
+    (read.ensures.rows clean ours))
+    c.bring_up.new.connection c.in-Ok-bring_up.ensures.premise c.in-Ok-bring_up.ensures.made
+    c.over.result c.over.ensures.same c.over.ensures.stands
+
+pub returns-in-Ok-bring_up-clause-leaves : goal.returns-in-Ok-bring_up-clause-leaves
+returns-in-Ok-bring_up-clause-leaves g c =
+    let read = c.in-Ok-Some in
+    leaves_at g.S.Store c.args.version c.args.connection c.read_sound.new.connection read.ensures.kept read.tables
+    read.ensures.open (λ clean ours. at_some read.field-0 _ read.tables read.field-0-is
+    (read.ensures.rows clean ours))
+    c.bring_up.new.connection c.in-Ok-bring_up.ensures.premise c.in-Ok-bring_up.ensures.made
+    c.over.result c.over.ensures.same c.over.ensures.leaves c.in-Ok-bring_up.ensures.open
+
+pub returns-in-Err-bring_up-clause-left : goal.returns-in-Err-bring_up-clause-left
+returns-in-Err-bring_up-clause-left g c =
+    let read = c.in-Ok-Some in
+    let made = c.in-Err-bring_up in
+    left_at g.S.Store c.args.version c.args.connection c.read_sound.new.connection read.ensures.kept read.tables
+    read.ensures.open (λ clean ours. at_some read.field-0 _ read.tables read.field-0-is
+    (read.ensures.rows clean ours))
+    c.bring_up.new.connection made.ensures.premise made.ensures.shuts made.ensures.was_open made.ensures.same
+    made.ensures.stop
+    (λ clean ours rowids. at_some read.field-0 _ read.tables read.field-0-is (read.ensures.sound clean ours rowids))

@@ -7,4 +7,4 @@ pub returns-in-Ok-clause-shows : goal.returns-in-Ok-clause-shows
 returns-in-Ok-clause-shows g c clean =
     let live = c.in-Ok.ensures.opened clean in
     shows (image_at g.S.Start) (file_state c.in-Ok.connection) live.0 live.1 (c.in-Ok.ensures.found clean)
-    (c.in-Ok.ensures.rowids clean) (c.in-Ok.ensures.first_rowids clean) (c.nothing_waits.ensures live.0.is_open)
+    (c.in-Ok.ensures.rowids clean) (c.nothing_waits.ensures live.0.is_open)

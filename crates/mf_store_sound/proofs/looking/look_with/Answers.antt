@@ -9,7 +9,7 @@ returns-in-Ok-judge-clause-exact g c clean =
     let judged = c.in-Ok-judge in
     let shows = c.in-Ok.ensures.shows (judged.ensures.kept.premise clean) in
     told_of_file (image_at g.S.Start) (file_state c.in-Ok.connection) shows judged.contents (judged.ensures.exact clean
-    (record { present = shows.rowids; first = shows.first_rowids }))
+    shows.rowids)
 
 pub returns-in-Ok-judge-clause-leaves : goal.returns-in-Ok-judge-clause-leaves
 returns-in-Ok-judge-clause-leaves g c clean trees holds left may =

@@ -16,7 +16,3 @@ returns-clause-under c =
     refl refl refl refl c.deref.ensures.value c.deref-2.ensures.value c.deref-3.ensures.value c.deref-4.ensures.value
     refl refl refl told
     )) c.rows_of_accounts.ensures.accounts
-
-pub returns-clause-rows : goal.returns-clause-rows
-returns-clause-rows c = IfOk-weaker c.rows_of_accounts.result _ _
-    (λ rows under i sound is. under 1 i sound (λ z. without_accounts (is z))) (returns-clause-under c)

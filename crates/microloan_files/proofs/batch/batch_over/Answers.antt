@@ -13,9 +13,9 @@ returns-in-Ok-clause-ends g c = λ clean i opens.
     let store = c.in-Ok.store in
     c.run_over.ensures.ends clean i
     (opened_so (λ j. StandsFor over_files store j) c.args.day (image_at g.S.Start) (e.made good) (e.found.stands good)
-    (e.found.stands_first good) i opens)
+    i opens)
     (opened_so (λ j. Leaves over_files store (j ∷ [])) c.args.day (image_at g.S.Start) (e.made_leaves good)
-    (e.found.leaves good) (e.found.leaves_first good) i opens)
+    (e.found.leaves good) i opens)
 
 pub returns-in-Err-default-Some-clause-unopened : goal.returns-in-Err-default-Some-clause-unopened
 returns-in-Err-default-Some-clause-unopened g c = λ clean i held left may.
@@ -23,5 +23,5 @@ returns-in-Err-default-Some-clause-unopened g c = λ clean i held left may.
     let e = c.in-Err-default-Some in
     let kept = rw e.field-0-1-is at e.ensures.kept in
     ∥∥₁_map (c.give_up.ensures.left clean left may)
-    (λ found. still_held (file_state e.connection).may_leave (image_at g.S.Start) left i held (kept.unchanged good)
-    (kept.left_first good) found.0 found.1 found.2)
+    (λ found. still_held (file_state e.connection).may_leave (image_at g.S.Start) left i held (kept.left good)
+    found.0 found.1 found.2)
