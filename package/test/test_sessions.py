@@ -78,7 +78,9 @@ class Sessions(roots.ServedDesk):
 
     def has_a_second_factor(self):
         """Zoe's, and its key."""
-        self.root.run("microloan-people add zoe 1/2 --unasked", given=ZOE + "\n")
+        self.root.run("microloan-people add zoe 1/2", given="a first word of zoe\n")
+        form = {"user": "zoe", "oldpassword": "a first word of zoe", "newpassword": ZOE}
+        self.assertEqual(self.post("/session/password", form)[0], 200)
         cookie = self.signed_in("/session", {"user": "zoe", "password": ZOE})
         drawn = self.post("/session/getkey", {}, cookie)[2]
         form = {"token": drawn["token"], "code": code_of(drawn["secret"]), "TOTPName": "telephone"}
