@@ -1,3 +1,4 @@
 pub mod Chain
+pub mod Following
 pub mod Journal
 pub mod WorkedJournal

@@ -2,6 +2,8 @@
 #![tactic(auto)]
 
 pub mod chain;
+pub mod following;
 pub mod laws;
 
 pub use chain::{JournalRow, link};
+pub use following::{Break, Head, KeptRow};
