@@ -63,7 +63,7 @@ def busy_day(count):
 
 def days_of_two():
     """The lines of three days of an institution, and of another one with other amounts and names, and pages alike."""
-    first = changes(files.handbook_lines())
+    first = changes(files.day_lines())
     others = [line.replace(b'"amount":20000', b'"amount":21000').replace(b"Amina", b"Amira") for line in first]
     return (first, second_day(100), third_day(100)), (others, second_day(200), third_day(200))
 

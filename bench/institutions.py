@@ -14,12 +14,12 @@ import tempfile
 
 TOP = os.path.dirname(os.path.dirname(os.path.abspath(__file__)))
 PROGRAM = os.environ.get("MICROLOAN") or os.path.join(TOP, "out", "microloan")
-DAYS = 87  # the first lines of the program's request lines, the handbook's days
+DAYS = 87  # the first lines of the program's request lines: the day of docs/lines.md
 PAGE = 4096
 SUM = 8  # bytes at the end of each page
 PATIENCE = 60  # seconds that a command may take
 FIRST_SCHEMA = "drop table instalments; drop table shares; update meta set schema = 1"
-# what shows an institution of the handbook's days, and of the lines that follow them here
+# what shows an institution of that day, and of the lines that follow it here
 QUESTIONS = (
     ["/business-day", "/offices", "/reports/arrears"]
     + [f"/{name}/{number}" for name in ("charges", "products") for number in (1, 2)]
@@ -60,8 +60,8 @@ def answered(path, lines):
     return replies
 
 
-def handbook_lines():
-    """The lines of the handbook's days."""
+def day_lines():
+    """The lines of the day of docs/lines.md."""
     with open(os.path.join(TOP, "crates", "microloan", "stdin"), "rb") as file:
         return file.readlines()[:DAYS]
 

@@ -330,7 +330,7 @@ class Backups(roots.ServedDesk):
         self.assertEqual(self.ask("GET", f"/api/clients/{clients[3]}")[0], 404)
 
     def test_a_lost_machine(self):
-        """What the handbook's page says, from a dead machine to the last answered request on a new one."""
+        """What docs/recovery.md says, from a dead machine to the last answered request on a new one."""
         examples = "/usr/share/doc/microloan/examples"
         self.root.run(f"cp {examples}/log-to-a-disk.conf /etc/rsyslog.d/microloan.conf && systemctl restart rsyslog")
         staff = {"office": 1, "name": "Zoe", "role": "officer"}
@@ -346,7 +346,7 @@ class Backups(roots.ServedDesk):
         self.root.run("MICROLOAN_WITHOUT_BACKUP=1 apt-get -qq purge -y microloan 2>&1; systemctl stop rsyslog; rm -rf "
                       f"/etc/microloan /var/lib/microloan /var/log/microloan {BACKUPS} /root/paper.key")
         # the new machine: the package, what was taken off the old one, and the sheet of paper
-        said = self.follow_the_handbook(bundle)
+        said = self.follow_the_page(bundle)
         self.assertIn("messages after the backup, the same (40 changed something)", said)
         self.assertIn("amina is 1/1 already", said)
         self.assertNotIn("AGE-SECRET-KEY", said)
@@ -358,10 +358,10 @@ class Backups(roots.ServedDesk):
         type(self).signer = re.search("by the word (RW[0-9A-Za-z+/=]+)", said)[1]
         self.root.run("microloan-restore --try --and-the-log")
 
-    def follow_the_handbook(self, bundle):
+    def follow_the_page(self, bundle):
         """Runs the lines of its page. What they print."""
-        with open(os.path.join(roots.TOP, "docs", "handbook.md"), encoding="utf-8") as file:
-            page = file.read().split("### From a dead machine to a running desk")[1].split("```")[1]
+        with open(os.path.join(roots.TOP, "docs", "recovery.md"), encoding="utf-8") as file:
+            page = file.read().split("## From a dead machine to a running desk")[1].split("```")[1]
         page = re.sub(r"  +\(.*\)\n", "\n", page.replace("\\\n", " "))
         page = page.replace("RWR5cbL9..", self.signer).replace("apt install", "apt-get -qq install -y")
         page = re.sub(r"\./microloan_[0-9.]+_amd64.deb", "/root/microloan.deb", page)

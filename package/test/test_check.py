@@ -158,14 +158,14 @@ class Check(roots.ServedDesk):
                 print(f"{spoil}: told after {took:.0f} s", flush=True)
                 self.assertLess(took, WITHIN)
 
-    def test_what_the_handbook_says_of_a_file_that_was_removed(self):
+    def test_what_recovery_says_of_a_file_that_was_removed(self):
         for spoil in (f"rm {FILE}-wal", f"rm {FILE} {FILE}-wal"):
             with self.subTest(spoil):
                 names = ["Before it was removed", "After it was removed"]
                 clients = [self.enter(names[0])]
                 self.root.run(spoil)
                 clients.append(self.enter(names[1]))
-                with open(os.path.join(roots.TOP, "docs", "handbook.md"), encoding="utf-8") as file:
+                with open(os.path.join(roots.TOP, "docs", "recovery.md"), encoding="utf-8") as file:
                     text = file.read().split("**A file that was removed while it is served.**")[1].split("```")[1]
                 commands = text.replace("\\\n", "").replace("$ sudo ", "").strip().splitlines()
                 self.assertEqual(len(commands), 6)

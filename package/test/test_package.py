@@ -34,7 +34,8 @@ class Built(unittest.TestCase):
             self.assertEqual(modes["./" + path], "-rw-r--r--")
         for path in ("usr/share/microloan/pages/index.html", "usr/share/man/man1/microloan.1.gz"):
             self.assertIn("./" + path, modes)
-        self.assertIn("./usr/share/doc/microloan/handbook.md", modes)
+        for name in ("handbook", "operator", "recovery"):
+            self.assertIn(f"./usr/share/doc/microloan/{name}.md", modes)
         self.assertEqual([path for path in modes if "pycache" in path], [])
 
     def test_what_the_documents_link_is_there(self):

@@ -100,7 +100,7 @@ class Sheets(unittest.TestCase):
         self.assertLessEqual({b"entered", b"F1", b"F4", b"F9", b"F10", b"F15"}, results)
         self.assertIn(b",repeated\n", again)
 
-    def test_the_worked_sheet_of_the_handbook(self):
+    def test_the_worked_sheet_of_the_examples(self):
         examples = os.path.join(TOP, "examples")
         with open(os.path.join(examples, "evening-lines.txt"), "rb") as file:
             lines = file.read()

@@ -271,7 +271,7 @@ def damage_of_log(path):
 def refuse_damaged_log(path):
     damage = damage_of_log(path)
     if damage:
-        raise Failed(f"{path}-wal: {damage}. Keep both files, and see the handbook: a damaged log")
+        raise Failed(f"{path}-wal: {damage}. Keep both files, and see recovery.md of /usr/share/doc/microloan")
 
 
 def counts_of(path):
