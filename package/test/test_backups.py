@@ -282,6 +282,22 @@ class Backups(roots.ServedDesk):
         self.assertIn("no backup was made, so it isn't upgraded", said)
         self.root.run(f"mv {FILE}.kept {FILE}; dpkg -i /root/microloan.deb; systemctl start microloan")
 
+    def test_the_way_back_from_an_upgrade(self):
+        """The lines of recovery.md: the package of before, and what stood then with all that came after it."""
+        older = "dpkg-deb -R microloan.deb older && sed -i 's/^Version: .*/Version: 1.0/' older/DEBIAN/control"
+        self.root.run(f"cd /root && rm -rf older && {older} && dpkg-deb -b older older.deb", network=True)
+        before = self.enter("Before the upgrade")
+        self.root.run("dpkg -i /root/microloan.deb")
+        backup = self.newest()
+        self.assertRegex(backup, "-before-upgrade.tar.age$")
+        after = self.enter("After the upgrade")
+        downgrade = "MICROLOAN_WITHOUT_BACKUP=1 apt-get install --yes --allow-downgrades /root/older.deb"
+        self.root.run(f"{downgrade} && systemctl stop microloan && microloan-restore {backup} --and-the-log && "
+                      "systemctl start microloan")
+        self.assertEqual(self.root.run("dpkg-query -f '${Version}' -W microloan"), "1.0")
+        self.assertEqual([self.name_of(it) for it in (before, after)], ["Before the upgrade", "After the upgrade"])
+        self.root.run("dpkg -i /root/microloan.deb")
+
     def test_the_weekly_trial(self):
         self.back_up()
         for place in range(3):
