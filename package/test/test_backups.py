@@ -341,7 +341,8 @@ class Backups(roots.ServedDesk):
         log = "/var/log/microloan/messages.log"
         self.root.run(f"cp -p {log} /root/kept.log && sed 's/Before the change 3//' {log} >/root/changed.log")
         said = self.restore("--and-the-log", "/root/changed.log", wanted=1)
-        self.assertIn("stopped after 3 of those that changed something: answered 201 then and '400", said)
+        self.assertIn("stopped after 3 of those that changed something: answered '201 {\"client\":", said)
+        self.assertIn("' then and '400 {\"fault\":\"F1\"}' now: ", said)
         self.assertEqual(self.name_of(clients[2]), "Before the change 2")
         self.assertEqual(self.ask("GET", f"/api/clients/{clients[3]}")[0], 404)
 
