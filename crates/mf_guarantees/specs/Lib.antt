@@ -4,3 +4,5 @@ pub mod Reach
 pub mod Kept
 pub mod Money
 pub mod Sources
+pub mod Branch
+pub mod Sums

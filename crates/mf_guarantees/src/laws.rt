@@ -1,7 +1,8 @@
 //! Guarantees in plain words. Each function does nothing: its contract is the law that the sentence above it tells.
 
 ghost use Rattle.std.specs.Prelude.{◌≡◌, ◌≤◌, ◌<◌, ◌+◌, ◌++◌, ℕ, List, [], ◌∷◌, Some, None, true, false, pos};
-ghost use Rattle.std.specs.Prelude.{length, sum};
+ghost use Rattle.std.specs.Prelude.{length, map, sum};
+ghost use Rattle.std.specs.List.{flat_map};
 ghost use Rattle.mf_office.specs.declared.account.Account.{Account};
 ghost use Rattle.mf_account.specs.Balance.{balances_of};
 ghost use Rattle.mf_account.specs.Loan.{DisbursedLoan, state_of_loan};
@@ -17,8 +18,12 @@ ghost use Rattle.mf_alloc.specs.Sums.{Instalment, AreWithin};
 ghost use Rattle.mf_arrears.specs.Ageing.{days_overdue};
 ghost use Rattle.mf_arrears.specs.Line.{AgedLoan, class_of, line_of_loans, par30_of};
 ghost use Rattle.mf_model.specs.declared.request.Call.{Call};
-ghost use Rattle.mf_model.specs.Institution.{Institution, Catalogue, Change, Catalogue_becomes, Staff, office_at};
-ghost use Rattle.mf_model.specs.Tree.{IsTree, is_there, parent_of};
+ghost use Rattle.mf_arrears.specs.Report.{total_of};
+ghost use Rattle.mf_model.specs.Arrears.{active_in, arrears_line};
+ghost use Rattle.mf_model.specs.Institution.{Institution, Catalogue, Change, Catalogue_becomes, Office, Staff};
+ghost use Rattle.mf_model.specs.Institution.{office_at};
+ghost use Rattle.mf_model.specs.Tree.{IsTree, is_there, parent_of, seen_by};
+ghost use Rattle.mf_guarantees.specs.Branch.{children, line_of_all};
 ghost use Rattle.mf_guarantees.specs.Reach.{AreFrom};
 ghost use Rattle.mf_guarantees.specs.Kept.{AllRemains};
 ghost use Rattle.mf_model.specs.Desk.{change_in, outcome, staff_at};
@@ -27,6 +32,7 @@ ghost use Rattle.mf_model.specs.Sound.{IsSound, AreInRange};
 ghost use Rattle.mf_model.specs.Store.{ledger_at, account_of};
 ghost use Rattle.mf_guarantees.specs.Money.{IsAccountedFor};
 ghost use Rattle.mf_guarantees.specs.Sources.{HasSources};
+ghost use Rattle.mf_guarantees.specs.Sums.{paid_out_in, all_paid_out, AreAccountedFor};
 ghost use Rattle.mf_guarantees.specs.Roles.{is_repayment, is_concession};
 ghost use Rattle.mf_guarantees.specs.Ageing.{lateness, on_time, worked_loans};
 ghost use Rattle.mf_model.specs.declared.request.LoanRequest.TheVariants.{Repay, Post};
@@ -59,6 +65,16 @@ pub fn no_cent_is_made_or_lost()
         IsSound i → AreInRange lines →
         account_of (last lines i).catalogue (ledger_at loan (last lines i)) ≡ Some account →
         0 < (balances_of account).overpaid → sum (balances_of account).outstanding ≡ 0 }
+{}
+
+/// Nor of an office or of all offices: the same holds of the sums over the loans that an office paid out, and over those
+/// of all offices.
+pub fn no_office_makes_or_loses_a_cent()
+    ensures office { (i : Institution) (lines : List Line) (x : ℕ) (office : Office) → IsSound i → AreInRange lines →
+        office_at x (last lines i).offices ≡ Some office →
+        AreAccountedFor (paid_out_in (last lines i).catalogue office) }
+    ensures all { (i : Institution) (lines : List Line) → IsSound i → AreInRange lines →
+        AreAccountedFor (all_paid_out (last lines i)) }
 {}
 
 /// What a teller sends changes something only where it is a repayment.
@@ -134,6 +150,17 @@ pub fn arrears_add_up()
         let line = line_of_loans office loans in
         line.outstanding ≡ on_time loans + line.c1_30 + line.c31_60 + line.c61_90 + line.over_90 }
     ensures at_most_all { (office : ℕ) (loans : List AgedLoan) → par30_of (line_of_loans office loans) ≤ 10000 }
+{}
+
+/// The report of arrears says of all that an office sees: its own line, and what the reports of the offices right below
+/// it say of all, each loan once and no other.
+pub fn a_parents_arrears_are_its_own_and_its_childrens()
+    ensures parts { (i : Institution) (x : ℕ) (own : Office) → IsTree i.offices → office_at x i.offices ≡ Some own →
+        line_of_all i x ≡ total_of (arrears_line i.catalogue own
+        ∷ map (λ (child : Office). line_of_all i child.number) (children x i.offices)) }
+    ensures loans { (i : Institution) (x : ℕ) →
+        line_of_all i x ≡ line_of_loans 0 (flat_map (λ (office : Office). active_in i.catalogue office.rows.loans)
+        (seen_by x i.offices)) }
 {}
 
 /// A loan into which nothing is entered is no less overdue on a later day, and in no lower class.
