@@ -7,3 +7,6 @@ pub mod RequestLemmas
 pub mod ReversalLemmas
 pub mod SourceLemmas
 pub mod SumLemmas
+pub mod LoanSteps
+pub mod MoveLemmas
+pub mod EnteredLemmas

@@ -6,3 +6,5 @@ pub mod Money
 pub mod Sources
 pub mod Branch
 pub mod Sums
+pub mod Moves
+pub mod Entered

@@ -1,12 +1,13 @@
 //! Guarantees in plain words. Each function does nothing: its contract is the law that the sentence above it tells.
 
-ghost use Rattle.std.specs.Prelude.{◌≡◌, ◌≤◌, ◌<◌, ◌+◌, ◌++◌, ℕ, List, [], ◌∷◌, Some, None, true, false, pos};
+ghost use Rattle.std.specs.Prelude.{◌≡◌, ◌≤◌, ◌<◌, ◌+◌, ◌-◌, ◌++◌, ℕ, List, [], ◌∷◌, Some, None, true, false, pos};
 ghost use Rattle.std.specs.Prelude.{length, map, sum};
 ghost use Rattle.std.specs.List.{flat_map};
 ghost use Rattle.mf_office.specs.declared.account.Account.{Account};
 ghost use Rattle.mf_account.specs.Balance.{balances_of};
 ghost use Rattle.mf_account.specs.Loan.{DisbursedLoan, state_of_loan};
-ghost use Rattle.mf_account.specs.Standing.{with_mark};
+ghost use Rattle.mf_account.specs.Kinds.{money_in};
+ghost use Rattle.mf_account.specs.Standing.{entry_at, with_mark};
 ghost use Rattle.mf_account.specs.declared.entry.Entry.{Entry};
 ghost use Rattle.mf_office.specs.Tree.{is_at_or_below};
 ghost use Rattle.mf_office.specs.declared.caller.Caller.{Caller};
@@ -21,7 +22,7 @@ ghost use Rattle.mf_model.specs.declared.request.Call.{Call};
 ghost use Rattle.mf_arrears.specs.Report.{total_of};
 ghost use Rattle.mf_model.specs.Arrears.{active_in, arrears_line};
 ghost use Rattle.mf_model.specs.Institution.{Institution, Catalogue, Change, Catalogue_becomes, Office, Staff};
-ghost use Rattle.mf_model.specs.Institution.{office_at};
+ghost use Rattle.mf_model.specs.Institution.{Ledger, after, office_at};
 ghost use Rattle.mf_model.specs.Tree.{IsTree, is_there, parent_of, seen_by};
 ghost use Rattle.mf_guarantees.specs.Branch.{children, line_of_all};
 ghost use Rattle.mf_guarantees.specs.Reach.{AreFrom};
@@ -31,11 +32,14 @@ ghost use Rattle.mf_model.specs.Run.{Line, last};
 ghost use Rattle.mf_model.specs.Sound.{IsSound, AreInRange};
 ghost use Rattle.mf_model.specs.Store.{ledger_at, account_of};
 ghost use Rattle.mf_guarantees.specs.Money.{IsAccountedFor};
+ghost use Rattle.mf_guarantees.specs.Entered.{AtSomeLine, IsEntered, IsTakenBack, entry_of, is_reversed};
+ghost use Rattle.mf_guarantees.specs.Moves.{Rises, repaid, paid_out};
 ghost use Rattle.mf_guarantees.specs.Sources.{HasSources};
 ghost use Rattle.mf_guarantees.specs.Sums.{paid_out_in, all_paid_out, AreAccountedFor};
 ghost use Rattle.mf_guarantees.specs.Roles.{is_repayment, is_concession};
 ghost use Rattle.mf_guarantees.specs.Ageing.{lateness, on_time, worked_loans};
-ghost use Rattle.mf_model.specs.declared.request.LoanRequest.TheVariants.{Repay, Post};
+ghost use Rattle.mf_model.specs.declared.request.LoanRequest.TheVariants.{Repay, Post, Reverse, Take};
+ghost use Rattle.mf_model.specs.declared.request.LoanStep.TheVariants.{Disburse};
 ghost use Rattle.mf_model.specs.declared.request.Posting.TheVariants.{WriteOff};
 ghost use Rattle.mf_model.specs.declared.request.Repayment.{Repayment};
 ghost use Rattle.mf_model.specs.declared.request.Request.TheVariants.{Loan};
@@ -77,6 +81,23 @@ pub fn no_office_makes_or_loses_a_cent()
         AreAccountedFor (all_paid_out (last lines i)) }
 {}
 
+/// An accepted repayment raises what has been repaid of its loan, of its office and of all by exactly its amount, and an
+/// accepted reversal lowers it by what the entry repaid; a loan that is paid out raises what was paid out by its
+/// principal. Nothing is moved of any other loan or office.
+pub fn a_request_moves_exactly_its_amount()
+    ensures repayment { (call : Call) (i : Institution) (change : Change) (loan : Account) (asked : Repayment) →
+        IsTree i.offices → call.request ≡ Loan loan (Repay asked) → change_in (outcome call i) ≡ Some change →
+        Rises repaid loan asked.amount i (after change i) }
+    ensures reversal { (call : Call) (i : Institution) (change : Change) (loan : Account) (seq : ℕ) (ledger : Ledger) →
+        IsTree i.offices → call.request ≡ Loan loan (Reverse seq) → ledger_at loan i ≡ Some ledger →
+        change_in (outcome call i) ≡ Some change →
+        let entry : Entry = entry_at ledger.entries (seq - 1) in
+        Rises repaid loan (money_in entry.kind entry.amount) (after change i) i }
+    ensures paying_out { (call : Call) (i : Institution) (change : Change) (loan : Account) (day : ℕ) (ledger : Ledger) →
+        IsTree i.offices → call.request ≡ Loan loan (Take (Disburse day)) → ledger_at loan i ≡ Some ledger →
+        change_in (outcome call i) ≡ Some change → Rises paid_out loan ledger.loan.principal i (after change i) }
+{}
+
 /// What a teller sends changes something only where it is a repayment.
 pub fn tellers_only_enter_repayments()
     ensures { (caller : Caller) (teller : Staff) (call : Call) (i : Institution) (change : Change) →
@@ -90,6 +111,18 @@ pub fn only_managers_concede()
     ensures { (caller : Caller) (sender : Staff) (call : Call) (i : Institution) (change : Change) →
         call.caller ≡ Some caller → staff_at i caller ≡ Some sender → is_concession call.request ≡ true →
         change_in (outcome call i) ≡ Some change → sender.role ≡ Manager }
+{}
+
+/// Whatever requests come, each entry that a loan has more was asked for at some moment by the member of staff whose name
+/// stands in it, and their role allowed it then: a fee or a penalty an officer or a manager, a waiver, a write-off or a
+/// refund a manager. And each entry that is taken back was so at the request of a manager of that moment.
+pub fn every_entry_was_allowed_when_it_was_made()
+    ensures made { (i : Institution) (lines : List Line) (loan : Account) (place : ℕ) (entry : Entry) →
+        IsTree i.offices → entry_of loan place i ≡ None → entry_of loan place (last lines i) ≡ Some entry →
+        AtSomeLine (IsEntered loan entry.kind entry.staff) lines i }
+    ensures taken_back { (i : Institution) (lines : List Line) (loan : Account) (place : ℕ) → IsTree i.offices →
+        is_reversed (entry_of loan place i) ≡ false → is_reversed (entry_of loan place (last lines i)) ≡ true →
+        AtSomeLine (IsTakenBack loan place) lines i }
 {}
 
 /// Only a manager of the head office changes what all share: the business day, the charges and the products.
