@@ -10,3 +10,5 @@ pub mod SumLemmas
 pub mod LoanSteps
 pub mod MoveLemmas
 pub mod EnteredLemmas
+pub mod ReorderLemmas
+pub mod CutLemmas

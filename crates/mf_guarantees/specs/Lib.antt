@@ -8,3 +8,4 @@ pub mod Branch
 pub mod Sums
 pub mod Moves
 pub mod Entered
+pub mod Reorder

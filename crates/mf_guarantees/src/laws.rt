@@ -5,7 +5,7 @@ ghost use Rattle.std.specs.Prelude.{length, map, sum};
 ghost use Rattle.std.specs.List.{flat_map};
 ghost use Rattle.mf_office.specs.declared.account.Account.{Account};
 ghost use Rattle.mf_account.specs.Balance.{balances_of};
-ghost use Rattle.mf_account.specs.Loan.{DisbursedLoan, state_of_loan};
+ghost use Rattle.mf_account.specs.Loan.{DisbursedLoan, IsSoundDisbursed, state_of_loan};
 ghost use Rattle.mf_account.specs.Kinds.{money_in};
 ghost use Rattle.mf_account.specs.Standing.{entry_at, with_mark};
 ghost use Rattle.mf_account.specs.declared.entry.Entry.{Entry};
@@ -34,6 +34,7 @@ ghost use Rattle.mf_model.specs.Store.{ledger_at, account_of};
 ghost use Rattle.mf_guarantees.specs.Money.{IsAccountedFor};
 ghost use Rattle.mf_guarantees.specs.Entered.{AtSomeLine, IsEntered, IsTakenBack, entry_of, is_reversed};
 ghost use Rattle.mf_guarantees.specs.Moves.{Rises, repaid, paid_out};
+ghost use Rattle.mf_guarantees.specs.Reorder.{AreNumbered, AreReordered, IsCutInTwo};
 ghost use Rattle.mf_guarantees.specs.Sources.{HasSources};
 ghost use Rattle.mf_guarantees.specs.Sums.{paid_out_in, all_paid_out, AreAccountedFor};
 ghost use Rattle.mf_guarantees.specs.Roles.{is_repayment, is_concession};
@@ -174,6 +175,24 @@ pub fn a_reversal_is_as_never_entered()
           entries = with_mark (loan.entries ++ entry ∷ []) (length loan.entries) true;
         } in
         balances_of reversed ≡ balances_of loan }
+{}
+
+/// Entries of different days may be entered in any order, by anybody and with any receipts: the instalments and the sums
+/// of the loan are the same, since it is the days that count. And a repayment comes to the same as two of the same day
+/// that follow each other and come to its amount.
+pub fn the_order_of_entering_counts_nothing()
+    ensures instalments { (loan : DisbursedLoan) (entries : List Entry) → AreNumbered loan.entries →
+        AreNumbered entries → AreReordered loan.entries entries →
+        (state_of_loan (record loan { entries = entries })).rows ≡ (state_of_loan loan).rows }
+    ensures sums { (loan : DisbursedLoan) (entries : List Entry) → AreNumbered loan.entries →
+        AreNumbered entries → AreReordered loan.entries entries →
+        balances_of (record loan { entries = entries }) ≡ balances_of loan }
+    ensures cut_instalments { (loan : DisbursedLoan) (entries : List Entry) → IsSoundDisbursed loan →
+        AreNumbered entries → IsCutInTwo loan.entries entries →
+        (state_of_loan (record loan { entries = entries })).rows ≡ (state_of_loan loan).rows }
+    ensures cut_sums { (loan : DisbursedLoan) (entries : List Entry) → IsSoundDisbursed loan →
+        AreNumbered entries → IsCutInTwo loan.entries entries →
+        balances_of (record loan { entries = entries }) ≡ balances_of loan }
 {}
 
 /// Of an office's loans, what is outstanding is what is on time and what is overdue in each class, and no cent else;
