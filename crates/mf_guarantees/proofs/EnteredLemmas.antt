@@ -1,8 +1,8 @@
 -- Who made the entries that a run adds.
-use Rattle.std.proofs.Common.{◌≡◌, ◌≢◌, ◌⊎◌, ◌+◌, ◌-◌, ◌<◌, ◌≤◌, ℕ, zero, suc, Bool, true, false, cond, List, [], ◌∷◌}
+use Rattle.std.proofs.Common.{◌≡◌, ◌≢◌, ◌⊎◌, ◌+◌, ◌-◌, ℕ, zero, suc, Bool, true, false, cond, List, [], ◌∷◌}
 use Rattle.std.proofs.Common.{◌++◌, length, Option, Some, None, Result, Ok, Err, refl, sym, ap, ◌∙◌, subst, arith}
 use Rattle.std.proofs.Common.{inl, inr}
-use Rattle.std.specs.Prelude.{◌==◌, is_some, slice_get, slice_set, option_map}
+use Rattle.std.specs.Prelude.{◌==◌, is_some, slice_get, option_map}
 use Rattle.std.proofs.lemmas.Bool.{cases_eq}
 use Rattle.std.proofs.lemmas.Bool.Decides.{nat_tests}
 use Rattle.mf_base.specs.declared.fault.Fault.{Fault}
@@ -15,9 +15,8 @@ use Rattle.mf_account.specs.declared.entry.Entry.{Entry}
 use Rattle.mf_account.specs.declared.entry.Kind.{Kind}
 use Rattle.mf_account.specs.Loan.{DisbursedLoan}
 use Rattle.mf_account.specs.Refusals.{reversal_refused}
-use Rattle.mf_account.specs.Standing.{entry_at, no_entry, with_mark}
+use Rattle.mf_account.specs.Standing.{with_mark}
 use Rattle.mf_model.specs.declared.loan.Stage.{Stage}
-use Rattle.mf_model.specs.declared.reply.LoanReply.{LoanReply}
 use Rattle.mf_model.specs.declared.reply.LoanReply.TheVariants.{Status}
 use Rattle.mf_model.specs.declared.reply.Reply.{Reply}
 use Rattle.mf_model.specs.declared.request.Application.{Application}
@@ -36,8 +35,8 @@ use Rattle.mf_model.specs.Accounts.{account_in}
 use Rattle.mf_model.specs.Catalogue.{on_catalogue}
 use Rattle.mf_model.specs.Desk.{plan, loan_need, need, meets, on_office, of_office, in_office, staff_at, change_in}
 use Rattle.mf_model.specs.Desk.{sender_effect, outcome}
-use Rattle.mf_model.specs.Institution.{Institution, Catalogue, Office, Rows, Ledger, Staff, office_at, item_numbered}
-use Rattle.mf_model.specs.Institution.{with_numbered, with_rows, with_office, new_office, Change, Catalogue_becomes}
+use Rattle.mf_model.specs.Institution.{Institution, Catalogue, Office, Rows, Ledger, office_at, item_numbered}
+use Rattle.mf_model.specs.Institution.{with_rows, with_office, new_office, Change}
 use Rattle.mf_model.specs.Institution.{Rows_become, Office_added, after, after_maybe, charge_in, product_in}
 use Rattle.mf_model.specs.Loans.{LedgerChange, on_loan, loan_changed, loan_added, new_loan, lend, with_stage}
 use Rattle.mf_model.specs.Loans.{with_new_entry, with_reversal, none_first, fee_first, enter, repayment, fee, posting}
@@ -48,7 +47,6 @@ use Rattle.mf_model.specs.Run.{Line, change_of_line, next, last}
 use Rattle.mf_model.specs.Stages.{next_stage, stage_number}
 use Rattle.mf_model.specs.Store.{rows_of, ledger_at}
 use Rattle.mf_model.specs.Tree.{IsTree, Fits, is_there}
-use Rattle.mf_model.proofs.AccountLemmas.{account_is}
 use Rattle.mf_model.proofs.Confined.{others_stay, old_stay}
 use Rattle.mf_model.proofs.Runs.{IsTree_next}
 use Rattle.mf_model.proofs.StaffLemmas.{rows_found}

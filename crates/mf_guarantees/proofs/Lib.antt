@@ -12,3 +12,4 @@ pub mod MoveLemmas
 pub mod EnteredLemmas
 pub mod ReorderLemmas
 pub mod CutLemmas
+pub mod MoreLemmas

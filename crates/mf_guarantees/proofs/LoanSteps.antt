@@ -1,6 +1,5 @@
 -- What is known of an accepted request on a loan.
-use Rattle.std.proofs.Common.{◌≡◌, ℕ, Bool, true, false, cond, Option, Some, None, Result, Ok, Err, refl, ap, ◌∙◌, subst}
-use Rattle.std.proofs.Common.{sym}
+use Rattle.std.proofs.Common.{◌≡◌, ℕ, Bool, true, false, cond, Option, Some, None, Result, Ok, Err, refl, ap, subst}
 use Rattle.mf_base.specs.declared.fault.Fault.{Fault}
 use Rattle.mf_base.specs.declared.fault.Fault.TheVariants.{F3}
 use Rattle.mf_office.specs.declared.account.Account.{Account}
@@ -16,7 +15,7 @@ use Rattle.mf_model.specs.declared.request.Request.{Request}
 use Rattle.mf_model.specs.declared.request.Request.TheVariants as request
 use Rattle.mf_model.specs.Desk.{Outcome, Plan, On_office, plan, need, meets, in_office, of_office, carried_out, staff_at}
 use Rattle.mf_model.specs.Desk.{where_permitted, sent_by, outcome, change_in}
-use Rattle.mf_model.specs.Institution.{Institution, Catalogue, Office, Rows, Staff, Ledger, office_at, item_numbered}
+use Rattle.mf_model.specs.Institution.{Institution, Catalogue, Office, Staff, Ledger, office_at, item_numbered}
 use Rattle.mf_model.specs.Institution.{Change, Rows_become}
 use Rattle.mf_model.specs.Loans.{LedgerChange, on_loan, of_loan, in_loan, loan_changed, with_new_entry, with_reversal}
 use Rattle.mf_model.specs.Loans.{unless_fault, fault_or, enter, reverse, repeat_of}

@@ -1,12 +1,11 @@
 -- What an accepted request on a loan moves of the sums.
 use Rattle.std.proofs.Common.{◌≡◌, ◌≢◌, ◌+◌, ◌-◌, ◌<◌, ◌≤◌, ℕ, zero, suc, Bool, true, false, cond, not, ◌&&◌, List, []}
-use Rattle.std.proofs.Common.{◌∷◌, ◌++◌, length, Option, Some, None, Result, Ok, Err, refl, sym, ap, ◌∙◌, subst, arith}
+use Rattle.std.proofs.Common.{◌∷◌, ◌++◌, length, Option, Some, None, Ok, Err, refl, sym, ap, ◌∙◌, subst, arith}
 use Rattle.std.proofs.Common.{inl, inr}
 use Rattle.std.specs.Prelude.{◌==◌, nat_le, sum_by, slice_get, option_map}
 use Rattle.std.proofs.lemmas.Bool.{cases_eq}
 use Rattle.std.proofs.lemmas.Bool.Decides.{nat_tests}
 use Rattle.std.proofs.lemmas.List.Sums.{sum_by-cons, sum_by_push, sum_by-set}
-use Rattle.mf_base.specs.declared.fault.Fault.{Fault}
 use Rattle.mf_base.specs.declared.fault.Fault.TheVariants.{F10, F11, F12, F13}
 use Rattle.mf_office.specs.declared.account.Account.{Account}
 use Rattle.mf_office.specs.declared.caller.Caller.{Caller}
@@ -33,7 +32,7 @@ use Rattle.mf_model.specs.Loans.{LedgerChange, loan_changed, with_new_entry, wit
 use Rattle.mf_model.specs.Loans.{enter, repayment, unless_known}
 use Rattle.mf_model.specs.Outcomes.{with_value}
 use Rattle.mf_model.specs.Receipts.{Use, uses_from, used_before, repeated_seq}
-use Rattle.mf_model.specs.Stages.{disbursed_on, next_stage, stage_number, stage_of_disbursal}
+use Rattle.mf_model.specs.Stages.{disbursed_on, next_stage, stage_number}
 use Rattle.mf_model.specs.Store.{rows_of, ledger_at}
 use Rattle.mf_model.specs.Tree.{IsTree, Above, Ascending}
 use Rattle.mf_model.proofs.AccountLemmas.{account_is}
@@ -41,7 +40,7 @@ use Rattle.mf_model.proofs.Confined.{others_stay}
 use Rattle.mf_model.proofs.Growing.{numbered_suc}
 use Rattle.mf_model.proofs.StaffLemmas.{rows_found}
 use Rattle.mf_guarantees.specs.Moves.{repaid, paid_out, if_dated, if_there, loan_sum, office_sum, whole_sum, Rises}
-use Rattle.mf_guarantees.proofs.LoanSteps.{ChangesLoan, loan_changes, change_told, entered_is, reversed_is}
+use Rattle.mf_guarantees.proofs.LoanSteps.{loan_changes, change_told, entered_is, reversed_is}
 use Rattle.mf_guarantees.proofs.LoanSteps.{repeated_none, some_same}
 
 -- ---- one thing of a list is changed

@@ -9,3 +9,4 @@ pub mod Sums
 pub mod Moves
 pub mod Entered
 pub mod Reorder
+pub mod More

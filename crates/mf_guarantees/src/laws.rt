@@ -1,20 +1,23 @@
 //! Guarantees in plain words. Each function does nothing: its contract is the law that the sentence above it tells.
 
-ghost use Rattle.std.specs.Prelude.{◌≡◌, ◌≤◌, ◌<◌, ◌+◌, ◌-◌, ◌++◌, ℕ, List, [], ◌∷◌, Some, None, true, false, pos};
+ghost use Rattle.std.specs.Prelude.{◌≡◌, ◌≢◌, ◌≤◌, ◌<◌, ◌+◌, ◌-◌, ◌++◌, ℕ, List, [], ◌∷◌, Some, None, true, false, pos};
 ghost use Rattle.std.specs.Prelude.{length, map, sum};
-ghost use Rattle.std.specs.List.{flat_map};
+ghost use Rattle.std.specs.List.{AllZip, flat_map};
 ghost use Rattle.mf_office.specs.declared.account.Account.{Account};
 ghost use Rattle.mf_account.specs.Balance.{balances_of};
 ghost use Rattle.mf_account.specs.Loan.{DisbursedLoan, IsSoundDisbursed, state_of_loan};
 ghost use Rattle.mf_account.specs.Kinds.{money_in};
 ghost use Rattle.mf_account.specs.Standing.{entry_at, with_mark};
 ghost use Rattle.mf_account.specs.declared.entry.Entry.{Entry};
+ghost use Rattle.mf_account.specs.declared.entry.Kind.TheVariants as kind;
 ghost use Rattle.mf_office.specs.Tree.{is_at_or_below};
 ghost use Rattle.mf_office.specs.declared.caller.Caller.{Caller};
 ghost use Rattle.mf_office.specs.declared.staff.Role.TheVariants.{Teller, Manager};
 ghost use Rattle.mf_catalog.specs.declared.terms.Terms.{Terms};
 ghost use Rattle.mf_catalog.specs.Limits.{AreTermsWithinLimits};
 ghost use Rattle.mf_schedule.specs.Fresh.{IsLoanWithinLimits, due_day_of, fresh_schedule, total_principal};
+ghost use Rattle.mf_alloc.specs.declared.row.Cell.{Cell};
+ghost use Rattle.mf_alloc.specs.Rows.{IsCell, outstanding};
 ghost use Rattle.mf_alloc.specs.Sums.{Instalment, AreWithin};
 ghost use Rattle.mf_arrears.specs.Ageing.{days_overdue};
 ghost use Rattle.mf_arrears.specs.Line.{AgedLoan, class_of, line_of_loans, par30_of};
@@ -24,7 +27,7 @@ ghost use Rattle.mf_model.specs.Arrears.{active_in, arrears_line};
 ghost use Rattle.mf_model.specs.Institution.{Institution, Catalogue, Change, Catalogue_becomes, Office, Staff};
 ghost use Rattle.mf_model.specs.Institution.{Ledger, after, office_at};
 ghost use Rattle.mf_model.specs.Tree.{IsTree, is_there, parent_of, seen_by};
-ghost use Rattle.mf_guarantees.specs.Branch.{children, line_of_all};
+ghost use Rattle.mf_guarantees.specs.Branch.{children, line_of_all, worked_offices};
 ghost use Rattle.mf_guarantees.specs.Reach.{AreFrom};
 ghost use Rattle.mf_guarantees.specs.Kept.{AllRemains};
 ghost use Rattle.mf_model.specs.Desk.{change_in, outcome, staff_at};
@@ -34,6 +37,7 @@ ghost use Rattle.mf_model.specs.Store.{ledger_at, account_of};
 ghost use Rattle.mf_guarantees.specs.Money.{IsAccountedFor};
 ghost use Rattle.mf_guarantees.specs.Entered.{AtSomeLine, IsEntered, IsTakenBack, entry_of, is_reversed};
 ghost use Rattle.mf_guarantees.specs.Moves.{Rises, repaid, paid_out};
+ghost use Rattle.mf_guarantees.specs.More.{PaysNoLess};
 ghost use Rattle.mf_guarantees.specs.Reorder.{AreNumbered, AreReordered, IsCutInTwo};
 ghost use Rattle.mf_guarantees.specs.Sources.{HasSources};
 ghost use Rattle.mf_guarantees.specs.Sums.{paid_out_in, all_paid_out, AreAccountedFor};
@@ -195,6 +199,16 @@ pub fn the_order_of_entering_counts_nothing()
         balances_of (record loan { entries = entries }) ≡ balances_of loan }
 {}
 
+/// Who pays more never has more left to pay: where some repayments of a loan are of more, and all else that was entered
+/// is the same, no cell of an instalment has more outstanding.
+pub fn who_pays_more_has_no_more_left()
+    ensures { (loan : DisbursedLoan) (entries : List Entry) (cell : Cell) → IsSoundDisbursed loan →
+        IsSoundDisbursed (record loan { entries = entries }) → AllZip PaysNoLess loan.entries entries →
+        IsCell loan.periods cell →
+        outstanding (state_of_loan (record loan { entries = entries })).rows cell
+        ≤ outstanding (state_of_loan loan).rows cell }
+{}
+
 /// Of an office's loans, what is outstanding is what is on time and what is overdue in each class, and no cent else;
 /// and the portfolio at risk is at most 100 per cent.
 pub fn arrears_add_up()
@@ -232,10 +246,17 @@ pub fn schedules_come_to_what_was_lent()
 {}
 
 /// Worked out: of 100.00 that is 31 days overdue and 200.00 that is on time a third is at risk; a repayment is no
-/// concession, and a write-off is one.
+/// concession, and a write-off is one; offices 2 and 20 are right below office 1, and office 5 is not. Two entries of
+/// different days may be entered the other way round, and 1.00 that is repaid may be cut into 0.60 and 0.40.
 pub fn worked_rows()
     ensures at_risk { par30_of (line_of_loans 1 worked_loans) ≡ 3333 }
     ensures on_time { on_time worked_loans ≡ 20000 }
+    ensures children { map (λ (office : Office). office.number) (children 1 worked_offices) ≡ 2 ∷ 20 ∷ [] }
+    ensures reordered { (a b : Entry) → a.day ≢ b.day →
+        AreReordered (a ∷ b ∷ []) (record b { seq = a.seq } ∷ record a { seq = b.seq } ∷ []) }
+    ensures cut { (payment : Entry) → payment.kind ≡ kind.Repay → payment.amount ≡ 100 →
+        IsCutInTwo (payment ∷ []) (record payment { amount = 60 }
+        ∷ record payment { seq = payment.seq + 1; amount = 40; receipt = None } ∷ []) }
     ensures repayment { (loan : Account) (asked : Repayment) →
         (is_repayment (Loan loan (Repay asked)) ≡ true) × (is_concession (Loan loan (Repay asked)) ≡ false) }
     ensures write_off { (loan : Account) →
