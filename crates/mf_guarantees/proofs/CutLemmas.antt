@@ -21,7 +21,8 @@ use Rattle.mf_account.specs.Account.{after_entries, first_state}
 use Rattle.mf_account.specs.Applicable.{HasInstalment}
 use Rattle.mf_account.specs.AtOnce.{paid_part}
 use Rattle.mf_account.specs.Effect.{State, own_effect, with_overpaid_paid, after_entry}
-use Rattle.mf_account.specs.Loan.{DisbursedLoan, IsSoundDisbursed, orders_of, schedule_of, state_of_loan, cell_places_of}
+use Rattle.mf_account.specs.Loan.{DisbursedLoan, IsSoundDisbursed, orders_of, schedule_of, state_of_loan}
+use Rattle.mf_account.specs.Loan.{cell_places_of}
 use Rattle.mf_account.specs.Safe.{IsBounded}
 use Rattle.mf_account.specs.Standing.{standing_entries}
 use Rattle.mf_account.proofs.EffectLemmas.{with_settled-paid}

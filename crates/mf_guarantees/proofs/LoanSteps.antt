@@ -13,7 +13,8 @@ use Rattle.mf_model.specs.declared.request.Call.{Call}
 use Rattle.mf_model.specs.declared.request.LoanRequest.{LoanRequest}
 use Rattle.mf_model.specs.declared.request.Request.{Request}
 use Rattle.mf_model.specs.declared.request.Request.TheVariants as request
-use Rattle.mf_model.specs.Desk.{Outcome, Plan, On_office, plan, need, meets, in_office, of_office, carried_out, staff_at}
+use Rattle.mf_model.specs.Desk.{Outcome, Plan, On_office, plan, need, meets, in_office, of_office, carried_out}
+use Rattle.mf_model.specs.Desk.{staff_at}
 use Rattle.mf_model.specs.Desk.{where_permitted, sent_by, outcome, change_in}
 use Rattle.mf_model.specs.Institution.{Institution, Catalogue, Office, Staff, Ledger, office_at, item_numbered}
 use Rattle.mf_model.specs.Institution.{Change, Rows_become}

@@ -25,7 +25,8 @@ use Rattle.mf_account.specs.Applicable.{HasInstalment}
 use Rattle.mf_account.specs.ClearingLaw.{cell_of}
 use Rattle.mf_account.specs.Effect.{State, own_effect, after_entry, state_acted, owe_row, with_settled, parts_by}
 use Rattle.mf_account.specs.Effect.{whole_part, is_some_part}
-use Rattle.mf_account.specs.Loan.{DisbursedLoan, IsSoundDisbursed, orders_of, schedule_of, state_of_loan, cell_places_of}
+use Rattle.mf_account.specs.Loan.{DisbursedLoan, IsSoundDisbursed, orders_of, schedule_of, state_of_loan}
+use Rattle.mf_account.specs.Loan.{cell_places_of}
 use Rattle.mf_account.specs.Safe.{IsBounded}
 use Rattle.mf_account.specs.Standing.{is_before, order_with, with_entry, standing_entries}
 use Rattle.mf_account.proofs.ClearingLemmas.{writes-off_by_cells, waives-one_cell}

@@ -105,7 +105,8 @@ module _ {X : Type 0} (change : X → X) where
       numbered_suc (with_numbered (suc k) change xs) k
       ∙ slice_same (suc k) xs k x (sym (numbered_suc xs k) ∙ h) refl
 
-  pub numbered_other : (n m : ℕ) (xs : List X) → m ≢ n → item_numbered (with_numbered n change xs) m ≡ item_numbered xs m
+  pub numbered_other : (n m : ℕ) (xs : List X) → m ≢ n
+      → item_numbered (with_numbered n change xs) m ≡ item_numbered xs m
   numbered_other n zero xs apart = refl
   numbered_other n (suc k) xs apart =
       numbered_suc (with_numbered n change xs) k ∙ slice_other n xs k apart ∙ sym (numbered_suc xs k)

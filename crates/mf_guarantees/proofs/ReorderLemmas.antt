@@ -83,7 +83,8 @@ all_by_day k order (e ∷ es) below numbers =
   where
     kept : (b : Bool) → Below (k + 1) (cond b order (order_with e order))
     kept true = below_more k order below
-    kept false = below_placed (k + 1) e order (let number = numbers.0 in omega (arith, number)) (below_more k order below)
+    kept false =
+        below_placed (k + 1) e order (let number = numbers.0 in omega (arith, number)) (below_more k order below)
 
     own : AllByRecursion (λ (x : Entry). x.seq < e.seq) order
     own = subst (λ (n : ℕ). Below n order) (sym numbers.0) below

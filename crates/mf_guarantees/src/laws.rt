@@ -76,8 +76,8 @@ pub fn no_cent_is_made_or_lost()
         0 < (balances_of account).overpaid → sum (balances_of account).outstanding ≡ 0 }
 {}
 
-/// Nor of an office or of all offices: the same holds of the sums over the loans that an office paid out, and over those
-/// of all offices.
+/// Nor of an office or of all offices: the same holds of the sums over the loans that an office paid out, and over
+/// those of all offices.
 pub fn no_office_makes_or_loses_a_cent()
     ensures office { (i : Institution) (lines : List Line) (x : ℕ) (office : Office) → IsSound i → AreInRange lines →
         office_at x (last lines i).offices ≡ Some office →
@@ -86,8 +86,8 @@ pub fn no_office_makes_or_loses_a_cent()
         AreAccountedFor (all_paid_out (last lines i)) }
 {}
 
-/// An accepted repayment raises what has been repaid of its loan, of its office and of all by exactly its amount, and an
-/// accepted reversal lowers it by what the entry repaid; a loan that is paid out raises what was paid out by its
+/// An accepted repayment raises what has been repaid of its loan, of its office and of all by exactly its amount, and
+/// an accepted reversal lowers it by what the entry repaid; a loan that is paid out raises what was paid out by its
 /// principal. Nothing is moved of any other loan or office.
 pub fn a_request_moves_exactly_its_amount()
     ensures repayment { (call : Call) (i : Institution) (change : Change) (loan : Account) (asked : Repayment) →
@@ -98,8 +98,9 @@ pub fn a_request_moves_exactly_its_amount()
         change_in (outcome call i) ≡ Some change →
         let entry : Entry = entry_at ledger.entries (seq - 1) in
         Rises repaid loan (money_in entry.kind entry.amount) (after change i) i }
-    ensures paying_out { (call : Call) (i : Institution) (change : Change) (loan : Account) (day : ℕ) (ledger : Ledger) →
-        IsTree i.offices → call.request ≡ Loan loan (Take (Disburse day)) → ledger_at loan i ≡ Some ledger →
+    ensures paying_out { (call : Call) (i : Institution) (change : Change) (loan : Account) (day : ℕ)
+        (ledger : Ledger) → IsTree i.offices → call.request ≡ Loan loan (Take (Disburse day)) →
+        ledger_at loan i ≡ Some ledger →
         change_in (outcome call i) ≡ Some change → Rises paid_out loan ledger.loan.principal i (after change i) }
 {}
 
@@ -118,9 +119,10 @@ pub fn only_managers_concede()
         change_in (outcome call i) ≡ Some change → sender.role ≡ Manager }
 {}
 
-/// Whatever requests come, each entry that a loan has more was asked for at some moment by the member of staff whose name
-/// stands in it, and their role allowed it then: a fee or a penalty an officer or a manager, a waiver, a write-off or a
-/// refund a manager. And each entry that is taken back was so at the request of a manager of that moment.
+/// Whatever requests come, each entry that they add to a loan was asked for by the member of staff whose name stands
+/// in it, and their role allowed it at that moment: a fee or a penalty to an officer or a manager, a waiver, a
+/// write-off or a refund to a manager. And each entry that they take back was taken back by somebody who was a manager
+/// at that moment.
 pub fn every_entry_was_allowed_when_it_was_made()
     ensures made { (i : Institution) (lines : List Line) (loan : Account) (place : ℕ) (entry : Entry) →
         IsTree i.offices → entry_of loan place i ≡ None → entry_of loan place (last lines i) ≡ Some entry →
@@ -181,9 +183,9 @@ pub fn a_reversal_is_as_never_entered()
         balances_of reversed ≡ balances_of loan }
 {}
 
-/// Entries of different days may be entered in any order, by anybody and with any receipts: the instalments and the sums
-/// of the loan are the same, since it is the days that count. And a repayment comes to the same as two of the same day
-/// that follow each other and come to its amount.
+/// Entries of different days may be entered in any order, by anybody and with any receipts: the instalments and the
+/// sums of the loan are the same, since it is the days that count. And a repayment comes to the same as two of the same
+/// day that follow each other and come to its amount.
 pub fn the_order_of_entering_counts_nothing()
     ensures instalments { (loan : DisbursedLoan) (entries : List Entry) → AreNumbered loan.entries →
         AreNumbered entries → AreReordered loan.entries entries →
