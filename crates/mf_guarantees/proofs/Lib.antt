@@ -1,3 +1,4 @@
+pub mod BranchLemmas
 pub mod ClassLemmas
 pub mod MoneyLemmas
 pub mod ReachLemmas
@@ -5,3 +6,10 @@ pub mod RemainLemmas
 pub mod RequestLemmas
 pub mod ReversalLemmas
 pub mod SourceLemmas
+pub mod SumLemmas
+pub mod LoanSteps
+pub mod MoveLemmas
+pub mod EnteredLemmas
+pub mod ReorderLemmas
+pub mod CutLemmas
+pub mod MoreLemmas

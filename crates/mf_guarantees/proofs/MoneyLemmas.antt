@@ -16,7 +16,7 @@ use Rattle.mf_guarantees.specs.Money.{IsAccountedFor}
 use Rattle.mf_guarantees.specs.Sources.{HasSources}
 use Rattle.mf_guarantees.proofs.SourceLemmas.{sources}
 
-accounted : (loan : DisbursedLoan) → IsSoundDisbursed loan → IsAccountedFor loan
+pub accounted : (loan : DisbursedLoan) → IsSoundDisbursed loan → IsAccountedFor loan
 accounted loan sound = record {
   lent = sym (balances-principal loan sound);
   owed = λ portion small.

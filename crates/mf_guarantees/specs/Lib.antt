@@ -4,3 +4,9 @@ pub mod Reach
 pub mod Kept
 pub mod Money
 pub mod Sources
+pub mod Branch
+pub mod Sums
+pub mod Moves
+pub mod Entered
+pub mod Reorder
+pub mod More

@@ -1,24 +1,33 @@
 //! Guarantees in plain words. Each function does nothing: its contract is the law that the sentence above it tells.
 
-ghost use Rattle.std.specs.Prelude.{◌≡◌, ◌≤◌, ◌<◌, ◌+◌, ◌++◌, ℕ, List, [], ◌∷◌, Some, None, true, false, pos};
-ghost use Rattle.std.specs.Prelude.{length, sum};
+ghost use Rattle.std.specs.Prelude.{◌≡◌, ◌≢◌, ◌≤◌, ◌<◌, ◌+◌, ◌-◌, ◌++◌, ℕ, List, [], ◌∷◌, Some, None, true, false, pos};
+ghost use Rattle.std.specs.Prelude.{length, map, sum};
+ghost use Rattle.std.specs.List.{AllZip, flat_map};
 ghost use Rattle.mf_office.specs.declared.account.Account.{Account};
 ghost use Rattle.mf_account.specs.Balance.{balances_of};
-ghost use Rattle.mf_account.specs.Loan.{DisbursedLoan, state_of_loan};
-ghost use Rattle.mf_account.specs.Standing.{with_mark};
+ghost use Rattle.mf_account.specs.Loan.{DisbursedLoan, IsSoundDisbursed, state_of_loan};
+ghost use Rattle.mf_account.specs.Kinds.{money_in};
+ghost use Rattle.mf_account.specs.Standing.{entry_at, with_mark};
 ghost use Rattle.mf_account.specs.declared.entry.Entry.{Entry};
+ghost use Rattle.mf_account.specs.declared.entry.Kind.TheVariants as kind;
 ghost use Rattle.mf_office.specs.Tree.{is_at_or_below};
 ghost use Rattle.mf_office.specs.declared.caller.Caller.{Caller};
 ghost use Rattle.mf_office.specs.declared.staff.Role.TheVariants.{Teller, Manager};
 ghost use Rattle.mf_catalog.specs.declared.terms.Terms.{Terms};
 ghost use Rattle.mf_catalog.specs.Limits.{AreTermsWithinLimits};
 ghost use Rattle.mf_schedule.specs.Fresh.{IsLoanWithinLimits, due_day_of, fresh_schedule, total_principal};
+ghost use Rattle.mf_alloc.specs.declared.row.Cell.{Cell};
+ghost use Rattle.mf_alloc.specs.Rows.{IsCell, outstanding};
 ghost use Rattle.mf_alloc.specs.Sums.{Instalment, AreWithin};
 ghost use Rattle.mf_arrears.specs.Ageing.{days_overdue};
 ghost use Rattle.mf_arrears.specs.Line.{AgedLoan, class_of, line_of_loans, par30_of};
 ghost use Rattle.mf_model.specs.declared.request.Call.{Call};
-ghost use Rattle.mf_model.specs.Institution.{Institution, Catalogue, Change, Catalogue_becomes, Staff, office_at};
-ghost use Rattle.mf_model.specs.Tree.{IsTree, is_there, parent_of};
+ghost use Rattle.mf_arrears.specs.Report.{total_of};
+ghost use Rattle.mf_model.specs.Arrears.{active_in, arrears_line};
+ghost use Rattle.mf_model.specs.Institution.{Institution, Catalogue, Change, Catalogue_becomes, Office, Staff};
+ghost use Rattle.mf_model.specs.Institution.{Ledger, after, office_at};
+ghost use Rattle.mf_model.specs.Tree.{IsTree, is_there, parent_of, seen_by};
+ghost use Rattle.mf_guarantees.specs.Branch.{children, line_of_all, worked_offices};
 ghost use Rattle.mf_guarantees.specs.Reach.{AreFrom};
 ghost use Rattle.mf_guarantees.specs.Kept.{AllRemains};
 ghost use Rattle.mf_model.specs.Desk.{change_in, outcome, staff_at};
@@ -26,10 +35,16 @@ ghost use Rattle.mf_model.specs.Run.{Line, last};
 ghost use Rattle.mf_model.specs.Sound.{IsSound, AreInRange};
 ghost use Rattle.mf_model.specs.Store.{ledger_at, account_of};
 ghost use Rattle.mf_guarantees.specs.Money.{IsAccountedFor};
+ghost use Rattle.mf_guarantees.specs.Entered.{AtSomeLine, IsEntered, IsTakenBack, entry_of, is_reversed};
+ghost use Rattle.mf_guarantees.specs.Moves.{Rises, repaid, paid_out};
+ghost use Rattle.mf_guarantees.specs.More.{PaysNoLess};
+ghost use Rattle.mf_guarantees.specs.Reorder.{AreNumbered, AreReordered, IsCutInTwo};
 ghost use Rattle.mf_guarantees.specs.Sources.{HasSources};
+ghost use Rattle.mf_guarantees.specs.Sums.{paid_out_in, all_paid_out, AreAccountedFor};
 ghost use Rattle.mf_guarantees.specs.Roles.{is_repayment, is_concession};
 ghost use Rattle.mf_guarantees.specs.Ageing.{lateness, on_time, worked_loans};
-ghost use Rattle.mf_model.specs.declared.request.LoanRequest.TheVariants.{Repay, Post};
+ghost use Rattle.mf_model.specs.declared.request.LoanRequest.TheVariants.{Repay, Post, Reverse, Take};
+ghost use Rattle.mf_model.specs.declared.request.LoanStep.TheVariants.{Disburse};
 ghost use Rattle.mf_model.specs.declared.request.Posting.TheVariants.{WriteOff};
 ghost use Rattle.mf_model.specs.declared.request.Repayment.{Repayment};
 ghost use Rattle.mf_model.specs.declared.request.Request.TheVariants.{Loan};
@@ -61,6 +76,34 @@ pub fn no_cent_is_made_or_lost()
         0 < (balances_of account).overpaid → sum (balances_of account).outstanding ≡ 0 }
 {}
 
+/// Nor of an office or of all offices: the same holds of the sums over the loans that an office paid out, and over
+/// those of all offices.
+pub fn no_office_makes_or_loses_a_cent()
+    ensures office { (i : Institution) (lines : List Line) (x : ℕ) (office : Office) → IsSound i → AreInRange lines →
+        office_at x (last lines i).offices ≡ Some office →
+        AreAccountedFor (paid_out_in (last lines i).catalogue office) }
+    ensures all { (i : Institution) (lines : List Line) → IsSound i → AreInRange lines →
+        AreAccountedFor (all_paid_out (last lines i)) }
+{}
+
+/// An accepted repayment raises what has been repaid of its loan, of its office and of all by exactly its amount, and
+/// an accepted reversal lowers it by what the entry repaid; a loan that is paid out raises what was paid out by its
+/// principal. Nothing is moved of any other loan or office.
+pub fn a_request_moves_exactly_its_amount()
+    ensures repayment { (call : Call) (i : Institution) (change : Change) (loan : Account) (asked : Repayment) →
+        IsTree i.offices → call.request ≡ Loan loan (Repay asked) → change_in (outcome call i) ≡ Some change →
+        Rises repaid loan asked.amount i (after change i) }
+    ensures reversal { (call : Call) (i : Institution) (change : Change) (loan : Account) (seq : ℕ) (ledger : Ledger) →
+        IsTree i.offices → call.request ≡ Loan loan (Reverse seq) → ledger_at loan i ≡ Some ledger →
+        change_in (outcome call i) ≡ Some change →
+        let entry : Entry = entry_at ledger.entries (seq - 1) in
+        Rises repaid loan (money_in entry.kind entry.amount) (after change i) i }
+    ensures paying_out { (call : Call) (i : Institution) (change : Change) (loan : Account) (day : ℕ)
+        (ledger : Ledger) → IsTree i.offices → call.request ≡ Loan loan (Take (Disburse day)) →
+        ledger_at loan i ≡ Some ledger →
+        change_in (outcome call i) ≡ Some change → Rises paid_out loan ledger.loan.principal i (after change i) }
+{}
+
 /// What a teller sends changes something only where it is a repayment.
 pub fn tellers_only_enter_repayments()
     ensures { (caller : Caller) (teller : Staff) (call : Call) (i : Institution) (change : Change) →
@@ -74,6 +117,19 @@ pub fn only_managers_concede()
     ensures { (caller : Caller) (sender : Staff) (call : Call) (i : Institution) (change : Change) →
         call.caller ≡ Some caller → staff_at i caller ≡ Some sender → is_concession call.request ≡ true →
         change_in (outcome call i) ≡ Some change → sender.role ≡ Manager }
+{}
+
+/// Whatever requests come, each entry that they add to a loan was asked for by the member of staff whose name stands
+/// in it, and their role allowed it at that moment: a fee or a penalty to an officer or a manager, a waiver, a
+/// write-off or a refund to a manager. And each entry that they take back was taken back by somebody who was a manager
+/// at that moment.
+pub fn every_entry_was_allowed_when_it_was_made()
+    ensures made { (i : Institution) (lines : List Line) (loan : Account) (place : ℕ) (entry : Entry) →
+        IsTree i.offices → entry_of loan place i ≡ None → entry_of loan place (last lines i) ≡ Some entry →
+        AtSomeLine (IsEntered loan entry.kind entry.staff) lines i }
+    ensures taken_back { (i : Institution) (lines : List Line) (loan : Account) (place : ℕ) → IsTree i.offices →
+        is_reversed (entry_of loan place i) ≡ false → is_reversed (entry_of loan place (last lines i)) ≡ true →
+        AtSomeLine (IsTakenBack loan place) lines i }
 {}
 
 /// Only a manager of the head office changes what all share: the business day, the charges and the products.
@@ -127,6 +183,34 @@ pub fn a_reversal_is_as_never_entered()
         balances_of reversed ≡ balances_of loan }
 {}
 
+/// Entries of different days may be entered in any order, by anybody and with any receipts: the instalments and the
+/// sums of the loan are the same, since it is the days that count. And a repayment comes to the same as two of the same
+/// day that follow each other and come to its amount.
+pub fn the_order_of_entering_counts_nothing()
+    ensures instalments { (loan : DisbursedLoan) (entries : List Entry) → AreNumbered loan.entries →
+        AreNumbered entries → AreReordered loan.entries entries →
+        (state_of_loan (record loan { entries = entries })).rows ≡ (state_of_loan loan).rows }
+    ensures sums { (loan : DisbursedLoan) (entries : List Entry) → AreNumbered loan.entries →
+        AreNumbered entries → AreReordered loan.entries entries →
+        balances_of (record loan { entries = entries }) ≡ balances_of loan }
+    ensures cut_instalments { (loan : DisbursedLoan) (entries : List Entry) → IsSoundDisbursed loan →
+        AreNumbered entries → IsCutInTwo loan.entries entries →
+        (state_of_loan (record loan { entries = entries })).rows ≡ (state_of_loan loan).rows }
+    ensures cut_sums { (loan : DisbursedLoan) (entries : List Entry) → IsSoundDisbursed loan →
+        AreNumbered entries → IsCutInTwo loan.entries entries →
+        balances_of (record loan { entries = entries }) ≡ balances_of loan }
+{}
+
+/// Who pays more never has more left to pay: where some repayments of a loan are of more, and all else that was entered
+/// is the same, no cell of an instalment has more outstanding.
+pub fn who_pays_more_has_no_more_left()
+    ensures { (loan : DisbursedLoan) (entries : List Entry) (cell : Cell) → IsSoundDisbursed loan →
+        IsSoundDisbursed (record loan { entries = entries }) → AllZip PaysNoLess loan.entries entries →
+        IsCell loan.periods cell →
+        outstanding (state_of_loan (record loan { entries = entries })).rows cell
+        ≤ outstanding (state_of_loan loan).rows cell }
+{}
+
 /// Of an office's loans, what is outstanding is what is on time and what is overdue in each class, and no cent else;
 /// and the portfolio at risk is at most 100 per cent.
 pub fn arrears_add_up()
@@ -134,6 +218,17 @@ pub fn arrears_add_up()
         let line = line_of_loans office loans in
         line.outstanding ≡ on_time loans + line.c1_30 + line.c31_60 + line.c61_90 + line.over_90 }
     ensures at_most_all { (office : ℕ) (loans : List AgedLoan) → par30_of (line_of_loans office loans) ≤ 10000 }
+{}
+
+/// The report of arrears says of all that an office sees: its own line, and what the reports of the offices right below
+/// it say of all, each loan once and no other.
+pub fn a_parents_arrears_are_its_own_and_its_childrens()
+    ensures parts { (i : Institution) (x : ℕ) (own : Office) → IsTree i.offices → office_at x i.offices ≡ Some own →
+        line_of_all i x ≡ total_of (arrears_line i.catalogue own
+        ∷ map (λ (child : Office). line_of_all i child.number) (children x i.offices)) }
+    ensures loans { (i : Institution) (x : ℕ) →
+        line_of_all i x ≡ line_of_loans 0 (flat_map (λ (office : Office). active_in i.catalogue office.rows.loans)
+        (seen_by x i.offices)) }
 {}
 
 /// A loan into which nothing is entered is no less overdue on a later day, and in no lower class.
@@ -153,10 +248,17 @@ pub fn schedules_come_to_what_was_lent()
 {}
 
 /// Worked out: of 100.00 that is 31 days overdue and 200.00 that is on time a third is at risk; a repayment is no
-/// concession, and a write-off is one.
+/// concession, and a write-off is one; offices 2 and 20 are right below office 1, and office 5 is not. Two entries of
+/// different days may be entered the other way round, and 1.00 that is repaid may be cut into 0.60 and 0.40.
 pub fn worked_rows()
     ensures at_risk { par30_of (line_of_loans 1 worked_loans) ≡ 3333 }
     ensures on_time { on_time worked_loans ≡ 20000 }
+    ensures children { map (λ (office : Office). office.number) (children 1 worked_offices) ≡ 2 ∷ 20 ∷ [] }
+    ensures reordered { (a b : Entry) → a.day ≢ b.day →
+        AreReordered (a ∷ b ∷ []) (record b { seq = a.seq } ∷ record a { seq = b.seq } ∷ []) }
+    ensures cut { (payment : Entry) → payment.kind ≡ kind.Repay → payment.amount ≡ 100 →
+        IsCutInTwo (payment ∷ []) (record payment { amount = 60 }
+        ∷ record payment { seq = payment.seq + 1; amount = 40; receipt = None } ∷ []) }
     ensures repayment { (loan : Account) (asked : Repayment) →
         (is_repayment (Loan loan (Repay asked)) ≡ true) × (is_concession (Loan loan (Repay asked)) ≡ false) }
     ensures write_off { (loan : Account) →
