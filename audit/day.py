@@ -2,6 +2,7 @@
 import contextlib
 import json
 import os
+import re
 import sys
 
 sys.dont_write_bytecode = True
@@ -11,8 +12,11 @@ import front_log
 
 READS = ("GET", "HEAD")
 DONE = (200, 201)
+CREATED = 201
 PASSED_ON = "/api"
 LONGEST = 60000  # bytes of a body that stands in a line: the program takes lines of 65,536
+NUMBERED = re.compile(r'\{"(client|loan|staff|charge|product|entry)":"?(?:([0-9]+)[-/])?([0-9]+)"?\}')
+LATE = 1000  # lines: no message's line stands further behind its place than this
 
 
 def is_passed_on(message):
@@ -46,9 +50,48 @@ def line_of(message):
 
 
 def messages_of(logs):
-    """The messages of logs, each with its rotated files before it, in the order in which they were answered."""
+    """The messages of logs, each with its rotated files before it, as they stand."""
     for log in logs:
         yield from front_log.messages_of(log)
+
+
+def reply_of(message):
+    """What a message was answered, as far as the log tells: the logs of older fronts have the status alone."""
+    return f"{message['status']} {message.get('reply', '')}".rstrip()
+
+
+def is_answered_so(message, reply):
+    """Whether a reply of `batch` is the one that the log has of a message."""
+    told = reply_of(message)
+    return reply == told or told == reply.split(" ")[0] and not message.get("reply")
+
+
+def number_of(message):
+    """The number that a message took, and in what it was counted: the clients of an office, the entries of a loan."""
+    found = NUMBERED.fullmatch(message.get("reply") or "")
+    if found is None or message["status"] != CREATED:
+        return None, 0
+    name, office, number = found.groups()
+    loan = message["path"].split("/")[3] if name == "entry" else None
+    return (name, office, loan), int(number)
+
+
+def in_order(messages):
+    """Messages in the order in which the program answered them, as far as their numbers tell.
+
+    The front writes a line after the reply was sent, and each of its workers writes by itself. So a line may stand
+    behind those of later messages, and then the numbers that were taken tell it.
+    """
+    ordered, highest = [], {}
+    for message in messages:
+        count, number = number_of(message)
+        place = len(ordered)
+        if number < highest.get(count, 0):
+            recent = enumerate(map(number_of, ordered[-LATE:]), max(0, place - LATE))
+            place = next((at for at, other in recent if other[0] == count and other[1] > number), place)
+        highest[count] = max(number, highest.get(count, 0))
+        ordered.insert(place, message)
+    return ordered
 
 
 def place_of(message):

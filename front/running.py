@@ -20,6 +20,7 @@ PATIENCE = 60  # seconds that something may take to start
 # What is needed, and the package of Debian that has it.
 NEEDED = {
     "nginx": "nginx",
+    "/usr/lib/nginx/modules/ngx_http_js_module.so": "libnginx-mod-http-js",
     "htpasswd": "apache2-utils",
     "cracklib-check": "cracklib-runtime",
     "/usr/share/javascript/bootstrap5/css/bootstrap.min.css": "libjs-bootstrap5",
@@ -212,6 +213,7 @@ class Nginx:
             "OWN": os.path.join(self.folder, "own"),
             "SHUT": self.shut,
             "PAGES": self.pages,
+            "REPLIES": os.path.join(FRONT, "replies.js"),
             "LOG": self.log,
             "STRANGERS": self.strangers,
             "ERRORS": self.errors,

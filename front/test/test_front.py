@@ -308,13 +308,22 @@ class Messages(unittest.TestCase):
     def test_a_message_is_logged_with_its_body(self):
         name = 'Zoë "the baker" \\ {}'
         sent = json.dumps({"office": 2, "name": name}, ensure_ascii=False) + "\t\r\n"
-        self.assertEqual(DESK.send("zoe", "POST", "/api/clients", sent.encode())[0], 201)
+        status, reply = DESK.send("zoe", "POST", "/api/clients", sent.encode())
+        self.assertEqual(status, 201)
         line = desk_wait(lambda: next((line for line in DESK.log if line["body"] == sent), None))
         told = {key: line[key] for key in ("user", "staff", "method", "path", "status", "upstream")}
         wanted = {"user": "zoe", "staff": "2/2", "method": "POST", "path": "/api/clients", "status": 201}
         self.assertEqual(told, wanted | {"upstream": "201"})
         self.assertEqual(json.loads(line["body"]), {"office": 2, "name": name})
+        self.assertEqual(json.loads(line["reply"]), reply)
         self.assertRegex(line["time"], r"^\d{4}-\d\d-\d\dT\d\d:\d\d:\d\d[+-]\d\d:\d\d$")
+
+    def test_replies_to_what_writes_are_logged_and_no_others(self):
+        logged = len(DESK.log)
+        self.assertEqual(DESK.send("tom", "POST", "/api/clients", {"office": 2, "name": "No"})[0], 403)
+        self.assertEqual(DESK.send("zoe", "GET", "/api/offices")[0], 200)
+        lines = desk_wait(lambda: DESK.log[logged + 1 :] and DESK.log[logged:])
+        self.assertEqual({line["method"]: line["reply"] for line in lines}, {"POST": '{"fault":"F3"}', "GET": ""})
 
     def test_whom_nobody_checked_is_in_a_log_of_its_own(self):
         logged = len(DESK.log)

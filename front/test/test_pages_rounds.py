@@ -178,6 +178,34 @@ class Sheets(loans.Case):
             told = it.send("head", "GET", "/api/loans/0001-000001/entries")[1]["entries"]
             self.assertEqual([(one["receipt"], one["amount"]) for one in told], [("R-1", 20000), ("R-2", 50000)])
 
+    def test_lines_of_a_sheet_are_asked_again(self):
+        """Above what is owed, and the same sum on the same day; a loan that isn't there is refused as it is sent."""
+        with open(os.path.join(running.TOP, "examples", "evening-lines.txt"), "rb") as file:
+            it = desk.Desk(lines=file.read(), people={"head": "1/1"})
+        self.addCleanup(it.end)
+        head = self.reader(it, "head")
+        loan, day = "0001-000001", it.send("head", "GET", "/api/business-day")[1]["day"]
+        paid = {"amount": 3000, "day": day, "receipt": "B-1"}
+        self.assertEqual(it.send("head", "POST", f"/api/loans/{loan}/repayments", paid)[0], 201)
+        lines = f"B-1,{loan},{day},30\nB-2,{loan},{day},30\nB-3,{loan},{day},99999\nB-4,0001-000077,{day},5\n"
+        with tempfile.TemporaryDirectory() as folder:
+            path = os.path.join(folder, "sheet.csv")
+            with open(path, "w", encoding="utf-8") as file:
+                file.write(lines)
+            head.go("round/1")
+            head.all("input[type=file]")[0].send_keys(path)
+            head.open_dialog("Enter 4 repayments")
+            asked = head.text(".modal.show")
+            self.assertIn("2 lines are asked once more", asked)
+            for words in (f"B-2 · {loan} · 30.00", "is entered on this loan already", f"B-3 · {loan} · 99,999.00"):
+                self.assertIn(words, asked)
+            head.cancel()
+            told = it.send("head", "GET", f"/api/loans/{loan}/entries")[1]["entries"]
+            self.assertEqual([one["receipt"] for one in told], ["B-1"])
+            head.open_dialog("Enter 4 repayments")
+            head.send("Enter 4 repayments all the same")
+            head.wait(lambda: "2 entered · 1 repeated · 1 refused" in head.text("main"), "the results")
+
     def test_bad_lines(self):
         """Lines that are no repayments are refused by F1 and not sent."""
         bad = (

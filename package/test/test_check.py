@@ -6,6 +6,7 @@ import contextlib
 import os
 import time
 import unittest
+import urllib.parse
 
 import roots
 from roots import BACKUPS, FILE
@@ -16,7 +17,22 @@ WITHIN = 60  # seconds in which the institution is told of what is urgent
 MOST_ENTERED = 3000  # clients that are entered until a small disk is full
 
 
+SMS_GATEWAY = """
+import http.server
+class Gateway(http.server.BaseHTTPRequestHandler):
+    def do_POST(self):
+        body = self.rfile.read(int(self.headers["Content-Length"])).decode()
+        with open("/root/sms", "a") as file:
+            print(self.path, self.headers["Authorization"], body, file=file)
+        self.send_response(200)
+        self.end_headers()
+http.server.HTTPServer(("127.0.0.1", 2526), Gateway).serve_forever()
+"""
+
+
 class Check(roots.ServedDesk):
+    packages = ("curl", "msmtp-mta", "python3-aiosmtpd")
+
     @classmethod
     def setUpClass(cls):
         super().setUpClass()
@@ -64,6 +80,30 @@ class Check(roots.ServedDesk):
         self.assertEqual(self.told(), "")
         nobody = "setpriv --reuid=nobody --regid=nogroup --clear-groups microloan-check"
         self.assertIn("DESK UNKNOWN - run it as root", self.root.run(nobody, wanted=3))
+
+    def test_the_hooks_of_the_examples_send_mail_and_sms(self):
+        """To a mail server and a gateway of the test: by SMTP and by HTTP, as the documents have them."""
+        alert, examples = "/etc/microloan/hooks/alert", "/usr/share/doc/microloan/examples"
+        self.root.run(f"cp {alert} /root/kept-alert")
+        self.addCleanup(self.root.run, f"cp /root/kept-alert {alert}")
+        self.root.run("printf 'account default\nhost 127.0.0.1\nport 2525\nfrom desk@example.org\n' >/etc/msmtprc")
+        mail = "-m aiosmtpd -n -l 127.0.0.1:2525 -c aiosmtpd.handlers.Mailbox /root/mailbox"
+        self.root.run(f"systemd-run --quiet --unit=mail-server python3 {mail}")
+        self.root.run("cat >/root/gateway.py", given=SMS_GATEWAY)
+        self.root.run("systemd-run --quiet --unit=sms-gateway python3 /root/gateway.py")
+        self.wait_until(lambda: self.root.run("ss -ltn").count(":252") == 2)
+        self.root.run(f"install -m 755 {examples}/alert-mail {alert} && microloan-alert microloan 'Backup née à 5 heures'")
+        mail = self.root.run("cat /root/mailbox/new/*")
+        for line in ("To: it@example.org", "From: desk@example.org", "Backup née à 5 heures"):
+            self.assertIn(line, mail)
+        self.root.run(f"sed s,https://sms.example.org,http://127.0.0.1:2526, {examples}/alert-sms >{alert}; chmod 700 {alert}")
+        self.root.run("microloan-alert microloan 'disk & log'")
+        path, how, key, form = self.root.run("cat /root/sms").split()
+        self.assertEqual((path, how, key), ("/send", "Bearer", "THE-KEY"))
+        text = f"{self.root.run('hostname').strip()}: microloan: disk & log"
+        self.assertEqual(urllib.parse.parse_qs(form), {"to": ["+254700000000"], "text": [text]})
+        self.root.run("systemctl stop sms-gateway")
+        self.assertIn("status 7", self.root.run("microloan-alert microloan lost 2>&1", wanted=1))
 
     def test_a_service_that_is_stopped_or_failed(self):
         self.root.run("systemctl stop microloan")

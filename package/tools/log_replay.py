@@ -1,6 +1,7 @@
-"""Answers the messages of the front's log once more over a copy of an institution, and compares the statuses.
+"""Answers the messages of the front's log once more over a copy of an institution, and compares the replies.
 
-A message is a mapping: `line` the request line, `status` what was answered then, `lost` whether no reply of the
+A message is a mapping: `line` the request line, `status` and `reply` what was answered then (the log of an older front has
+no replies: then statuses alone are compared), `lost` whether no reply of the
 program's is known or that was F20, `given_up` whether it was F20, `moment`, `who`, and `where` it stands. A lost one
 may have been carried out or not. What comes after it tells: the numbers that the program gives, and the receipts that
 it knows, depend on it. F20 says that it wasn't, but the disk may have kept the one commit whose fault has shut the
@@ -44,12 +45,21 @@ def messages_of(lines, log):
             continue
         count += 1
         if day.has_changed(message) or day.is_lost(message):
-            message |= {"file": log, "line": f"{number} after the backup"}
-            told = {"line": day.line_of(message), "status": message["status"], "lost": day.is_lost(message)}
-            told |= {"moment": message["time"], "who": message["user"], "where": day.place_of(message)}
-            told["given_up"] = str(message["upstream"]) == "503"
-            messages.append(told)
-    return messages, count
+            messages.append(message | {"file": log, "line": f"{number} after the backup"})
+    return [told_of(message) for message in day.in_order(messages)], count
+
+
+def told_of(message):
+    return {
+        "line": day.line_of(message),
+        "status": message["status"],
+        "reply": message.get("reply", ""),
+        "lost": day.is_lost(message),
+        "given_up": str(message["upstream"]) == "503",
+        "moment": message["time"],
+        "who": message["user"],
+        "where": day.place_of(message),
+    }
 
 
 def replies_of(program, path, messages):
@@ -78,7 +88,7 @@ def replies_over_a_copy(program, path, messages):
 def agreeing(messages, replies):
     """How many messages there are before the first that is answered otherwise now than then."""
     for number, (message, reply) in enumerate(zip(messages, replies)):
-        if not message["lost"] and reply.split(" ")[0] != str(message["status"]):
+        if not message["lost"] and not day.is_answered_so(message, reply):
             return number
     return len(messages)
 
@@ -97,12 +107,14 @@ def numbers_of(message):
 
 
 def swappable(messages):
-    """Neighbours of different people in one second that take numbers of one count.
+    """Neighbours of different people in one second that take numbers of one count, and whose replies the log hasn't.
 
     The front writes a message once it is answered, and may so write two that were answered at once the other way round.
     """
     pairs = []
     for one, other in zip(messages, messages[1:]):
+        if one["reply"] and other["reply"]:
+            continue
         if one["moment"] == other["moment"] and one["who"] != other["who"] and numbers_of(one) == numbers_of(other):
             pairs.append(f"{one['where']}, and {other['where']}")
     return pairs
@@ -165,7 +177,7 @@ def replay(program, path, messages, count):
     same = agreeing(messages, replies)
     if same < len(messages):
         other = messages[same]
-        stopped = f"answered {other['status']} then and '{replies[same]}' now: {other['where']}"
+        stopped = f"answered '{day.reply_of(other)}' then and '{replies[same]}' now: {other['where']}"
     replies_of(program, path, messages[:same])
     pairs = swappable(messages[:same])
     told += [f"their numbers may be swapped, since both came in one second: {pair}" for pair in pairs]

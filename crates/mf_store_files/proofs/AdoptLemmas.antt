@@ -5,7 +5,7 @@ use Rattle.sqlite.specs.Tree.{Trees}
 use Rattle.sqlite_trees.specs.declared.store.Store.{Ghosts}
 use Rattle.mf_model.specs.Institution.{Institution}
 use Rattle.mf_model.specs.Sound.{IsSound}
-use Rattle.mf_store_schema.specs.Calls.{IsKeeping, OnlyFaultsShut}
+use Rattle.mf_store_schema.specs.Calls.{IsAsBefore, IsKeeping, OnlyFaultsShut}
 use Rattle.mf_store_schema.specs.Rows.{Lists}
 use Rattle.mf_store_schema.specs.Versions.{IsOfVersion, schema_at}
 use Rattle.mf_store_schema.specs.Writes.{Holds, HoldsAt}
@@ -13,8 +13,11 @@ use Rattle.mf_store_values.specs.Flat.{tables_of}
 use Rattle.mf_store_schema.specs.Schemas.{IsUnchangedUnder}
 use Rattle.mf_store_schema.specs.Whole.{HaveRowids}
 use Rattle.mf_store_schema.specs.declared.versions.Version.{Version}
+use Rattle.mf_store_schema.specs.declared.versions.Version.TheVariants.{Second}
 use Rattle.mf_store_sound.specs.Schemas.{tables_at}
+use Rattle.mf_store_sound.proofs.NestedLemmas.{unchanged_present}
 use Rattle.mf_store_sql.specs.Writes.{Serves}
+use Rattle.sqlite.specs.State.{State}
 use Rattle.mf_store_schema.specs.Upgraded.{IsKeepingAt}
 use Rattle.mf_store.specs.Facts.{KnownStore}
 use Rattle.mf_store_commits.specs.Tabled.{HasGoodDisk, IsTabled}
@@ -84,3 +87,8 @@ module _ {S : Type 0} (g : Ghosts S) (v : Version) (old mid : Held S) (u : IsUnc
               ];
           refused = λ clean rowids none_held trees may. absurd (none_held (sound (premise clean) its rowids));
         }
+
+-- what nothing changes under today's version is as before
+pub as_before : (v : Version) → v ≡ Second → (a b : State) → IsUnchangedUnder (IsOfVersion v) a b → IsAsBefore a b
+as_before v today a b =
+    unchanged_present (IsOfVersion v) a b (λ k present. subst (λ w. IsOfVersion w k) (sym today) present)

@@ -1,5 +1,5 @@
 -- A store over tables that are those of one version alone, or none.
-use Rattle.std.proofs.Common.{◌≡◌, ◌⊎◌, inl, inr, [], ◌∷◌, Result, Ok, Err, IfOk, IfErr, false, IsTrue, sym, ◌∙◌, subst}
+use Rattle.std.proofs.Common.{◌≡◌, ◌⊎◌, inr, [], ◌∷◌, Result, Ok, Err, IfOk, IfErr, false, IsTrue, sym, ◌∙◌, subst}
 use Rattle.mf_base.specs.declared.fault.Fault.{Fault}
 use Rattle.mf_base.specs.declared.fault.Fault.TheVariants.{F19, F20}
 use Rattle.sqlite.specs.Held.{Held, state}
@@ -31,8 +31,8 @@ module _ {S : Type 0} (g : Ghosts S) (h : Held S) where
     same_version w other = one_version v w (sym ours ∙ other)
 
     -- what is so under the version that there is
-    at : {P : Version → Type 0} → P v → (w : Version) → IsOfVersion w (state g h).now.schema → P w
-    at {P = P} is w other = subst P (same_version w other) is
+    at : (P : Version → Type 0) → P v → (w : Version) → IsOfVersion w (state g h).now.schema → P w
+    at P is w other = subst P (same_version w other) is
 
     tabled : IsTrue (state g h).is_open → (w : Version) (i : Institution) → IsTabledAt g w h i → IsTabledAt g v h i
     tabled live w i was =
@@ -51,7 +51,7 @@ module _ {S : Type 0} (g : Ghosts S) (h : Held S) where
       premise = premise;
       was_open = was_open;
       is_open = is_open;
-      sound = λ clean. at {P = λ w. HaveRowids w (state g h).now.trees → HoldsSoundAt w (state g h).now.trees}
+      sound = λ clean. at (λ w. HaveRowids w (state g h).now.trees → HoldsSoundAt w (state g h).now.trees)
           (sound clean ours);
       stands = λ clean w i was. stands clean i (tabled (was_open clean) w i was);
       leaves = λ clean w i was. leaves clean i (tabled (was_open clean) w i was);
@@ -73,8 +73,8 @@ module _ {S : Type 0} (g : Ghosts S) (h : Held S) where
       alone = alone;
       errors = errors;
       unchanged = λ today. unchanged (same_version Second today);
-      left = at {P = λ w. IsLeftAt g w h e.1} (left ours);
-      refused = λ told clean. at {P = λ w. ¬ HoldsSoundAt w (state g h).now.trees} (refused told clean ours);
+      left = at (λ w. IsLeftAt g w h e.1) (left ours);
+      refused = λ told clean. at (λ w. ¬ HoldsSoundAt w (state g h).now.trees) (refused told clean ours);
       foreign = λ some others. absurd (others (v, ours));
     }
 

@@ -1,12 +1,12 @@
 // Collection sheets: the repayments of a round or of a file are sent line by line, and what came of each is told.
 import {alertBox, button, card, element, fill, freshId} from "../shared/elements.js";
 import {Problem, repay} from "../shared/api.js";
-import {isAccount, isFormula, isReceipt} from "../shared/desk.js";
+import {entries as readEntries, isAccount, isFormula, isReceipt, loan as readLoan} from "../shared/desk.js";
 import {institution} from "../shared/institution.js";
 import {centsOfText, LEAST, MOST, sum, textOfCents} from "../shared/money.js";
 import {daysBetween, isDay} from "../shared/days.js";
 import {session} from "../shared/session.js";
-import {OLD_DAYS} from "../shared/repayments.js";
+import {doubtsOf, doubtWords, knownOf, OLD_DAYS} from "../shared/repayments.js";
 import {ask} from "../shared/dialogs.js";
 import {reasonField} from "../shared/forms.js";
 import {inWords} from "../shared/refusals.js";
@@ -17,20 +17,45 @@ const NAMES = ["receipt", "loan", "date", "amount"];
 const MOST_BYTES = 1_048_576;
 const FORMULA = "formula";  // what comes of a line whose receipt a spreadsheet would take for a formula
 
-// The reason for lines that lie far back: "" where none does, or null where the reader thought better of it.
-export async function askForReason(lines) {
+// Asks once more what speaks against lines, and why where some lie far back. Answers the reason, "" where none is
+// needed, or null where the reader thought better of it.
+export async function askBefore(lines) {
+    const doubts = (await Promise.all(lines.map(doubtOf))).filter(Boolean);
     const oldest = lines.map((line) => line.day).sort()[0] ?? session.day;
-    if (daysBetween(oldest, session.day) <= OLD_DAYS) {
+    const isOld = daysBetween(oldest, session.day) > OLD_DAYS;
+    if (doubts.length === 0 && !isOld) {
         return "";
     }
+    const asked = doubts.length === 0 ?
+        {title: say("round.old"), text: say("round.old.what", {day: showDay(oldest)})} :
+        {title: say("round.doubts"), text: [sayCount("round.doubts.what", doubts.length), doubts], isGrave: true};
     const values = await ask({
-        title: say("round.old"),
-        text: say("round.old.what", {day: showDay(oldest)}),
-        fields: {reason: reasonField()},
-        action: sayCount("round.enter", lines.length),
+        ...asked,
+        fields: isOld ? {reason: reasonField()} : {},
+        action: sayCount(doubts.length === 0 ? "round.enter" : "round.enter-sure", lines.length),
         send: async (given) => given
     });
-    return values === null ? null : values.reason;
+    return values === null ? null : values.reason ?? "";
+}
+
+// What speaks against a line, in words. Where its loan isn't there to be seen, sending it says so.
+async function doubtOf({loan, name, cents, day, receipt, known}) {
+    try {
+        const doubt = await doubtsOf({loan, amount: cents, day, receipt}, known ?? await readKnown(loan));
+        const heading = [name ?? receipt, loan, showMoney(cents)].join(" · ");
+        return doubt &&
+            element("div", {class: "inner-card mb-2"}, element("h3", {class: "h6"}, heading), doubtWords(doubt));
+    } catch (problem) {
+        if (problem instanceof Problem && problem.fault === "F4") {
+            return null;
+        }
+        throw problem;
+    }
+}
+
+async function readKnown(loan) {
+    const [told, entries] = await Promise.all([readLoan(loan), readEntries(loan)]);
+    return knownOf(told, entries);
 }
 
 // Sends lines in their order. Ends early where no reply comes, and answers that problem: the lines after it were not
@@ -212,12 +237,18 @@ function showSheet(place, lines, name) {
     const enter = button(sayCount("round.enter", good.length), async () => {
         enter.disabled = true;
         fill(trouble);
-        const reason = await askForReason(good);
-        const problem = reason === null ? null : await sendLines(good, reason, (line) => rows.get(line).show());
+        try {
+            const reason = await askBefore(good);
+            if (reason === null) {
+                return;
+            }
+            const problem = await sendLines(good, reason, (line) => rows.get(line).show());
+            fill(trouble, problem && alertBox("warning", say("round.stopped")));
+        } finally {
+            enter.disabled = false;
+        }
         summary.textContent = tally(lines.map(({result}) => result));
-        fill(trouble, problem && alertBox("warning", say("round.stopped")));
         enter.textContent = say("round.send-again", {count: showCount(good.length)});
-        enter.disabled = false;
         save.hidden = false;
     }, {class: "btn btn-primary", disabled: good.length === 0});
     const columns = [

@@ -2,19 +2,19 @@
 import {alertBox, button, card, element, emptyState, fill, freshId, spinner} from "../shared/elements.js";
 import {renewDay, session} from "../shared/session.js";
 import {asTree, entries as readEntries, loan as readLoan, offices} from "../shared/desk.js";
-import {daysBetween, isDay} from "../shared/days.js";
+import {isDay} from "../shared/days.js";
 import {sum} from "../shared/money.js";
 import {draftsOf, endDraft, keepDraft, NO_DRAFT, throwAway, whenDraftsChange} from "../shared/drafts.js";
-import {doubtsOf, doubtWords, knownOf, OLD_DAYS} from "../shared/repayments.js";
+import {knownOf} from "../shared/repayments.js";
 import {say, sayCount, showDay, showMoney} from "../shared/words.js";
 import {officeChoice, pageHead} from "../shared/tables.js";
-import {choiceField, dayField, reasonField, textField} from "../shared/forms.js";
+import {choiceField, dayField, textField} from "../shared/forms.js";
 import {ask} from "../shared/dialogs.js";
 import {refusalBox} from "../shared/refusals.js";
 import {lineTable, sumsByCollector} from "./round-lines.js";
 import {readOthers, readRound} from "./round-reading.js";
 import {nextReceipt, paymentsOf} from "./round-receipts.js";
-import {askForReason, saveSheet, sendLines, sheetCard, tally} from "./round-sheet.js";
+import {askBefore, saveSheet, sendLines, sheetCard, tally} from "./round-sheet.js";
 
 export async function round(page, officeText, dayText) {
     const [list] = await Promise.all([offices(), renewDay()]);
@@ -190,7 +190,7 @@ async function enterLines(made, lines) {
     lock(made, lines, true);
     let problem = null;
     try {
-        const reason = await askBefore(made, lines);
+        const reason = await askBefore(lines);
         problem = reason === null ? null : await sendLines(lines, reason, (line) => tell(made, line));
     } finally {
         lock(made, lines, false);
@@ -206,31 +206,6 @@ function lock(made, lines, isSending) {
         made.table.show(line);
     }
     showState(made);
-}
-
-// Answers the reason, "" where none is needed, or null where the reader thought better of it.
-async function askBefore(made, lines) {
-    const found = await Promise.all(lines.map(async (line) => {
-        const asked = {loan: line.loan, amount: line.cents, day: line.day, receipt: line.receipt};
-        const doubt = await doubtsOf(asked, line.known);
-        const heading = `${line.name} · ${line.loan} · ${showMoney(line.cents)}`;
-        return doubt &&
-            element("div", {class: "inner-card mb-2"}, element("h3", {class: "h6"}, heading), doubtWords(doubt));
-    }));
-    const doubts = found.filter(Boolean);
-    if (doubts.length === 0) {
-        return askForReason(lines);
-    }
-    const isOld = daysBetween(made.day, session.day) > OLD_DAYS;
-    const sure = await ask({
-        title: say("round.doubts"),
-        text: [sayCount("round.doubts.what", doubts.length), doubts],
-        fields: isOld ? {reason: reasonField()} : {},
-        action: sayCount("round.enter-sure", lines.length),
-        isGrave: true,
-        send: async (values) => values
-    });
-    return sure === null ? null : sure.reason ?? "";
 }
 
 function tell(made, line) {

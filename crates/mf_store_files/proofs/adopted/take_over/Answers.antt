@@ -1,4 +1,7 @@
-use Rattle.mf_store_files.proofs.AdoptLemmas.{stands_at, leaves_at, left_at}
+use Rattle.std.proofs.Common.{sym, subst}
+use Rattle.sqlite.specs.Held.{state}
+use Rattle.mf_store_schema.specs.Calls.{IsAsBefore}
+use Rattle.mf_store_files.proofs.AdoptLemmas.{stands_at, leaves_at, left_at, as_before}
 use Rattle.mf_store_schema.proofs.ReadLemmas.{at_some}
 use Rattle.mf_store_files.proofs.adopted.take_over.Goals as goal
 
@@ -30,3 +33,10 @@ returns-in-Err-bring_up-clause-left g c =
     c.bring_up.new.connection made.ensures.premise made.ensures.shuts made.ensures.was_open made.ensures.same
     made.ensures.stop
     (λ clean ours rowids. at_some read.field-0 _ read.tables read.field-0-is (read.ensures.sound clean ours rowids))
+
+pub returns-in-Err-bring_up-clause-unchanged : goal.returns-in-Err-bring_up-clause-unchanged
+returns-in-Err-bring_up-clause-unchanged g c today =
+    let was = c.args.connection in
+    let read = c.read_sound.new.connection in
+    subst (λ h. IsAsBefore (state g.S.Store was) (state g.S.Store h)) (sym (c.in-Err-bring_up.ensures.today today))
+    (as_before c.args.version today (state g.S.Store was) (state g.S.Store read) c.in-Ok-Some.ensures.kept)

@@ -4,7 +4,6 @@ use Rattle.std.proofs.lemmas.Result.{on_ok_weaker}
 use Rattle.sqlite.specs.Held.{state}
 use Rattle.mf_store_schema.specs.Rows.{Lists}
 use Rattle.mf_store_schema.specs.Writes.{Holds}
-use Rattle.mf_store_schema.specs.Calls.{IsKeeping}
 use Rattle.mf_store_schema.specs.Upgraded.{IsUpgradedTo}
 use Rattle.mf_store_schema.specs.declared.versions.Version.TheVariants.{First}
 use Rattle.mf_store_sound.specs.Schemas.{tables_at}
