@@ -1,8 +1,8 @@
 -- Which requests are repayments, and which give money up.
 use Rattle.std.specs.Prelude.{Bool, true, false}
 use Rattle.mf_model.specs.declared.request.LoanRequest.{LoanRequest}
-use Rattle.mf_model.specs.declared.request.LoanRequest.TheVariants.{Repay, Post, Reverse}
-use Rattle.mf_model.specs.declared.request.Posting.TheVariants.{Waiver, WriteOff, Refund}
+use Rattle.mf_model.specs.declared.request.LoanRequest.TheVariants.{Repay, Post, Reverse, ChargeFee, Take, Show, ShowInstalments, ShowEntries}
+use Rattle.mf_model.specs.declared.request.Posting.TheVariants.{Waiver, WriteOff, Refund, Penalty}
 use Rattle.mf_model.specs.declared.request.Request.{Request}
 use Rattle.mf_model.specs.declared.request.Request.TheVariants as request
 
@@ -16,13 +16,20 @@ abbrev pub is_repayment : Request → Bool
 is_repayment (request.Loan loan asked) = is_repayment_on_loan asked
 is_repayment _ = false
 
--- a request on a loan that gives money up, hands it back or takes an entry back
+-- A request on a loan that gives money up, hands it back or takes an entry back. Each kind is named, so that a new one is
+-- asked for.
 abbrev pub is_concession_on_loan : LoanRequest → Bool
 is_concession_on_loan (Post (Waiver instalment portion)) = true
 is_concession_on_loan (Post WriteOff) = true
 is_concession_on_loan (Post Refund) = true
 is_concession_on_loan (Reverse entry) = true
-is_concession_on_loan _ = false
+is_concession_on_loan (Post (Penalty instalment)) = false
+is_concession_on_loan (Repay repayment) = false
+is_concession_on_loan (ChargeFee charge due) = false
+is_concession_on_loan (Take step) = false
+is_concession_on_loan Show = false
+is_concession_on_loan ShowInstalments = false
+is_concession_on_loan ShowEntries = false
 
 -- a request that does so
 abbrev pub is_concession : Request → Bool
