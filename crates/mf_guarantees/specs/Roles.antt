@@ -1,7 +1,8 @@
 -- Which requests are repayments, and which give money up.
 use Rattle.std.specs.Prelude.{Bool, true, false}
 use Rattle.mf_model.specs.declared.request.LoanRequest.{LoanRequest}
-use Rattle.mf_model.specs.declared.request.LoanRequest.TheVariants.{Repay, Post, Reverse, ChargeFee, Take, Show, ShowInstalments, ShowEntries}
+use Rattle.mf_model.specs.declared.request.LoanRequest.TheVariants.{Repay, Post, Reverse, ChargeFee, Take, Show}
+use Rattle.mf_model.specs.declared.request.LoanRequest.TheVariants.{ShowInstalments, ShowEntries}
 use Rattle.mf_model.specs.declared.request.Posting.TheVariants.{Waiver, WriteOff, Refund, Penalty}
 use Rattle.mf_model.specs.declared.request.Request.{Request}
 use Rattle.mf_model.specs.declared.request.Request.TheVariants as request
@@ -16,8 +17,8 @@ abbrev pub is_repayment : Request → Bool
 is_repayment (request.Loan loan asked) = is_repayment_on_loan asked
 is_repayment _ = false
 
--- A request on a loan that gives money up, hands it back or takes an entry back. Each kind is named, so that a new one is
--- asked for.
+-- A request on a loan that gives money up, hands it back or takes an entry back. Each kind is named, so that a new one
+-- is asked for.
 abbrev pub is_concession_on_loan : LoanRequest → Bool
 is_concession_on_loan (Post (Waiver instalment portion)) = true
 is_concession_on_loan (Post WriteOff) = true

@@ -56,8 +56,8 @@ impl Head {
         })
     }
 
-    /// Where the journal stands once a line is added to it. None where its day is earlier than that of the last line, or
-    /// 2^64 - 1 lines stand there.
+    /// Where the journal stands once a line is added to it. None where its day is earlier than that of the last line,
+    /// or 2^64 - 1 lines stand there.
     pub fn add(self, row: JournalRow<'_>) -> Option<Head>
         ensures added { IfSome result (λ head. Follows self (row_at head row.entry) × (head.day ≡ row.entry.day)) }
         ensures none { IsNone result → (suc self.number ≡ 2 ^ 64) ⊎ (row.entry.day < self.day) }
