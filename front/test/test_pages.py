@@ -273,6 +273,17 @@ class Languages(unittest.TestCase):
                 self.assertEqual(it.errors(), [])
                 it.close()
 
+    def test_long_days(self):
+        """Words in English, days as a reader of Portuguese writes them: no page is wider than a phone."""
+        it = reader.Reader(DESK, "amina", language="pt-BR")
+        it.widen(360)
+        for place in PLACES:
+            it.go(place)
+            self.assertLessEqual(it.script("return document.documentElement.scrollWidth"), 360, place)
+        it.go("loan/0021-000028")
+        self.assertIn(" de jul. de 2026", it.text("main"))
+        it.close()
+
     def test_switch(self):
         it = reader.Reader(DESK, "tom", language="de")
         it.go("arrears/21")
@@ -340,7 +351,8 @@ class Sources(unittest.TestCase):
 
     def test_words_are_there(self):
         """Each key that the pages name has words, and no key stands unused."""
-        sources = "".join(text for name, text in self.files(".js") if name not in ("en.js", "fr.js", "es.js", "sw.js"))
+        words = set(os.listdir(os.path.join(running.FRONT, "pages", "words")))
+        sources = "".join(text for name, text in self.files(".js") if name not in words)
         keys = set(re.findall(r'^ {4}"([^"]+)":', dict(self.files("en.js"))["en.js"], re.MULTILINE))
         plain = set(re.findall(r'\bsay\("([^"]+)"', sources))
         counted = set(re.findall(r'\bsayCount\("([^"]+)"', sources))
