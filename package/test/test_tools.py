@@ -418,7 +418,8 @@ class Backups(unittest.TestCase):
         self.it.kill_serve()
         with contextlib.closing(sqlite3.connect(self.it.file)) as database:
             tables = database.execute("select sql || ';' from sqlite_schema where sql is not null order by rowid")
-            rows = "\n".join([*(text for (text,) in tables), *filter(is_insert, database.iterdump())])
+            made = [*(text for (text,) in tables), *filter(is_insert, database.iterdump())]
+            rows = "\n".join(["begin;", *made, "commit;"])  # in one sync
         for name in os.listdir(os.path.dirname(self.it.file)):
             if name.startswith("desk.db"):
                 os.unlink(os.path.join(os.path.dirname(self.it.file), name))
