@@ -5,6 +5,7 @@
 import contextlib
 import grp
 import os
+import random
 import shutil
 import signal
 import socket
@@ -50,9 +51,12 @@ def program():
 
 
 def free_port():
-    with socket.socket() as listener:
-        listener.bind(("127.0.0.1", 0))
-        return listener.getsockname()[1]
+    """A port below those that the kernel gives to connections: none of these takes it before it is listened on."""
+    while True:
+        port = random.randrange(10000, 32768)
+        with socket.socket() as listener, contextlib.suppress(OSError):
+            listener.bind(("127.0.0.1", port))
+            return port
 
 
 def is_open(port):
