@@ -44,7 +44,7 @@ evals_alike : (ts : List Term) (params a b : Row) → AreSameValues a b → eval
     ∷ [])
 evals_alike ts params a b h = λ i. map (λ t. eval_alike t params a b h i) ts
 
-hold_alike : (ts : List Term) (params a b : Row) → AreSameValues a b → list_all (holds (params ∷ a ∷ [])) ts
+pub hold_alike : (ts : List Term) (params a b : Row) → AreSameValues a b → list_all (holds (params ∷ a ∷ [])) ts
     ≡ list_all (holds (params ∷ b ∷ [])) ts
 hold_alike ts params a b h = λ i. list_all (λ t. is_true (eval_alike t params a b h i)) ts
 
@@ -69,7 +69,7 @@ map_alike : {Y : Type 0} (f : Row → Y) → ((a b : Row) → AreSameValues a b 
 map_alike f same = alike_by (λ tree full. map f tree ≡ map f full) refl (λ r s tree full h all more.
     ap₂ ◌∷◌ (same r s h) more)
 
-filter_alike_rows : (p : Row → Bool) → ((a b : Row) → AreSameValues a b → p a ≡ p b) → (tree full : List Row)
+pub filter_alike_rows : (p : Row → Bool) → ((a b : Row) → AreSameValues a b → p a ≡ p b) → (tree full : List Row)
     → AreAlike tree full → AreAlike (filter p tree) (filter p full)
 filter_alike_rows p same = alike_by (λ tree full. AreAlike (filter p tree) (filter p full)) tt (λ r s tree full h all
     more. rw (← same r s h) (elim (p r) as (λ b. AreAlike (cond b (r ∷ filter p tree) (filter p tree))

@@ -2,7 +2,7 @@
 use Rattle.std.proofs.Common.{◌≡◌, ℕ, ℤ, zero, suc, ◌+◌, ◌≤◌, Bool, true, false, List, [], ◌∷◌, ◌++◌, map, length, refl}
 use Rattle.std.proofs.Common.{sym, ap, ap₂, ◌∙◌, arith, true≢false, cond, pos, None, Some, ◌⊎◌, inl, inr}
 use Rattle.sqlite.specs.declared.types.Value.{Value}
-use Rattle.sqlite.specs.declared.types.Value.TheVariants.{Int, Text as Words}
+use Rattle.sqlite.specs.declared.types.Value.TheVariants.{Int, Text as Words, Blob}
 use Rattle.sqlite.specs.Order.{Row, column}
 use Rattle.sqlite.specs.Term.{eval_all}
 use Rattle.sqlite_sql.specs.Ops.{is_null}
@@ -10,8 +10,8 @@ use Rattle.sqlite.specs.Kind.TheVariants as kind
 use Rattle.mf_store_sql.proofs.CompareLemmas.{cast_int, cast_null}
 use Rattle.sqlite.specs.Cast.{cast}
 use Rattle.sqlite_rules.specs.Cast.{cast_all}
-use Rattle.mf_store_sql.specs.Columns.{Field, Number, Amount, Text, MaybeNumber, MaybeText, Named, sql_column, sql_kind}
-use Rattle.mf_store_sql.specs.Columns.{is_always}
+use Rattle.mf_store_sql.specs.Columns.{Field, Number, Amount, Text, Bytes, MaybeNumber, MaybeText, Named}
+use Rattle.mf_store_sql.specs.Columns.{sql_column, sql_kind, is_always}
 use Rattle.mf_store_sql.specs.Rows.{IsKeepable, AreKeepable, IsPlainValue, ArePlain}
 use Rattle.mf_store_sql.specs.Meanings.{columns_of, are_always}
 
@@ -20,7 +20,7 @@ abbrev pub columns_at : ℕ → ℕ → Row → Row
 columns_at at zero row = []
 columns_at at (suc n) row = column row at ∷ columns_at (suc at) n row
 
-columns_later : (at n : ℕ) (v : Value) (row : Row) → columns_at (suc at) n (v ∷ row) ≡ columns_at at n row
+pub columns_later : (at n : ℕ) (v : Value) (row : Row) → columns_at (suc at) n (v ∷ row) ≡ columns_at at n row
 columns_later at zero v row = refl
 columns_later at (suc n) v row = ap (λ vs. column row at ∷ vs) (columns_later (suc at) n v row)
 
@@ -63,6 +63,7 @@ kept : (f : Field) (v : Value) → IsKeepable f v → cast (sql_kind f) v ≡ v
 kept Number v (n, is) = ap (cast kind.Integer) is ∙ cast_int _ ∙ sym is
 kept Amount v (n, is) = ap (cast kind.Integer) is ∙ cast_int n ∙ sym is
 kept Text v (t, is) = ap (cast kind.Text) is ∙ sym is
+kept Bytes v fit = refl
 kept MaybeNumber v (None, is) = ap (cast kind.Integer) is ∙ cast_null ∙ sym is
 kept MaybeNumber v (Some n, is) = ap (cast kind.Integer) is ∙ cast_int _ ∙ sym is
 kept MaybeText v (None, is) = ap (cast kind.Text) is ∙ sym is
@@ -94,13 +95,22 @@ are_plain (suc n) (c ∷ cs) [] h fit = absurd fit
 are_plain (suc n) (c ∷ cs) (v ∷ vs) h fit = let both = both_on (is_always c.field) _ h in
     ((c.field, both.0, fit.0), plain_later 0 n v vs (are_plain n cs vs both.1 fit.1))
 
--- a value that is always there is an integer or a text
-pub int_or_text : (v : Value) → IsPlainValue v → ((n : ℤ) × (v ≡ Int n)) ⊎ ((t : List ℕ) × (v ≡ Words t))
-int_or_text v (Number, a, fit) = inl (pos fit.0, fit.1)
-int_or_text v (Amount, a, fit) = inl fit
-int_or_text v (Text, a, fit) = inr fit
-int_or_text v (MaybeNumber, a, fit) = absurd (true≢false (sym a))
-int_or_text v (MaybeText, a, fit) = absurd (true≢false (sym a))
+-- what a value that is always there is: an integer, a text or bytes
+abbrev pub IsThere : Value → Type 0
+IsThere v = ((n : ℤ) × (v ≡ Int n)) ⊎ (((t : List ℕ) × (v ≡ Words t)) ⊎ ((b : List ℕ) × (v ≡ Blob b)))
+
+pub is_there : (v : Value) → IsPlainValue v → IsThere v
+is_there v (Number, a, fit) = inl (pos fit.0, fit.1)
+is_there v (Amount, a, fit) = inl fit
+is_there v (Text, a, fit) = inr (inl fit)
+is_there v (Bytes, a, fit) = inr (inr fit)
+is_there v (MaybeNumber, a, fit) = absurd (true≢false (sym a))
+is_there v (MaybeText, a, fit) = absurd (true≢false (sym a))
 
 pub not_null : (v : Value) → IsPlainValue v → is_null v ≡ false
-not_null v h = elim (int_or_text v h) [ inl number ↦ ap is_null number.1 | inr text ↦ ap is_null text.1 ]
+not_null v h = go (is_there v h)
+  where
+    go : IsThere v → is_null v ≡ false
+    go (inl number) = ap is_null number.1
+    go (inr (inl text)) = ap is_null text.1
+    go (inr (inr bytes)) = ap is_null bytes.1

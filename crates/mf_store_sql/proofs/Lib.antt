@@ -16,3 +16,8 @@ pub mod UpdateLemmas
 pub mod TableLemmas
 pub mod SpareLemmas
 pub mod OpenLemmas
+pub mod NumberedLemmas
+pub mod AppendLemmas
+pub mod NumberedShownLemmas
+pub mod MadeNumberedLemmas
+pub mod WorkedJournalLemmas

@@ -1,20 +1,21 @@
 -- What an update of a row under the same key makes of it.
-use Rattle.std.proofs.Common.{◌≡◌, ℕ, ℤ, zero, suc, ◌+◌, ◌-◌, ◌≤◌, true, false, List, [], ◌∷◌, ◌++◌, map, length, ◌⊎◌}
-use Rattle.std.proofs.Common.{inl, inr, refl, sym, ap, ap₂, ◌∙◌, arith, is_eq, true≢false}
+use Rattle.std.proofs.Common.{◌≡◌, ℕ, ℤ, zero, suc, ◌+◌, ◌-◌, ◌≤◌, true, false, List, [], ◌∷◌, ◌++◌, map, length}
+use Rattle.std.proofs.Common.{inl, inr, refl, sym, ap, ap₂, ◌∙◌, arith, is_eq, true≢false, Equal}
 use Rattle.std.specs.List.{range_with_len}
 use Rattle.std.proofs.lemmas.List.{map-append, length-map, append_assoc, length-append}
 use Rattle.std.proofs.lemmas.Map.Lookups.{exact_signed, exact_bytes}
 use Rattle.sqlite.specs.declared.types.Value.{Value}
-use Rattle.sqlite.specs.declared.types.Value.TheVariants.{Int, Text as Words}
+use Rattle.sqlite.specs.declared.types.Value.TheVariants.{Int, Text as Words, Blob}
 use Rattle.sqlite.specs.Order.{Row, column, value_cmp}
 use Rattle.sqlite.specs.Rows.{shown}
 use Rattle.sqlite.specs.Term.{Term, col, eval, eval_all}
-use Rattle.sqlite_value.proofs.OrderLemmas.{value_cmp-Int, value_cmp-Text}
+use Rattle.sqlite_value.proofs.OrderLemmas.{value_cmp-Int, value_cmp-Text, value_cmp-Blob}
 use Rattle.mf_store_sql.proofs.CompareLemmas.{both_equal, equal_is, tied_back}
 use Rattle.mf_store_sql.specs.Columns.{Columns, sql_column, sql_table}
 use Rattle.mf_store_sql.specs.Rows.{columns_cmp, ArePlain, IsPlainValue}
 use Rattle.mf_store_sql.specs.Meanings.{columns_of, are_always}
-use Rattle.mf_store_sql.proofs.ColumnLemmas.{columns_at, all_columns, reads_row, int_or_text, columns_split}
+use Rattle.mf_store_sql.proofs.ColumnLemmas.{columns_at, all_columns, reads_row, IsThere, is_there}
+use Rattle.mf_store_sql.proofs.ColumnLemmas.{columns_split}
 
 -- ---- the columns that `excluded` names
 
@@ -51,23 +52,42 @@ reads_behind pre row env at (suc n) = ap₂ (λ w vs. w ∷ vs) (behind pre row 
 
 -- ---- the same key
 
--- an integer comes before a text
-apart : (n : ℤ) (t : List ℕ) → is_eq (value_cmp (Int n) (Words t)) ≡ false
+-- an integer comes before a text, and both before bytes
+int_text : (n : ℤ) (t : List ℕ) → is_eq (value_cmp (Int n) (Words t)) ≡ false
 unfolding value_cmp
-apart n t = refl
+int_text n t = refl
+
+int_bytes : (n : ℤ) (b : List ℕ) → is_eq (value_cmp (Int n) (Blob b)) ≡ false
+unfolding value_cmp
+int_bytes n b = refl
+
+text_bytes : (t b : List ℕ) → is_eq (value_cmp (Words t) (Blob b)) ≡ false
+unfolding value_cmp
+text_bytes t b = refl
 
 value_same : (v w : Value) → IsPlainValue v → IsPlainValue w → is_eq (value_cmp v w) ≡ true → w ≡ v
-value_same v w p q h = go (int_or_text v p) (int_or_text w q)
+value_same v w p q h = go (is_there v p) (is_there w q)
   where
-    go : ((n : ℤ) × (v ≡ Int n)) ⊎ ((t : List ℕ) × (v ≡ Words t)) → ((n : ℤ) × (w ≡ Int n)) ⊎ ((t : List ℕ)
-        × (w ≡ Words t)) → w ≡ v
-    go (inl (m, a)) (inl (n, b)) = b ∙ sym (ap (λ k. Int k) (exact_signed m n (sym (value_cmp-Int m n)
-        ∙ sym (ap₂ value_cmp a b) ∙ equal_is _ h))) ∙ sym a
-    go (inl (m, a)) (inr (t, b)) = absurd (true≢false (sym h ∙ ap is_eq (ap₂ value_cmp a b) ∙ apart m t))
-    go (inr (t, a)) (inl (n, b)) = absurd (true≢false (sym h ∙ ap is_eq (ap₂ value_cmp a b) ∙ tied_back (Words t)
-        (Int n) ∙ apart n t))
-    go (inr (s, a)) (inr (t, b)) = b ∙ sym (ap (λ k. Words k) (exact_bytes s t (sym (value_cmp-Text s t)
-        ∙ sym (ap₂ value_cmp a b) ∙ equal_is _ h))) ∙ sym a
+    equal : (a b : Value) → v ≡ a → w ≡ b → value_cmp a b ≡ Equal
+    equal a b f g = sym (ap₂ value_cmp f g) ∙ equal_is _ h
+
+    apart : (a b : Value) → v ≡ a → w ≡ b → is_eq (value_cmp a b) ≡ false → w ≡ v
+    apart a b f g other = absurd (true≢false (sym h ∙ ap is_eq (ap₂ value_cmp f g) ∙ other))
+
+    go : IsThere v → IsThere w → w ≡ v
+    go (inl (m, f)) (inl (n, g)) = g ∙ sym (ap (λ k. Int k) (exact_signed m n (sym (value_cmp-Int m n)
+        ∙ equal (Int m) (Int n) f g))) ∙ sym f
+    go (inl (m, f)) (inr (inl (t, g))) = apart (Int m) (Words t) f g (int_text m t)
+    go (inl (m, f)) (inr (inr (b, g))) = apart (Int m) (Blob b) f g (int_bytes m b)
+    go (inr (inl (t, f))) (inl (n, g)) = apart (Words t) (Int n) f g (tied_back (Words t) (Int n) ∙ int_text n t)
+    go (inr (inl (s, f))) (inr (inl (t, g))) = g ∙ sym (ap (λ k. Words k) (exact_bytes s t (sym (value_cmp-Text s t)
+        ∙ equal (Words s) (Words t) f g))) ∙ sym f
+    go (inr (inl (t, f))) (inr (inr (b, g))) = apart (Words t) (Blob b) f g (text_bytes t b)
+    go (inr (inr (b, f))) (inl (n, g)) = apart (Blob b) (Int n) f g (tied_back (Blob b) (Int n) ∙ int_bytes n b)
+    go (inr (inr (b, f))) (inr (inl (t, g))) = apart (Blob b) (Words t) f g (tied_back (Blob b) (Words t)
+        ∙ text_bytes t b)
+    go (inr (inr (a, f))) (inr (inr (b, g))) = g ∙ sym (ap (λ k. Blob k) (exact_bytes a b (sym (value_cmp-Blob a b)
+        ∙ equal (Blob a) (Blob b) f g))) ∙ sym f
 
 -- rows whose first columns are equal have the same values there
 pub same_columns : (at n : ℕ) (x y : Row) → ArePlain at n x → ArePlain at n y → is_eq (columns_cmp at n x y) ≡ true

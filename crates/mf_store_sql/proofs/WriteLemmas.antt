@@ -1,6 +1,6 @@
 -- What a statement that writes rows of one table does to them.
 use Rattle.std.proofs.Common.{◌≡◌, ◌⊎◌, inl, inr, ℕ, false, List, slice_get, None, Some, Ok, Err, Result, Option, ℤ}
-use Rattle.std.proofs.Common.{cond, is_lt, int_cmp, MatchBool, sym, ap, subst}
+use Rattle.std.proofs.Common.{cond, is_lt, int_cmp, MatchBool, sym, ap, subst, length, unwrap_or, ◌∙◌}
 use Rattle.sqlite.specs.Order.{Row}
 use Rattle.sqlite.specs.Tree.{Trees}
 use Rattle.sqlite.specs.Table.{Table}
@@ -71,7 +71,7 @@ module _ (schema : Schema) (at : ℕ) (table : Table) (there : slice_get schema.
         trees = new.now.trees;
         rows = rows;
         last = last;
-      })) × (new.now.schema ≡ schema) × IsSound schema new.now.trees
+      })) × (new.now.schema ≡ schema) × IsSound schema new.now.trees × (count ≡ length rows)
   opened command is h as_write on =
       let w = as_write (runs_as sql params old new schema has command is plain count h) in
       let changed = subst (λ s. Does old.step_limit (mode_of old) params (record old.now { schema = s })
@@ -81,8 +81,8 @@ module _ (schema : Schema) (at : ℕ) (table : Table) (there : slice_get schema.
       (Ok (w.tally, new.now))) there (on _ changed) in
       let done = went ran in
       let it : Written = done.0 in
-      let now : new.now ≡ record { schema = schema; trees = it.trees } =
-      ap (λ (p : Tally × Database). p.1) (same_value (went (went done.2).2).2) in
+      let ends = same_value (went (went done.2).2).2 in
+      let now : new.now ≡ record { schema = schema; trees = it.trees } = ap (λ (p : Tally × Database). p.1) ends in
       let named : new.now.schema ≡ schema = ap (λ (d : Database). d.schema) now in (
         it.rows,
         it.last,
@@ -93,4 +93,5 @@ module _ (schema : Schema) (at : ℕ) (table : Table) (there : slice_get schema.
         }))) (sym (ap (λ (d : Database). d.trees) now)) done.1,
         named,
         subst (λ s. IsSound s new.now.trees) named w.sound,
+        w.counted ∙ ap (λ (p : Tally × Database). unwrap_or (p.0).rows 0) ends,
       )

@@ -1,7 +1,6 @@
 -- A table as data: its name, its columns with what they hold, and how many of the first are its key.
 use Rattle.std.specs.Prelude.{ℕ, zero, suc, Bool, true, false, List, [], ◌∷◌, cond, ◌+◌, map, length, codes, ◌++◌}
 use Rattle.sqlite.specs.Table.{Table}
-use Rattle.sqlite.specs.Schema.{Schema}
 use Rattle.sqlite.specs.Kind as sql
 use Rattle.sqlite.specs.Kind.TheVariants as kind
 use Rattle.sqlite_schema.specs.declared.schema.Column.{Column}
@@ -16,6 +15,8 @@ pub data Field : Type 0 where
   Amount : Field
   -- a text in UTF-8
   Text : Field
+  -- bytes, whatever they are
+  Bytes : Field
   -- these two may be absent
   MaybeNumber : Field
   MaybeText : Field
@@ -45,6 +46,7 @@ abbrev pub sql_kind : Field → sql.Kind
 sql_kind Number = kind.Integer
 sql_kind Amount = kind.Integer
 sql_kind Text = kind.Text
+sql_kind Bytes = kind.Blob
 sql_kind MaybeNumber = kind.Integer
 sql_kind MaybeText = kind.Text
 
@@ -53,6 +55,7 @@ abbrev pub is_always : Field → Bool
 is_always Number = true
 is_always Amount = true
 is_always Text = true
+is_always Bytes = true
 is_always MaybeNumber = false
 is_always MaybeText = false
 

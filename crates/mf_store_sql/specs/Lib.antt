@@ -10,3 +10,6 @@ pub mod Texts
 pub mod Rows
 pub mod Trees
 pub mod Meanings
+pub mod Numbered
+pub mod NumberedMeanings
+pub mod WorkedJournal

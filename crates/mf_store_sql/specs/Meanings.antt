@@ -1,7 +1,6 @@
 -- What the texts of a table mean under a schema.
 use Rattle.std.specs.Prelude.{◌≡◌, ℕ, zero, suc, ◌+◌, ◌-◌, Bool, false, true, cond, ◌||◌, List, [], ◌∷◌, ◌++◌, map}
 use Rattle.std.specs.Prelude.{length, Some, slice_get}
-use Rattle.std.specs.List.{AllByRecursion}
 use Rattle.sqlite.specs.declared.types.Value.TheVariants.{Null}
 use Rattle.sqlite.specs.Term.{Term, lit, col}
 use Rattle.sqlite.specs.Source.TheVariants.{Values}

@@ -1,13 +1,12 @@
 -- Rows of a table: the order of their keys, and which of them a query looks for.
-use Rattle.std.specs.Prelude.{◌≡◌, ℕ, ℤ, zero, suc, pos, ◌<◌, ◌^◌, Bool, true, List, [], ◌∷◌, length, Option, Some}
-use Rattle.std.specs.Prelude.{None, IsUtf8}
+use Rattle.std.specs.Prelude.{◌≡◌, ℕ, ℤ, zero, suc, pos, Bool, true, List, [], ◌∷◌, Option}
 use Rattle.std.specs.declared.cmp.Ordering.{Ordering}
 use Rattle.std.specs.declared.cmp.Ordering.TheVariants.{Equal}
 use Rattle.std.specs.Ordering.{ordering_then, is_eq}
 use Rattle.sqlite.specs.declared.types.Value.{Value}
-use Rattle.sqlite.specs.declared.types.Value.TheVariants.{Null, Int, Text as Words, Real, Blob}
+use Rattle.sqlite.specs.declared.types.Value.TheVariants.{Int, Text as Words, Blob}
 use Rattle.sqlite.specs.Order.{Row, column, value_cmp}
-use Rattle.mf_store_sql.specs.Columns.{Field, Number, Amount, Text, MaybeNumber, MaybeText, Named, Columns}
+use Rattle.mf_store_sql.specs.Columns.{Field, Number, Amount, Text, Bytes, MaybeNumber, MaybeText, Named}
 use Rattle.mf_store_sql.specs.Columns.{is_always}
 
 -- two rows by so many columns, from this one on
@@ -28,6 +27,7 @@ abbrev pub IsKeepable : Field → Value → Type 0
 IsKeepable Number v = (n : ℕ) × (v ≡ Int (pos n))
 IsKeepable Amount v = (n : ℤ) × (v ≡ Int n)
 IsKeepable Text v = (t : List ℕ) × (v ≡ Words t)
+IsKeepable Bytes v = (b : List ℕ) × (v ≡ Blob b)
 IsKeepable MaybeNumber v = (n : Option ℕ) × (v ≡ Rattle.mf_store_sql.specs.Values.or_null n)
 IsKeepable MaybeText v = (t : Option (List ℕ)) × (v ≡ Rattle.mf_store_sql.specs.Values.or_text t)
 

@@ -1,7 +1,8 @@
 -- The SQL texts of a table, made of its columns.
 use Rattle.std.specs.Prelude.{ℕ, zero, suc, cond, nat_lt, ◌+◌, ◌/◌, ◌%◌, List, [], ◌∷◌, ◌++◌, map, take, drop, length}
 use Rattle.std.specs.Prelude.{codes}
-use Rattle.mf_store_sql.specs.Columns.{Field, Number, Amount, Text, MaybeNumber, MaybeText, Named, Columns, upwards}
+use Rattle.mf_store_sql.specs.Columns.{Field, Number, Amount, Text, Bytes, MaybeNumber, MaybeText, Named, Columns}
+use Rattle.mf_store_sql.specs.Columns.{upwards}
 
 -- the texts with another between each two
 abbrev pub joined : List ℕ → List (List ℕ) → List ℕ
@@ -35,6 +36,7 @@ abbrev pub type_text : ℕ → Field → List ℕ
 type_text key Number = number_type key
 type_text key Amount = codes " INTEGER NOT NULL"
 type_text key Text = codes " TEXT NOT NULL"
+type_text key Bytes = codes " BLOB NOT NULL"
 type_text key MaybeNumber = codes " INTEGER"
 type_text key MaybeText = codes " TEXT"
 

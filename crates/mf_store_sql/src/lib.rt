@@ -16,7 +16,9 @@ ghost use Rattle.mf_store_sql.specs.Making.{Makes};
 ghost use Rattle.mf_store_sql.specs.Queries.{Answers};
 ghost use Rattle.mf_store_sql.specs.Writes.{Ran, Serves, AllFit, after_all, Steps, Turns, IsSettled, MayHold};
 
+pub mod laws;
 mod memory;
+pub mod numbered;
 pub mod pages;
 
 pub use memory::MemoryFile;
