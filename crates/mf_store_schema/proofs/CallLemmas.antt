@@ -1,10 +1,11 @@
 -- What a query and the calls made of it come to.
-use Rattle.std.proofs.Common.{◌≡◌, ℕ, inl, inr, Bool, List, Option, Some, Result, Ok, Err, ◌≤◌, IfOk, IsTrue, sym, ◌∙◌}
+use Rattle.std.proofs.Common.{◌≡◌, ℕ, inl, inr, Bool, List, Option, Some, Result, Ok, Err, ◌≤◌, IfOk, IfErr, IsTrue, sym, ◌∙◌}
 use Rattle.std.proofs.Common.{subst, arith, map, filter, find, slice_get}
 use Rattle.sqlite.specs.Tree.{Trees}
 use Rattle.sqlite.specs.Order.{Row}
 use Rattle.sqlite.specs.State.{State, HasCleanDisk, Survives}
 use Rattle.sqlite.specs.Listing.{understood}
+use Rattle.sqlite.specs.declared.error.Error.{Error}
 use Rattle.sqlite.proofs.Callers.{IsPlain}
 use Rattle.sqlite.proofs.StateLemmas.{survives_then}
 use Rattle.sqlite_keyed.proofs.ListLemmas.{slice_get-filter}
@@ -12,7 +13,7 @@ use Rattle.mf_store_schema.specs.Tables.{schema}
 use Rattle.mf_store_sql.specs.Queries.{Answers}
 use Rattle.mf_store_sql.specs.Writes.{Ran, Serves}
 use Rattle.mf_store_schema.specs.Rows.{Lists}
-use Rattle.mf_store_schema.specs.Writes.{schema_of, Holds}
+use Rattle.mf_store_schema.specs.Writes.{schema_of, Holds, Failed}
 use Rattle.mf_store_schema.specs.Calls.{IsAsBefore, IsKeeping, OnlyFaultsShut, Shows}
 
 module _ (was is : State) where
@@ -73,3 +74,13 @@ goes_on was mid is = survives_then was mid is (λ _. ⊥) (λ _. ⊥) (λ _. ⊥
 pub ran_with : (sql : List ℕ) (was is : State) (given row : Row) → given ≡ row → Ran sql given was is
     → Ran sql row was is
 ran_with sql was is given row same ran = subst (λ r. Ran sql r was is) same ran
+
+-- and failed with them
+pub failed_with : (sql : List ℕ) (was is : State) (given row : Row) (e : Error) → given ≡ row
+    → Failed sql given was is e → Failed sql row was is e
+failed_with sql was is given row e same failed = subst (λ r. Failed sql r was is e) same failed
+
+-- the same of an outcome
+pub failed_row : {V : Type 0} (r : Result V Error) (sql : List ℕ) (was is : State) (given row : Row) → given ≡ row
+    → IfErr r (Failed sql given was is) → IfErr r (Failed sql row was is)
+failed_row r sql was is given row same h = subst (λ x. IfErr r (Failed sql x was is)) same h

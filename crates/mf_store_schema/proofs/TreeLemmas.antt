@@ -98,7 +98,8 @@ abbrev pub AreLow : Schema → Type 0
 AreLow k = (trees : Trees) → ((t : ℕ) → t < 2 ^ 32 → HasRowids (trees t)) → HaveRowidsUnder k trees
 
 low_tables : (trees : Trees) → ((t : ℕ) → t < 2 ^ 32 → HasRowids (trees t)) → (ts : List Table)
-    → list_all (λ (t : Table). ltb t.tree (2 ^ 32)) ts ≡ true → AllByRecursion (λ (t : Table). HasRowids (trees t.tree)) ts
+    → list_all (λ (t : Table). ltb t.tree (2 ^ 32)) ts ≡ true
+    → AllByRecursion (λ (t : Table). HasRowids (trees t.tree)) ts
 low_tables trees empty [] low = tt
 low_tables trees empty (t ∷ ts) low =
     let both = and_parts _ _ low in

@@ -1,9 +1,9 @@
 -- What the columns of a row hold where a record can be made of them.
 use Rattle.std.specs.Prelude.{◌≡◌, ◌⊎◌, ◌<◌, ◌+◌, ◌^◌, ℕ, ℤ, pos, List, [], ◌∷◌, length, IsUtf8}
 use Rattle.sqlite.specs.declared.types.Value.{Value}
-use Rattle.sqlite.specs.declared.types.Value.TheVariants.{Null, Int, Text as Words}
+use Rattle.sqlite.specs.declared.types.Value.TheVariants.{Null, Int, Text as Words, Blob}
 use Rattle.sqlite.specs.Order.{Row, column}
-use Rattle.mf_store_sql.specs.Columns.{Field, Named, Number, Amount, Text, MaybeNumber, MaybeText}
+use Rattle.mf_store_sql.specs.Columns.{Field, Named, Number, Amount, Text, Bytes, MaybeNumber, MaybeText}
 
 -- a number of 32 bits, without a sign
 abbrev pub IsNumber : Value → Type 0
@@ -22,6 +22,7 @@ abbrev pub CanHold : Field → Value → Type 0
 CanHold Number v = IsNumber v
 CanHold Amount v = IsAmount v
 CanHold Text v = IsText v
+CanHold Bytes v = (b : List ℕ) × (v ≡ Blob b)
 CanHold MaybeNumber v = (v ≡ Null) ⊎ IsNumber v
 CanHold MaybeText v = (v ≡ Null) ⊎ IsText v
 

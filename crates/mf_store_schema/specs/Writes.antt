@@ -1,16 +1,19 @@
 -- The lists that the tables keep, and what each write makes of them. Before the tables are made there is none.
-use Rattle.std.specs.Prelude.{◌≡◌, ℕ, List, [], ◌∷◌, take, Option, Some, None, IsSome}
+use Rattle.std.specs.Prelude.{◌≡◌, ℕ, List, [], ◌∷◌, take, Option, Some, None, IsSome, Err}
 use Rattle.std.specs.declared.cmp.Ordering.{Ordering}
 use Rattle.sqlite.specs.Order.{Row}
 use Rattle.sqlite.specs.Schema.{Schema}
 use Rattle.sqlite.specs.Tree.{Trees}
 use Rattle.sqlite_catalog.specs.Listing.{IsSound}
 use Rattle.mf_store_sql.specs.Keep.{Keeps}
+use Rattle.mf_store_sql.specs.Texts.{insert_text, upsert_text}
 use Rattle.mf_store_sql.specs.Trees.{Condition, AllHold}
-use Rattle.sqlite.specs.State.{State}
+use Rattle.sqlite.specs.State.{State, ExecutesInside}
+use Rattle.sqlite.specs.declared.error.Error.{Error}
 use Rattle.mf_store_sql.specs.Tables.{no_schema}
 use Rattle.mf_store_sql.specs.Writes.{Serves, Steps}
-use Rattle.mf_store_schema.specs.Tables.{schema}
+use Rattle.mf_store_schema.specs.Tables.{schema, meta, offices, staff, clients, charges, products, loans, entries}
+use Rattle.mf_store_schema.specs.Tables.{receipts, instalments, shares}
 use Rattle.mf_store_schema.specs.Versions.{count, schema_at}
 use Rattle.mf_store_schema.specs.declared.versions.Version.{Version}
 use Rattle.mf_store_schema.specs.declared.versions.Version.TheVariants.{Second}
@@ -91,3 +94,27 @@ Making old new = Steps (Serves schema_of Holds) (λ lists. lists ≡ None) (λ _
 -- the transaction goes on, and the lists are changed so
 abbrev pub Putting : (Lists → Lists) → State → State → Type 0
 Putting change old new = Steps (Serves schema_of Holds) (λ lists. IsSome lists) (lists_changed change) old new
+
+-- a statement of a transaction failed, as its text does with these values over what was there
+pub record Failed (sql : List ℕ) (params : Row) (old new : State) (e : Error) : Type 0 where
+  pub failed : ExecutesInside 0 sql params old new (Err e)
+
+-- what holds of the text that a write of a row runs, and of the row's values: the text adds the row, which fails over
+-- one that has its key, or puts it in place of that one
+abbrev pub ByItsText : StoreWrite → (List ℕ → Row → Type 0) → Type 0
+ByItsText MakeTables P = Unit {0}
+ByItsText (PutMeta x) P = P (upsert_text meta) (meta_row x)
+ByItsText (PutOffice x) P = P (insert_text offices) (office_row x)
+ByItsText (PutStaff x) P = P (insert_text staff) (staff_row x)
+ByItsText (PutClient x) P = P (insert_text clients) (client_row x)
+ByItsText (PutCharge x) P = P (insert_text charges) (charge_row x)
+ByItsText (AddProduct x) P = P (insert_text products) (product_row x)
+ByItsText (PutProduct x) P = P (upsert_text products) (product_row x)
+ByItsText (AddLoan x) P = P (insert_text loans) (loan_row x)
+ByItsText (PutLoan x) P = P (upsert_text loans) (loan_row x)
+ByItsText (AddEntry x) P = P (insert_text entries) (entry_row x)
+ByItsText (ChangeEntry x) P = P (upsert_text entries) (entry_row x)
+ByItsText (AddReceipt x) P = P (insert_text receipts) (receipt_row x)
+ByItsText (PutInstalment x) P = P (upsert_text instalments) (instalment_row x)
+ByItsText (PutShare x) P = P (upsert_text shares) (share_row x)
+ByItsText (RemoveShares e) P = Unit {0}

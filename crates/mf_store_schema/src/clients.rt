@@ -10,10 +10,9 @@ ghost use Rattle.mf_store_schema.specs.Rows.{is_client_of};
 ghost use Rattle.mf_store_schema.specs.Schemas.{IsKnown};
 ghost use Rattle.mf_store_schema.specs.Whole.{asked_known};
 
-use crate::table::{Listed, Table, has_columns};
+use crate::table::{Listed, Table, has_columns, run};
 use crate::text::Text;
 use crate::words::{ColumnWords, IndexWords, TableWords};
-use mf_store_sql::run;
 use sqlite::{Alter, Error, Row, Transaction, params};
 
 /// Makes the table.
@@ -83,6 +82,7 @@ impl Table for ClientRow {
         })
     }
 
+    #[tactic(auto, using(crate::proofs::CallLemmas::ran_with, crate::proofs::CallLemmas::failed_with))]
     fn execute<S: Alter>(&self, tx: &mut Transaction<'_, S>, sql: &str) -> Result<(), Error> {
         run(tx, sql, params![self.office, self.number, &self.name])
     }

@@ -10,10 +10,9 @@ ghost use Rattle.mf_store_schema.specs.Rows.{is_entry_of};
 ghost use Rattle.mf_store_schema.specs.Schemas.{IsKnown};
 ghost use Rattle.mf_store_schema.specs.Whole.{asked_known};
 
-use crate::table::{Changing, Listed, Table, has_columns};
+use crate::table::{Changing, Listed, Table, has_columns, run};
 use crate::text::Text;
 use crate::words::{ColumnWords, IndexWords, TableWords};
-use mf_store_sql::run;
 use sqlite::{Alter, Error, Row, Transaction, params};
 
 /// Makes the table.

@@ -15,10 +15,9 @@ ghost use Rattle.mf_store_schema.specs.Rows.{is_instalment_of};
 ghost use Rattle.mf_store_schema.specs.Schemas.{IsPresent};
 ghost use Rattle.mf_store_schema.specs.Whole.{asked_present};
 
-use crate::table::{Changing, Listed, Table, has_columns};
+use crate::table::{Changing, Listed, Table, has_columns, run};
 use crate::text::Text;
 use crate::words::{ColumnWords, IndexWords, TableWords};
-use mf_store_sql::run;
 use sqlite::{Alter, Error, Row, Transaction, params};
 
 /// Makes the table.

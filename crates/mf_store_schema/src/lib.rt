@@ -1,9 +1,9 @@
 //! The program's tables: their rows and the texts that read and write them, over any store that `sqlite` can change.
 //!
-//! A file may hold the tables of any version of the schema, of which the first has none of instalments and of shares, or
-//! whatever a stranger wrote there. Each table is read whole, the first version is brought to the second in one commit,
-//! and a schema that is found is compared with the one that words describe. Contracts speak of the lists of rows that
-//! the tables keep. What institution these are is left to the crates above.
+//! A file may hold the tables of any version of the schema, of which the first has none of instalments and of shares,
+//! or whatever a stranger wrote there. Each table is read whole, the first version is brought to the second in one
+//! commit, and a schema that is found is compared with the one that words describe. Contracts speak of the lists of
+//! rows that the tables keep. What institution these are is left to the crates above.
 #![tactic(auto)]
 
 mod charges;

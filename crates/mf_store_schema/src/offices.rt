@@ -15,11 +15,10 @@ ghost use Rattle.mf_store_schema.specs.Calls.{IsAsBefore, IsKeeping};
 ghost use Rattle.mf_store_schema.specs.Schemas.{IsKnown};
 ghost use Rattle.mf_store_schema.specs.Whole.{asked_known};
 
-use crate::table::{Table, ask, has_columns};
+use crate::table::{Table, ask, has_columns, run};
 use crate::text::Text;
 use crate::words::{ColumnWords, IndexWords, TableWords};
 use mf_base::Fault;
-use mf_store_sql::run;
 use sqlite::{Alter, Connection, Error, Row, Transaction, params};
 
 /// Makes the table.
@@ -102,6 +101,7 @@ impl Table for OfficeRow {
         })
     }
 
+    #[tactic(auto, using(crate::proofs::CallLemmas::ran_with, crate::proofs::CallLemmas::failed_with))]
     fn execute<S: Alter>(&self, tx: &mut Transaction<'_, S>, sql: &str) -> Result<(), Error> {
         run(
             tx,

@@ -22,8 +22,8 @@ pub fn open_file<S: Start>(
     path: &str,
     start: S,
 ) -> Result<Connection<FileStore<FileFrom<S>>>, Error>
-    ensures rowids { IfOk result (λ c. HasCleanDisk (file_state c) → (v : Version) → IsOfVersion v (file_state c).now.schema
-        → HaveRowids v (file_state c).now.trees) }
+    ensures rowids { IfOk result (λ c. HasCleanDisk (file_state c) → (v : Version)
+        → IsOfVersion v (file_state c).now.schema → HaveRowids v (file_state c).now.trees) }
     ensures opened { IfOk result (λ c. HasCleanDisk (file_state c) → IsOpened c) }
     ensures found { IfOk result (λ c. HasCleanDisk (file_state c) → FindsIn (image_at S.Start) (file_state c)) }
     ensures sums { IfOk result (λ c. HasCleanDisk (file_state c) → IsBlankAs true (image_at S.Start)

@@ -9,10 +9,9 @@ ghost use Rattle.mf_store_schema.specs.Rows.{by_product, product_row, put_produc
 ghost use Rattle.mf_store_schema.specs.Schemas.{IsKnown};
 ghost use Rattle.mf_store_schema.specs.Whole.{asked_known};
 
-use crate::table::{Changing, Table, has_columns};
+use crate::table::{Changing, Table, has_columns, run};
 use crate::text::Text;
 use crate::words::{ColumnWords, IndexWords, TableWords};
-use mf_store_sql::run;
 use sqlite::{Alter, Error, Row, Transaction, params};
 
 /// Makes the table.

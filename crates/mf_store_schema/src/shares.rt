@@ -13,9 +13,8 @@ ghost use Rattle.mf_store_schema.specs.Writes.{Putting};
 ghost use Rattle.mf_store_schema.specs.Schemas.{IsPresent};
 ghost use Rattle.mf_store_schema.specs.Whole.{asked_present};
 
-use crate::table::{Changing, Listed, Table, has_columns};
+use crate::table::{Changing, Listed, Table, has_columns, run};
 use crate::words::{ColumnWords, IndexWords, TableWords};
-use mf_store_sql::run;
 use sqlite::{Alter, Error, Row, Transaction, params};
 
 /// Makes the table.
@@ -107,6 +106,7 @@ impl Table for ShareRow {
         })
     }
 
+    #[tactic(auto, using(crate::proofs::CallLemmas::ran_with, crate::proofs::CallLemmas::failed_with))]
     fn execute<S: Alter>(&self, tx: &mut Transaction<'_, S>, sql: &str) -> Result<(), Error> {
         run(
             tx,

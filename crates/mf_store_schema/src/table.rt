@@ -24,7 +24,7 @@ ghost use Rattle.mf_store_schema.specs.Tables.{schema};
 ghost use Rattle.sqlite.specs.declared.error.ErrorCode.TheVariants.{OutOfMemory};
 ghost use Rattle.mf_store_schema.specs.Fields.{HasFields};
 ghost use Rattle.mf_store_schema.specs.Rows.{Lists, IsNew};
-ghost use Rattle.mf_store_schema.specs.Writes.{schema_of, Holds, HoldsAt, Putting, conditions, kept_in};
+ghost use Rattle.mf_store_schema.specs.Writes.{schema_of, Holds, HoldsAt, Putting, Failed, conditions, kept_in};
 ghost use Rattle.mf_store_schema.specs.declared.versions.Version.TheVariants.{Second};
 ghost use Rattle.mf_store_schema.specs.Calls.{IsAsBefore, IsKeeping, Shows};
 ghost use Rattle.mf_store_schema.specs.Whole.{IsAskable};
@@ -200,6 +200,10 @@ pub trait Table: Sized {
             → IsTrue (state S.Store tx.old.conn.now).in_transaction
             → OnOk result (Ran sql.now (stored self.now) (state S.Store tx.old.conn.now)
             (state S.Store tx.new.conn.now)) }
+        ensures failed { HasCleanDisk (state S.Store tx.new.conn.now)
+            → IsTrue (state S.Store tx.old.conn.now).in_transaction
+            → IfErr result (Failed sql.now (stored self.now) (state S.Store tx.old.conn.now)
+            (state S.Store tx.new.conn.now)) }
         ensures kept { HasCleanDisk (state S.Store tx.new.conn.now) → KeepsCommit (state S.Store tx.old.conn.now)
             (state S.Store tx.new.conn.now) }
         ensures survives { Survives (state S.Store tx.old.conn.now) (state S.Store tx.new.conn.now) (λ _. ⊥) };
@@ -301,6 +305,29 @@ pub fn ask<S: Alter>(
     }
 }
 
+/// Runs one statement in the transaction, which goes on where it is `Ok`.
+pub(crate) fn run<S: Alter>(
+    tx: &mut Transaction<'_, S>,
+    sql: &str,
+    params: &[ValueRef<'_>],
+) -> Result<(), Error>
+    ensures same_reference { tx.new.conn.ghost_name ≡ tx.old.conn.ghost_name }
+    ensures ok { HasCleanDisk (state S.Store tx.new.conn.now) → IsTrue (state S.Store tx.old.conn.now).in_transaction
+        → OnOk result (Ran sql.now (bound params.now) (state S.Store tx.old.conn.now) (state S.Store tx.new.conn.now)) }
+    ensures failed { HasCleanDisk (state S.Store tx.new.conn.now)
+        → IsTrue (state S.Store tx.old.conn.now).in_transaction
+        → IfErr result (Failed sql.now (bound params.now) (state S.Store tx.old.conn.now)
+        (state S.Store tx.new.conn.now)) }
+    ensures kept { HasCleanDisk (state S.Store tx.new.conn.now) → KeepsCommit (state S.Store tx.old.conn.now)
+        (state S.Store tx.new.conn.now) }
+    ensures survives { Survives (state S.Store tx.old.conn.now) (state S.Store tx.new.conn.now) (λ _. ⊥) }
+{
+    match tx.execute(sql, params) {
+        Ok(_) => Ok(()),
+        Err(error) => Err(error),
+    }
+}
+
 /// Adds a row: where a row has its key, that fails.
 pub(crate) fn add_row<T: Table, S: Alter>(row: &T, tx: &mut Transaction<'_, S>) -> Result<(), Error>
     ensures same_reference { tx.new.conn.ghost_name ≡ tx.old.conn.ghost_name }
@@ -309,6 +336,13 @@ pub(crate) fn add_row<T: Table, S: Alter>(row: &T, tx: &mut Transaction<'_, S>) 
     ensures new { HasCleanDisk (state S.Store tx.new.conn.now) → IsTrue (state S.Store tx.old.conn.now).in_transaction
         → OnOk result ((lists : Lists) → Serves schema_of Holds (state S.Store tx.old.conn.now).now (Some lists)
         → IsNew T.by row.now (T.list lists)) }
+    ensures ran { HasCleanDisk (state S.Store tx.new.conn.now) → IsTrue (state S.Store tx.old.conn.now).in_transaction
+        → OnOk result (Ran (insert_text T.columns) (T.stored row.now) (state S.Store tx.old.conn.now)
+        (state S.Store tx.new.conn.now)) }
+    ensures failed { HasCleanDisk (state S.Store tx.new.conn.now)
+        → IsTrue (state S.Store tx.old.conn.now).in_transaction
+        → IfErr result (Failed (insert_text T.columns) (T.stored row.now) (state S.Store tx.old.conn.now)
+        (state S.Store tx.new.conn.now)) }
     ensures kept { HasCleanDisk (state S.Store tx.new.conn.now) → KeepsCommit (state S.Store tx.old.conn.now)
         (state S.Store tx.new.conn.now) }
     ensures survives { Survives (state S.Store tx.old.conn.now) (state S.Store tx.new.conn.now) (λ _. ⊥) }
@@ -324,6 +358,13 @@ pub(crate) fn put_row<T: Changing, S: Alter>(
     ensures same_reference { tx.new.conn.ghost_name ≡ tx.old.conn.ghost_name }
     ensures ok { HasCleanDisk (state S.Store tx.new.conn.now) → IsTrue (state S.Store tx.old.conn.now).in_transaction
         → OnOk result (Putting (T.put row.now) (state S.Store tx.old.conn.now) (state S.Store tx.new.conn.now)) }
+    ensures ran { HasCleanDisk (state S.Store tx.new.conn.now) → IsTrue (state S.Store tx.old.conn.now).in_transaction
+        → OnOk result (Ran (upsert_text T.columns) (T.stored row.now) (state S.Store tx.old.conn.now)
+        (state S.Store tx.new.conn.now)) }
+    ensures failed { HasCleanDisk (state S.Store tx.new.conn.now)
+        → IsTrue (state S.Store tx.old.conn.now).in_transaction
+        → IfErr result (Failed (upsert_text T.columns) (T.stored row.now) (state S.Store tx.old.conn.now)
+        (state S.Store tx.new.conn.now)) }
     ensures kept { HasCleanDisk (state S.Store tx.new.conn.now) → KeepsCommit (state S.Store tx.old.conn.now)
         (state S.Store tx.new.conn.now) }
     ensures survives { Survives (state S.Store tx.old.conn.now) (state S.Store tx.new.conn.now) (λ _. ⊥) }

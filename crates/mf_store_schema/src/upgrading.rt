@@ -44,8 +44,8 @@ fn all_writes(
     Ok(writes)
 }
 
-/// Brings tables of the first version to the second, in one commit: tables of instalments and of shares with these rows,
-/// and this row of meta in place of the old one.
+/// Brings tables of the first version to the second, in one commit: tables of instalments and of shares with these
+/// rows, and this row of meta in place of the old one.
 ///
 /// The clauses speak of rows that rise by key, and of one row of meta under the key of the new one. The error is F20.
 pub fn upgrade<S: Alter>(

@@ -78,9 +78,12 @@ fn make_tables<S: Alter>(tx: &mut Transaction<'_, S>) -> Result<(), Error>
 }
 
 impl Write for StoreWrite {
-    ghost use Rattle.std.specs.Prelude.{Option};
+    ghost use Rattle.std.specs.Prelude.{◌≡◌, Option, IsTrue, OnOk, IfErr};
     ghost use Rattle.mf_store_schema.specs.Rows.{Lists};
-    ghost use Rattle.mf_store_schema.specs.Writes.{after_write, FitsLists};
+    ghost use Rattle.sqlite.specs.State.{HasCleanDisk, KeepsCommit, Survives};
+    ghost use Rattle.sqlite.specs.Held.{state};
+    ghost use Rattle.mf_store_sql.specs.Writes.{Ran, Serves, Steps};
+    ghost use Rattle.mf_store_schema.specs.Writes.{schema_of, Holds, after_write, FitsLists, Failed, ByItsText};
 
     ghost Lists = { Option Lists };
 
@@ -92,7 +95,24 @@ impl Write for StoreWrite {
 
     ghost after = { after_write };
 
-    fn write<S: Alter>(&self, tx: &mut Transaction<'_, S>) -> Result<(), Error> {
+    fn write<S: Alter>(&self, tx: &mut Transaction<'_, S>) -> Result<(), Error>
+        ensures same_reference { tx.new.conn.ghost_name ≡ tx.old.conn.ghost_name }
+        ensures ok { HasCleanDisk (state S.Store tx.new.conn.now)
+            → IsTrue (state S.Store tx.old.conn.now).in_transaction
+            → OnOk result (Steps (Serves schema_of Holds) (FitsLists self.now) (after_write self.now)
+            (state S.Store tx.old.conn.now) (state S.Store tx.new.conn.now)) }
+        ensures kept { HasCleanDisk (state S.Store tx.new.conn.now) → KeepsCommit (state S.Store tx.old.conn.now)
+            (state S.Store tx.new.conn.now) }
+        ensures survives { Survives (state S.Store tx.old.conn.now) (state S.Store tx.new.conn.now) (λ _. ⊥) }
+        ensures ran { HasCleanDisk (state S.Store tx.new.conn.now)
+            → IsTrue (state S.Store tx.old.conn.now).in_transaction
+            → OnOk result (ByItsText self.now (λ sql row. Ran sql row (state S.Store tx.old.conn.now)
+            (state S.Store tx.new.conn.now))) }
+        ensures failed { HasCleanDisk (state S.Store tx.new.conn.now)
+            → IsTrue (state S.Store tx.old.conn.now).in_transaction
+            → IfErr result (λ e. ByItsText self.now (λ sql row. Failed sql row (state S.Store tx.old.conn.now)
+            (state S.Store tx.new.conn.now) e)) }
+    {
         match self {
             StoreWrite::MakeTables => make_tables(tx),
             StoreWrite::PutMeta(meta) => put_row(meta, tx),
