@@ -1,10 +1,12 @@
 -- From what the desk says of an answer to a line of a run.
-use Rattle.std.proofs.Common.{◌≡◌, inl, inr, Bool, true, false, Option, None, Result, Ok, Err, refl, sym, subst}
+use Rattle.std.proofs.Common.{◌≡◌, inl, inr, Bool, true, false, List, ◌∷◌, Option, Some, None, Result, Ok, Err, refl}
+use Rattle.std.proofs.Common.{sym, subst}
 use Rattle.mf_base.specs.declared.fault.Fault.{Fault}
 use Rattle.mf_base.specs.declared.fault.Fault.TheVariants.{F20}
-use Rattle.mf_model.specs.declared.request.Call.{Call}
+use Rattle.mf_model.specs.Calls.{Call}
 use Rattle.mf_model.specs.declared.reply.Reply.{Reply}
-use Rattle.mf_model.specs.Institution.{Institution, Change, after_maybe}
+use Rattle.mf_model.specs.Institution.{Institution, Change, Noted, after_line, after_noted}
+use Rattle.mf_model.specs.Run.{noted_of}
 use Rattle.mf_model.specs.Desk.{Outcome, outcome, reply, reply_in, change_in}
 use Rattle.mf_model.specs.Store.{left_by}
 use Rattle.mf_model.specs.declared.store.InstitutionStore.{Ghosts}
@@ -63,9 +65,32 @@ module _ {S : Type 0} (store : Ghosts S) where
             false,
             record {
               replied = subst told (sym r) (err f refl);
-              follows = subst (λ (k : Option Change). store.stands new (after_maybe k i)) (sym none) (a.same c i h);
-              stop = λ is l. subst (λ (k : Option Change). store.leaves new (left_by k false i is)) (sym none)
-                  (subst (λ (k : Option Change). store.leaves new (left_by k true i is)) none
+              follows = subst (λ (k : Option Change). store.stands new (after_line (noted_of call i) k i)) (sym none)
+                  (a.same c i h);
+              stop = λ is l. subst (λ (k : Option Change). store.leaves new (left_by (noted_of call i) k false i is))
+                  (sym none)
+                  (subst (λ (k : Option Change). store.leaves new (left_by (noted_of call i) k true i is)) none
                   (a.stop_refused c i is h l));
             },
           )
+
+  -- a call that was given up before anything was looked at
+  pub told_given_up : (told : Result Reply Fault → Type 0) (call : Call) (s : S)
+      → ((i : Institution) (is : List Institution) → store.leaves s is → store.leaves s (i ∷ is)) → told (Err F20)
+      → Calls store told call s s
+  told_given_up told call s more t = record {
+    premise = λ c. c;
+    answered = λ c i h. (
+      true,
+      record {
+        replied = t;
+        follows = h;
+        stop = λ is l. left (noted_of call i) (change_in (outcome call i)) i is l;
+      },
+    );
+  }
+    where
+      left : (noted : Noted) (change : Option Change) (i : Institution) (is : List Institution) → store.leaves s is
+          → store.leaves s (left_by noted change true i is)
+      left noted None i is l = l
+      left noted (Some change) i is l = more (after_noted noted change i) is l

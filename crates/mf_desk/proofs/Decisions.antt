@@ -9,6 +9,7 @@ use Rattle.mf_model.specs.declared.request.Request.{Request}
 use Rattle.mf_model.specs.declared.request.Request.TheVariants.{Unreadable}
 use Rattle.mf_model.specs.declared.request.Flaw.{Flaw}
 use Rattle.mf_desk.specs.declared.decision.Decision.{Decision}
+use Rattle.mf_model.specs.Calls.{nothing_received}
 use Rattle.mf_model.specs.Institution.{Institution, Staff}
 use Rattle.mf_model.specs.Desk.{Plan, plan, need, meets, Outcome, outcome, staff_at, where_permitted, sent_by}
 use Rattle.mf_model.specs.Store.{Reads, role_of}
@@ -120,15 +121,15 @@ permitted_some c request p (Some s) role i h = let e : s.role ≡ role =
 
 -- an unknown caller
 pub sent_unknown : (c : Caller) (request : Request) (i : Institution) → IsRequest request → None ≡ role_of c i
-    → outcome (call_from c request) i ≡ Err F2
+    → outcome (call_from c request nothing_received) i ≡ Err F2
 sent_unknown c request i h s =
     let w = planned request h in
     ap (λ p. sent_by (Some c) request p i) w.1 ∙ permitted_none c request w.0 (staff_at i c) i s
 
 -- a known one
 pub sent_known : (c : Caller) (request : Request) (role : Role) (i : Institution) → IsRequest request
-    → Some role ≡ role_of c i → outcome (call_from c request) i ≡ cond (meets (need request) role c.office)
-    (request_outcome c request i) (Err F3)
+    → Some role ≡ role_of c i → outcome (call_from c request nothing_received) i
+    ≡ cond (meets (need request) role c.office) (request_outcome c request i) (Err F3)
 sent_known c request role i h s =
     let w = planned request h in
     ap (λ p. sent_by (Some c) request p i) w.1 ∙ permitted_some c request w.0 (staff_at i c) role i s

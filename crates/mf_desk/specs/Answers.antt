@@ -6,7 +6,7 @@ use Rattle.mf_base.specs.declared.fault.Fault.TheVariants.{F2, F4, F9, F20}
 use Rattle.mf_office.specs.declared.account.Account.{Account}
 use Rattle.mf_office.specs.declared.caller.Caller.{Caller}
 use Rattle.mf_account.specs.Change.{KeptAccount}
-use Rattle.mf_model.specs.declared.request.Call.{Call}
+use Rattle.mf_model.specs.Calls.{Call}
 use Rattle.mf_model.specs.declared.request.Request.{Request}
 use Rattle.mf_model.specs.declared.loan.Loan.{Loan}
 use Rattle.mf_model.specs.declared.reply.LoanReply.{LoanReply}
@@ -14,9 +14,10 @@ use Rattle.mf_model.specs.declared.reply.Reply.{Reply}
 use Rattle.mf_desk.specs.declared.decision.Decision.{Decision}
 use Rattle.mf_arrears.specs.Line.{OfficeLine}
 use Rattle.mf_model.specs.Arrears.{arrears_seen}
-use Rattle.mf_model.specs.Institution.{Institution, Catalogue, Rows, Ledger, after_maybe}
+use Rattle.mf_model.specs.Institution.{Institution, Catalogue, Rows, Ledger, after_line}
 use Rattle.mf_model.specs.Loans.{on_loan, LedgerChange, in_loan}
 use Rattle.mf_model.specs.Desk.{Plan, plan, Outcome, carried_out, outcome, change_in, of_catalogue, of_office, staff_at}
+use Rattle.mf_model.specs.Run.{noted_of}
 use Rattle.mf_model.specs.Tree.{seen_office}
 use Rattle.mf_model.specs.Outcomes.{where_found}
 use Rattle.mf_model.specs.declared.loan.ReceiptUse.{ReceiptUse}
@@ -132,14 +133,15 @@ module _ {S : Type 0} (store : Ghosts S) where
     pub refused : store.clean new → (i : Institution) → store.stands old i → IfErr result (λ fault. (fault ≡ F20)
         ⊎ ((told i ≡ Err fault) ⊎ ((r : Reply) × (told i ≡ Ok r) × shows r (Err fault))))
 
-  -- At Ok the call's change is made whole, if it makes one; at Err nothing is changed. A stop leaves what it left
-  -- before, or the change.
+  -- At Ok the call's change is made whole and noted, if it makes one; at Err nothing is changed. A stop leaves what it
+  -- left before, or the change.
   pub record Changes {T : Type 0} (call : Call) (old new : S) (result : Result T Fault) : Type 0 where
     pub premise : store.clean new → store.clean old
     pub made : store.clean new → (i : Institution) → store.stands old i
-        → OnOk result (store.stands new (after_maybe (change_in (outcome call i)) i))
+        → OnOk result (store.stands new (after_line (noted_of call i) (change_in (outcome call i)) i))
     pub same : store.clean new → (i : Institution) → store.stands old i → OnErr result (store.stands new i)
     pub stop : store.clean new → (i : Institution) (is : List Institution) → store.stands old i → store.leaves old is
-        → OnOk result (store.leaves new (left_by (change_in (outcome call i)) false i is))
+        → OnOk result (store.leaves new (left_by (noted_of call i) (change_in (outcome call i)) false i is))
     pub stop_refused : store.clean new → (i : Institution) (is : List Institution) → store.stands old i
-        → store.leaves old is → OnErr result (store.leaves new (left_by (change_in (outcome call i)) true i is))
+        → store.leaves old is
+        → OnErr result (store.leaves new (left_by (noted_of call i) (change_in (outcome call i)) true i is))

@@ -1,11 +1,11 @@
 -- Calls that the desk answered, as lines of a run on the institution that its store stands for.
 use Rattle.std.specs.Prelude.{Bool, List, Result}
 use Rattle.mf_base.specs.declared.fault.Fault.{Fault}
-use Rattle.mf_model.specs.declared.request.Call.{Call}
+use Rattle.mf_model.specs.Calls.{Call}
 use Rattle.mf_model.specs.declared.reply.Reply.{Reply}
 use Rattle.mf_model.specs.Institution.{Institution}
 use Rattle.mf_model.specs.Desk.{outcome, change_in}
-use Rattle.mf_model.specs.Run.{Line, answer, next}
+use Rattle.mf_model.specs.Run.{Line, answer, next, noted_of}
 use Rattle.mf_model.specs.Store.{left_by}
 use Rattle.mf_model.specs.declared.store.InstitutionStore.{Ghosts}
 
@@ -15,7 +15,7 @@ module _ {S : Type 0} (store : Ghosts S) where
     pub replied : told (answer l i)
     pub follows : store.stands new (next l i)
     pub stop : (is : List Institution) → store.leaves old is
-        → store.leaves new (left_by (change_in (outcome l.call i)) l.given_up i is)
+        → store.leaves new (left_by (noted_of l.call i) (change_in (outcome l.call i)) l.given_up i is)
 
   -- A call was answered. Whether it was given up is known afterwards.
   pub record Calls (told : Result Reply Fault → Type 0) (call : Call) (old new : S) : Type 0 where

@@ -22,4 +22,4 @@ mod statements;
 
 pub use answering::answer;
 pub use arrears::arrears_lines;
-pub use mf_model::{Call, OfficeList, Reply, Request};
+pub use mf_model::{OfficeList, Reply, Request};

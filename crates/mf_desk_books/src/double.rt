@@ -10,7 +10,7 @@ use mf_arrears::OfficeLine;
 use mf_base::{Day, Fault};
 use mf_catalog::{Calc, ChargeDef, ChargeKind, Product, ProductMembers, Terms};
 use mf_model::{
-    ArrearsList, CatalogueCounts, Commit, Counts, InstitutionStore, Loan, LoanLine, LoanList,
+    ArrearsList, CatalogueCounts, Commit, Counts, InstitutionStore, Loan, LoanLine, LoanList, Note,
     OfficeList, ReceiptUse, Stage, Statement,
 };
 use mf_office::{Account, AccountNo, Caller, Name, Office, OfficeNo, Role};
@@ -549,7 +549,7 @@ impl InstitutionStore for Books {
         Ok(ArrearsList::new(lines))
     }
 
-    fn commit(&mut self, alloc: Global, commit: Commit) -> Result<(), Fault> {
+    fn commit(&mut self, alloc: Global, commit: Commit, _note: Note<'_>) -> Result<(), Fault> {
         self.count_call()?;
         match commit {
             Commit::AddOffice {

@@ -25,11 +25,12 @@ use Rattle.mf_model.specs.Desk.{flaw_fault, Plan, On_catalogue, On_office, On_al
 use Rattle.mf_model.specs.Desk.{meets, Outcome, of_catalogue, of_office, of_reading, on_office, in_office, carried_out}
 use Rattle.mf_model.specs.Desk.{staff_at, where_permitted, sent_by, outcome, reply_in, change_in}
 use Rattle.mf_model.specs.Institution.{Institution, Catalogue, Office, Rows, Staff, Ledger, office_at, Change}
-use Rattle.mf_model.specs.Institution.{Rows_become, Office_added, after, after_maybe, item_numbered}
+use Rattle.mf_model.specs.Institution.{Rows_become, Office_added, Noted, after, after_maybe, after_line}
+use Rattle.mf_model.specs.Institution.{item_numbered}
 use Rattle.mf_model.specs.Loans.{LedgerChange, of_loan, in_loan, on_loan, loan_changed}
 use Rattle.mf_model.specs.Offices.{list_offices}
 use Rattle.mf_model.specs.Outcomes.{where_found}
-use Rattle.mf_model.specs.Run.{Line, next}
+use Rattle.mf_model.specs.Run.{Line, change_of_line, next, noted_of}
 use Rattle.mf_model.specs.Store.{rows_of, ledger_at, account_of}
 use Rattle.mf_model.specs.Tree.{parent_of, is_there, seen_by}
 use Rattle.mf_histories.specs.Histories.{Deed, is_same_loan, asked_of_loan, told_in, deed_told, deed_of, deed_by}
@@ -258,8 +259,15 @@ module _ (a : Account) (i : Institution) where
       (new_office_kept number parent name (not (is_there i.offices parent && is_at_or_below (parent_of i.offices) parent
       c.office)) (is_there i.offices number) (is_within 4 (parent_of i.offices) parent 1) refl))
 
+  -- what is noted doesn't matter
+  entries_noted : (noted : Noted) (c : Option Change) → entries_of_loan a (after_maybe c i)
+      ≡ entries_of_loan a (after_line noted c i)
+  entries_noted noted None = refl
+  entries_noted noted (Some change) = refl
+
   pub line_done : (l : Line) → IsDone (deed_by a l i) (entries_of_loan a i) (entries_of_loan a (next l i))
-  line_done l = step l.given_up
+  line_done l = subst (IsDone (deed_by a l i) (entries_of_loan a i))
+      (entries_noted (noted_of l.call i) (change_of_line l i)) (step l.given_up)
     where
       step : (g : Bool) → IsDone (deed_of l.call.caller (asked_of_loan a l.call.request) i.catalogue
           (account_of i.catalogue (ledger_at a i)) (told_in (cond g (Err F20) (reply_in (outcome l.call i)))))

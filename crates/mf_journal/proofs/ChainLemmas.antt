@@ -7,7 +7,8 @@ use Rattle.std.proofs.Math.Seq.{take-append_seam, drop-append_seam}
 use Rattle.std.proofs.lemmas.Bool.{cases_eq}
 use Rattle.std.proofs.lemmas.Nat.{from_be_bytes-to_be_bytes_8}
 use Rattle.sha2.proofs.Facts256.{length-sha256}
-use Rattle.mf_journal.specs.Chain.{JournalLine, IsJournalLine, AreJournalLines, IsCollision, number_text, bytes_text}
+use Rattle.mf_model.specs.Institution.{JournalLine}
+use Rattle.mf_journal.specs.Chain.{IsJournalLine, AreJournalLines, IsCollision, number_text, bytes_text}
 use Rattle.mf_journal.specs.Chain.{text_of_line, link, chain_after}
 
 -- two texts that are cut at one length

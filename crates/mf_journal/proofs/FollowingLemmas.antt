@@ -6,7 +6,7 @@ use Rattle.std.proofs.lemmas.List.{length-map}
 use Rattle.mf_journal.specs.declared.following.Head.{Head}
 use Rattle.mf_journal.specs.declared.following.KeptRow.{KeptRow}
 use Rattle.mf_journal.specs.Chain.{AreJournalLines, IsCollision, chain_after}
-use Rattle.mf_journal.specs.Following.{Follows, FollowOn, Breaks, IsBroken, head_of, head_after, line_of}
+use Rattle.mf_journal.specs.Following.{Follows, FollowOn, BreaksFirst, IsBroken, head_of, head_after, line_of}
 use Rattle.mf_journal.proofs.ChainLemmas.{one_chain}
 use Rattle.mf_journal.specs.declared.following.Break.{Break}
 
@@ -38,9 +38,9 @@ one_more_to h rows place now k next there to follows is =
 
 -- the place of a row that breaks a condition
 pub broken_there : (h : Head) (rows : List KeptRow) (place : ℕ) (now : Head) (k : KeptRow) (flaw : Break)
-    → slice_get rows place ≡ Some k → FollowTo h rows place now → Breaks now k flaw → IsBroken h rows place flaw
+    → slice_get rows place ≡ Some k → FollowTo h rows place now → BreaksFirst now k flaw → IsBroken h rows place flaw
 broken_there h rows place now k flaw there to breaks =
-    record { before = to.before; row = k; there = there; breaks = subst (λ x. Breaks x k flaw) to.stands breaks }
+    record { before = to.before; row = k; there = there; breaks = subst (λ x. BreaksFirst x k flaw) to.stands breaks }
 
 -- what rows that follow on come to: the chain over their lines, a number for each, and no earlier day
 pub record ComeTo (h : Head) (rows : List KeptRow) : Type 0 where

@@ -1,3 +1,4 @@
 pub mod ChainLemmas
 pub mod FollowingLemmas
+pub mod Noting
 pub mod Replays

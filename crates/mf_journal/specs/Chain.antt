@@ -2,20 +2,8 @@
 use Rattle.std.specs.Prelude.{◌≡◌, ◌≢◌, ℕ, ◌^◌, ◌<◌, List, [], ◌∷◌, ◌++◌, length}
 use Rattle.std.specs.Int.{w64, to_be_bytes}
 use Rattle.sha2.specs.Sha256.{sha256}
+use Rattle.mf_model.specs.Institution.{JournalLine}
 use Rattle.mf_journal.specs.declared.chain.JournalRow.{JournalRow}
-
--- A line: the business day on which a request was accepted, who sent it, what the front told of it, the request as it
--- was received, and the office and the loan that it names (0 where it names none).
-pub record JournalLine : Type 0 where
-  pub day : ℕ
-  pub office : ℕ
-  pub staff : ℕ
-  pub told : List ℕ
-  pub method : List ℕ
-  pub path : List ℕ
-  pub body : List ℕ
-  pub named_office : ℕ
-  pub named_loan : ℕ
 
 -- the line of a row
 abbrev pub line_of_row : JournalRow → JournalLine

@@ -1,6 +1,7 @@
 -- Lines of a journal that follow on one another: numbers without a gap, days that don't go back, a true chain.
 use Rattle.std.specs.Prelude.{◌≡◌, ◌≢◌, ℕ, ◌≤◌, ◌<◌, suc, List, [], ◌∷◌, take, Some, slice_get}
-use Rattle.mf_journal.specs.Chain.{JournalLine, line_of_row, link}
+use Rattle.mf_model.specs.Institution.{JournalLine}
+use Rattle.mf_journal.specs.Chain.{line_of_row, link}
 use Rattle.mf_journal.specs.declared.chain.JournalRow.{JournalRow}
 use Rattle.mf_journal.specs.declared.following.Break.{Break}
 use Rattle.mf_journal.specs.declared.following.Break.TheVariants.{Number, Day, Chain}
@@ -16,18 +17,18 @@ abbrev pub head_of : KeptRow → Head
 head_of k = record { number = k.number; day = k.row.day; chain = k.chain }
 
 -- the row of a line after which the journal stands so
-abbrev pub row_at : Head → JournalRow → KeptRow
-row_at h row = record { number = h.number; row = row; chain = h.chain }
+abbrev pub kept_at : Head → JournalRow → KeptRow
+kept_at h row = record { number = h.number; row = row; chain = h.chain }
 
 -- the row has the next number, a day that isn't earlier, and the chain over all before it and itself
 abbrev pub Follows : Head → KeptRow → Type 0
 Follows h k = (k.number ≡ suc h.number) × (h.day ≤ k.row.day) × (k.chain ≡ link h.chain (line_of k))
 
 -- this is the first of the three that the row breaks
-abbrev pub Breaks : Head → KeptRow → Break → Type 0
-Breaks h k Number = k.number ≢ suc h.number
-Breaks h k Day = (k.number ≡ suc h.number) × (k.row.day < h.day)
-Breaks h k Chain = (k.number ≡ suc h.number) × (h.day ≤ k.row.day) × (k.chain ≢ link h.chain (line_of k))
+abbrev pub BreaksFirst : Head → KeptRow → Break → Type 0
+BreaksFirst h k Number = k.number ≢ suc h.number
+BreaksFirst h k Day = (k.number ≡ suc h.number) × (k.row.day < h.day)
+BreaksFirst h k Chain = (k.number ≡ suc h.number) × (h.day ≤ k.row.day) × (k.chain ≢ link h.chain (line_of k))
 
 -- where the journal stands after rows
 abbrev pub head_after : Head → List KeptRow → Head
@@ -44,4 +45,4 @@ pub record IsBroken (h : Head) (rows : List KeptRow) (place : ℕ) (flaw : Break
   pub before : FollowOn h (take place rows)
   pub row : KeptRow
   pub there : slice_get rows place ≡ Some row
-  pub breaks : Breaks (head_after h (take place rows)) row flaw
+  pub breaks : BreaksFirst (head_after h (take place rows)) row flaw

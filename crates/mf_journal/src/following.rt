@@ -1,7 +1,7 @@
 //! Rows of a journal that follow on one another, as its table keeps them.
 
 ghost use Rattle.std.specs.Prelude.{◌≡◌, ◌⊎◌, ◌<◌, ◌^◌, suc, IfOk, IfErr, IfSome, IsNone};
-ghost use Rattle.mf_journal.specs.Following.{Follows, Breaks, FollowOn, IsBroken, head_of, head_after, row_at};
+ghost use Rattle.mf_journal.specs.Following.{Follows, BreaksFirst, FollowOn, IsBroken, head_of, head_after, kept_at};
 
 use crate::chain::{JournalRow, link};
 
@@ -38,7 +38,7 @@ impl Head {
     /// Where the journal stands after a row, if it follows on; else the first condition that the row breaks.
     pub fn follow(self, kept: KeptRow<'_>) -> Result<Head, Break>
         ensures follows { IfOk result (λ head. Follows self kept.entry × (head ≡ head_of kept.entry)) }
-        ensures breaks { IfErr result (λ flaw. Breaks self kept.entry flaw) }
+        ensures breaks { IfErr result (λ flaw. BreaksFirst self kept.entry flaw) }
     {
         if self.number.checked_add(1) != Some(kept.number) {
             return Err(Break::Number);
@@ -59,7 +59,7 @@ impl Head {
     /// Where the journal stands once a line is added to it. None where its day is earlier than that of the last line,
     /// or 2^64 - 1 lines stand there.
     pub fn add(self, row: JournalRow<'_>) -> Option<Head>
-        ensures added { IfSome result (λ head. Follows self (row_at head row.entry) × (head.day ≡ row.entry.day)) }
+        ensures added { IfSome result (λ head. Follows self (kept_at head row.entry) × (head.day ≡ row.entry.day)) }
         ensures none { IsNone result → (suc self.number ≡ 2 ^ 64) ⊎ (row.entry.day < self.day) }
     {
         if row.day < self.day {

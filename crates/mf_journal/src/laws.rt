@@ -1,15 +1,15 @@
 //! Laws of journals. Each function does nothing: its contract is the law.
 
-ghost use Rattle.std.specs.Prelude.{◌≡◌, ◌⊎◌, ◌≤◌, ◌+◌, ℕ, List, [], ◌∷◌, length, map};
-ghost use Rattle.mf_model.specs.Institution.{Institution, newly_made};
-ghost use Rattle.mf_model.specs.Run.{Line, last};
-ghost use Rattle.mf_journal.specs.Chain.{JournalLine, IsJournalLine, AreJournalLines, IsCollision};
+ghost use Rattle.std.specs.Prelude.{◌≡◌, ◌⊎◌, ◌≤◌, ◌+◌, ℕ, List, [], ◌∷◌, length, map, Option, None};
+ghost use Rattle.mf_model.specs.Institution.{Institution, JournalLine, newly_made};
+ghost use Rattle.mf_model.specs.Run.{Line, answers, last};
+ghost use Rattle.mf_journal.specs.Chain.{IsJournalLine, AreJournalLines, IsCollision};
 ghost use Rattle.mf_journal.specs.Chain.{text_of_line, chain_after};
 ghost use Rattle.mf_journal.specs.Following.{FollowOn, head_after, line_of};
-ghost use Rattle.mf_journal.specs.Journal.{journal_of, IsPlayOf};
+ghost use Rattle.mf_journal.specs.Journal.{writes_of, line_of_write, with_lines, with_other_journal, IsPlayOf};
 ghost use Rattle.mf_journal.specs.declared.following.Head.{Head};
 ghost use Rattle.mf_journal.specs.declared.following.KeptRow.{KeptRow};
-ghost use Rattle.mf_journal.specs.WorkedJournal.{morning, of_morning};
+ghost use Rattle.mf_journal.specs.WorkedJournal.{morning, of_morning, lines_of_morning};
 
 /// No two lines of a journal have one text.
 pub fn one_text_one_line()
@@ -40,13 +40,30 @@ pub fn one_head_one_journal()
         ((h.chain ≡ g.chain) × (map line_of xs ≡ map line_of ys)) ⊎ ((s : List ℕ) × (t : List ℕ) × IsCollision s t) }
 {}
 
-/// What any run leaves of an institution is the play of the run's journal: its accepted writes alone, again accepted,
-/// on the same days and with the same replies.
-pub fn journal_replays()
-    ensures { (i : Institution) (run : List Line) → IsPlayOf (journal_of run i) i (last run i) }
+/// After any run the journal has what it had, and then one line for each request that was accepted and changed
+/// something, in order: its business day, who sent it, its text, and what its reply names.
+pub fn a_run_is_noted()
+    ensures { (i : Institution) (run : List Line) → (last run i).journal
+        ≡ with_lines (map line_of_write (writes_of run i)) i.journal }
 {}
 
-/// Worked out: what is read, refused or given up has no line of the journal.
+/// Nothing that is answered, and no row, depends on the journal: with another one, or with none, any run is answered
+/// alike and leaves the same institution but for the journal.
+pub fn no_answer_depends_on_the_journal()
+    ensures answers { (i : Institution) (run : List Line) (journal : Option (List JournalLine)) →
+        answers run (with_other_journal journal i) ≡ answers run i }
+    ensures rows { (i : Institution) (run : List Line) (journal : Option (List JournalLine)) →
+        with_other_journal None (last run (with_other_journal journal i)) ≡ with_other_journal None (last run i) }
+{}
+
+/// What any run leaves of an institution is the play of the run's accepted writes alone: again accepted, on the same
+/// days and with the same replies.
+pub fn writes_replay()
+    ensures { (i : Institution) (run : List Line) → IsPlayOf (writes_of run i) i (last run i) }
+{}
+
+/// Worked out: what is read, refused or given up is no accepted write, and the lines of those that are.
 pub fn worked_journal()
-    ensures { (day : ℕ) → journal_of morning (newly_made day) ≡ of_morning day }
+    ensures writes { (day : ℕ) → writes_of morning (newly_made day) ≡ of_morning day }
+    ensures lines { (day : ℕ) → map line_of_write (of_morning day) ≡ lines_of_morning day }
 {}

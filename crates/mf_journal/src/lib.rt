@@ -4,6 +4,8 @@
 pub mod chain;
 pub mod following;
 pub mod laws;
+pub mod repayments;
 
 pub use chain::{JournalRow, link};
 pub use following::{Break, Head, KeptRow};
+pub use repayments::{repayment_body, repayment_path};

@@ -5,7 +5,7 @@ use Rattle.std.specs.Prelude.{◌==◌, Result}
 use Rattle.std.proofs.lemmas.Bool.Decides.{nat_tests}
 use Rattle.mf_base.specs.declared.fault.Fault.{Fault}
 use Rattle.mf_office.specs.declared.caller.Caller.{Caller}
-use Rattle.mf_model.specs.declared.request.Call.{Call}
+use Rattle.mf_model.specs.Calls.{Call}
 use Rattle.mf_model.specs.Institution.{Institution, Catalogue, Office, Rows, office_at, with_rows, with_office}
 use Rattle.mf_model.specs.Institution.{Catalogue_becomes, Rows_become, Office_added, newly_made}
 use Rattle.mf_model.specs.Tree.{IsTree}

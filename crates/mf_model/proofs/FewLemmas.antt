@@ -14,6 +14,7 @@ use Rattle.mf_model.specs.declared.reply.Reply.{Reply}
 use Rattle.mf_model.specs.declared.reply.Reply.TheVariants.{ArrearsShown}
 use Rattle.mf_model.specs.declared.request.Request.TheVariants.{SeenArrears}
 use Rattle.mf_model.specs.Accounts.{account_in}
+use Rattle.mf_model.specs.Calls.{Received}
 use Rattle.mf_model.specs.Arrears.{aged_loan, if_active, active_in, arrears_line, arrears_seen, list_arrears}
 use Rattle.mf_model.specs.Desk.{On_all_seen, need, meets, carried_out, where_permitted, staff_at, reply_in, reply}
 use Rattle.mf_model.specs.Institution.{Institution, Catalogue, Ledger, Office, Staff}
@@ -101,8 +102,8 @@ few_permitted c i lines (Some staff) sound e = go (meets (need SeenArrears) staf
         (arrears_few c.office i sound)
     go false told = absurd (let never : reply_in (Err F3) ≡ Ok (ArrearsShown lines) = told in cc)
 
-pub told_few : (caller : Option Caller) (i : Institution) (lines : List OfficeLine) → IsSound i
-    → reply (record { caller = caller; request = SeenArrears }) i ≡ Ok (ArrearsShown lines)
+pub told_few : (caller : Option Caller) (received : Received) (i : Institution) (lines : List OfficeLine) → IsSound i
+    → reply (record { caller = caller; request = SeenArrears; received = received }) i ≡ Ok (ArrearsShown lines)
     → sum_by (λ (l : OfficeLine). l.loans) lines ≤ 10 ^ 10
-told_few None i lines sound e = absurd (let never : reply_in (Err F2) ≡ Ok (ArrearsShown lines) = e in cc)
-told_few (Some c) i lines sound e = few_permitted c i lines (staff_at i c) sound e
+told_few None received i lines sound e = absurd (let never : reply_in (Err F2) ≡ Ok (ArrearsShown lines) = e in cc)
+told_few (Some c) received i lines sound e = few_permitted c i lines (staff_at i c) sound e

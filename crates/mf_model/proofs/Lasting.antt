@@ -3,9 +3,9 @@ use Rattle.std.proofs.Common.{◌≡◌, ℕ, Bool, true, false, cond, List, [],
 use Rattle.std.proofs.Common.{ap, ◌∙◌}
 use Rattle.std.specs.Prelude.{is_some, option_map}
 use Rattle.mf_office.specs.declared.account.Account.{Account}
-use Rattle.mf_model.specs.declared.request.Call.{Call}
+use Rattle.mf_model.specs.Calls.{Call}
 use Rattle.mf_model.specs.Institution.{Institution, Office, Rows, Ledger, office_at, with_rows, with_office, new_office}
-use Rattle.mf_model.specs.Institution.{Change, Catalogue_becomes, Rows_become, Office_added, after, after_maybe}
+use Rattle.mf_model.specs.Institution.{Change, Catalogue_becomes, Rows_become, Office_added, after, after_line}
 use Rattle.mf_model.specs.Institution.{item_numbered}
 use Rattle.mf_model.specs.Tree.{is_there, Fits}
 use Rattle.mf_catalog.specs.declared.terms.Terms.{Terms}
@@ -17,7 +17,7 @@ use Rattle.std.proofs.lemmas.Bool.{cases_eq}
 use Rattle.mf_model.specs.Accounts.{account_in, running_from, of_account, status_in}
 use Rattle.mf_model.specs.Receipts.{Use, uses_from, first_use}
 use Rattle.mf_model.specs.Desk.{plan, change_in, outcome}
-use Rattle.mf_model.specs.Run.{Line, next, last}
+use Rattle.mf_model.specs.Run.{Line, next, last, noted_of}
 use Rattle.mf_model.specs.Sound.{IsSoundLoan, is_staff, IsSound, IsInRange, AreInRange}
 use Rattle.mf_model.proofs.Steps.{known_line}
 use Rattle.mf_model.proofs.Confined.{others_stay, old_stay}
@@ -43,7 +43,7 @@ next_grows : (l : Line) (i : Institution) → IsSound i → IsInRange l.call.req
 next_grows l i s r = step l.given_up (change_in (outcome l.call i)) refl
   where
     step : (g : Bool) (c : Option Change) → change_in (outcome l.call i) ≡ c
-        → Grows i.catalogue (after_maybe (cond g None c) i).catalogue
+        → Grows i.catalogue (after_line (noted_of l.call i) (cond g None c) i).catalogue
     step true c e = grows_self i.catalogue
     step false None e = grows_self i.catalogue
     step false (Some change) e = change_grows change i (accepted_change l.call i change s r e)
@@ -106,7 +106,7 @@ next_known : (l : Line) (i : Institution) (x : ℕ) (receipt : List ℕ) (u : Us
 next_known l i x receipt u s r h = step l.given_up (change_in (outcome l.call i)) refl
   where
     step : (g : Bool) (c : Option Change) → change_in (outcome l.call i) ≡ c
-        → use_at x receipt (after_maybe (cond g None c) i) ≡ Some u
+        → use_at x receipt (after_line (noted_of l.call i) (cond g None c) i) ≡ Some u
     step true c e = h
     step false None e = h
     step false (Some change) e =

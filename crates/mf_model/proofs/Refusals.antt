@@ -20,7 +20,7 @@ use Rattle.mf_account.specs.Refusals.{is_out_of_limits, refusal_of, reversal_ref
 use Rattle.mf_model.specs.declared.loan.Stage.{Stage}
 use Rattle.mf_model.specs.declared.reply.Reply.{Reply}
 use Rattle.mf_model.specs.declared.reply.LoanReply.{LoanReply}
-use Rattle.mf_model.specs.declared.request.Call.{Call}
+use Rattle.mf_model.specs.Calls.{Call}
 use Rattle.mf_model.specs.declared.request.Flaw.TheVariants.{Malformed, NoRoute, NoMethod}
 use Rattle.mf_model.specs.declared.request.Application.{Application}
 use Rattle.mf_model.specs.declared.request.CatalogueRequest.{CatalogueRequest}

@@ -6,13 +6,13 @@ use Rattle.std.proofs.lemmas.Bool.Decides.{nat_tests}
 use Rattle.mf_base.specs.declared.fault.Fault.{Fault}
 use Rattle.mf_base.specs.declared.fault.Fault.TheVariants.{F20}
 use Rattle.mf_office.specs.declared.caller.Caller.{Caller}
-use Rattle.mf_model.specs.declared.request.Call.{Call}
+use Rattle.mf_model.specs.Calls.{Call, bare}
 use Rattle.mf_model.specs.declared.reply.Reply.{Reply}
-use Rattle.mf_model.specs.Institution.{Institution, Change, after, after_maybe}
+use Rattle.mf_model.specs.Institution.{Institution, Change, after, after_maybe, after_line}
 use Rattle.mf_model.specs.Tree.{view, touches, IsTree}
 use Rattle.mf_model.specs.Desk.{plan, outcome, reply_in, change_in, reply, effect}
 use Rattle.mf_model.specs.Run.{Line, change_of_line, answer, next, answers, last, is_of, is_by, from_office}
-use Rattle.mf_model.specs.Run.{from_caller}
+use Rattle.mf_model.specs.Run.{from_caller, noted_of}
 use Rattle.mf_model.specs.Run.{replies_to, is_touched, Touch, touching_list, play_one, play, play_replies, given_up}
 use Rattle.mf_model.specs.Run.{but_given_up, NoneGivenUp, Alike}
 use Rattle.mf_model.specs.Store.{left_by, left_after}
@@ -31,14 +31,14 @@ known_of l i change t h = known_line l.call.caller l.call.request (plan l.call.r
 pub IsTree_next : (l : Line) (i : Institution) → IsTree i.offices → IsTree (next l i).offices
 IsTree_next l i t = step (change_of_line l i) refl
   where
-    step : (c : Option Change) → change_of_line l i ≡ c → IsTree (after_maybe c i).offices
+    step : (c : Option Change) → change_of_line l i ≡ c → IsTree (after_line (noted_of l.call i) c i).offices
     step None e = t
     step (Some change) e = IsTree_after change i t (known_of l i change t e).fits
 
 -- an entry of the touching list takes the view along, and any other line leaves it
 pub view_next : (o : ℕ) (l : Line) (i : Institution) → IsTree i.offices → (b : Bool)
     → (from_office o l.call || is_touched o i (change_of_line l i)) ≡ b → view o (next l i)
-    ≡ cond b (play_one (record { call = l.call; accepted = is_some (change_of_line l i) }) (view o i)) (view o i)
+    ≡ cond b (play_one (record { call = bare l.call; accepted = is_some (change_of_line l i) }) (view o i)) (view o i)
 view_next o l i t b is = step (change_of_line l i) refl b is
   where
     none : (b : Bool) → view o i ≡ cond b (view o i) (view o i)
@@ -66,7 +66,8 @@ view_next o l i t b is = step (change_of_line l i) refl b is
         ∙ ap (λ c. cond c (after_maybe (effect l.call (view o i)) (view o i)) (view o i)) is
 
     step : (c : Option Change) → change_of_line l i ≡ c → (b : Bool) → (from_office o l.call || is_touched o i c) ≡ b
-        → view o (after_maybe c i) ≡ cond b (play_one (record { call = l.call; accepted = is_some c }) (view o i))
+        → view o (after_line (noted_of l.call i) c i)
+            ≡ cond b (play_one (record { call = bare l.call; accepted = is_some c }) (view o i))
         (view o i)
     step None e b is = none b
     step (Some change) e b is = goes change e (from_office o l.call) (touches o i change) refl refl b is
@@ -79,11 +80,11 @@ isolated_view o (l ∷ ls) i t = isolated_view o ls (next l i) (IsTree_next l i 
     ∙ step (from_office o l.call || is_touched o i (change_of_line l i)) refl
   where
     this : Touch
-    this = record { call = l.call; accepted = is_some (change_of_line l i) }
+    this = record { call = bare l.call; accepted = is_some (change_of_line l i) }
 
     step : (b : Bool) → (from_office o l.call || is_touched o i (change_of_line l i)) ≡ b
         → play (touching_list o ls (next l i)) (view o (next l i))
-        ≡ play (cond b (record { call = l.call; accepted = is_some (change_of_line l i) }
+        ≡ play (cond b (record { call = bare l.call; accepted = is_some (change_of_line l i) }
         ∷ touching_list o ls (next l i))
         (touching_list o ls (next l i))) (view o i)
     step true is = ap (play (touching_list o ls (next l i))) (view_next o l i t true is)
@@ -97,41 +98,45 @@ own_reply : (o : ℕ) (l : Line) (i : Institution) → IsTree i.offices → from
     → answer l i ≡ cond l.given_up (Err F20) (reply l.call (view o i))
 own_reply o l i t own = ap (cond l.given_up (Err F20)) (sym (reply_view o l.call i t own))
 
--- calls that are meant are all from office o
-abbrev pub AreFrom : ℕ → (Call → Bool) → Type 0
-AreFrom o meant = (call : Call) → meant call ≡ true → from_office o call ≡ true
+-- calls that are meant are all from office o, and meant whatever their text is
+pub record AreFrom (o : ℕ) (meant : Call → Bool) : Type 0 where
+  pub own : (call : Call) → meant call ≡ true → from_office o call ≡ true
+  pub alike : (call : Call) → meant (bare call) ≡ meant call
 
 listed_where_own : (own now : Bool) → own ≡ true → (own || now) ≡ true
 listed_where_own own now e = ap (λ b. b || now) e
 
 replies_step : (o : ℕ) (meant : Call → Bool) (l : Line) (ls : List Line) (i : Institution) → IsTree i.offices
-    → (meant l.call ≡ true → from_office o l.call ≡ true) → replies_to meant ls (answers ls (next l i))
-    ≡ but_given_up (given_up meant ls) (play_replies meant (touching_list o ls (next l i)) (view o (next l i)))
+    → (meant l.call ≡ true → from_office o l.call ≡ true) → meant (bare l.call) ≡ meant l.call
+    → replies_to meant ls (answers ls (next l i))
+        ≡ but_given_up (given_up meant ls) (play_replies meant (touching_list o ls (next l i)) (view o (next l i)))
     → (own listed : Bool) → meant l.call ≡ own → (from_office o l.call || is_touched o i (change_of_line l i)) ≡ listed
     → cond own (answer l i ∷ replies_to meant ls (answers ls (next l i))) (replies_to meant ls (answers ls (next l i)))
     ≡ but_given_up (cond own (l.given_up ∷ given_up meant ls) (given_up meant ls))
-    (play_replies meant (cond listed (record { call = l.call; accepted = is_some (change_of_line l i) }
+    (play_replies meant (cond listed (record { call = bare l.call; accepted = is_some (change_of_line l i) }
     ∷ touching_list o ls (next l i)) (touching_list o ls (next l i))) (view o i))
-replies_step o meant l ls i t from rest true true me le =
-    let this : Touch = record { call = l.call; accepted = is_some (change_of_line l i) } in
+replies_step o meant l ls i t from alike rest true true me le =
+    let this : Touch = record { call = bare l.call; accepted = is_some (change_of_line l i) } in
     let ts = touching_list o ls (next l i) in
     let moved : view o (next l i) ≡ play_one this (view o i) = view_next o l i t true le in
     ap (λ r. r ∷ replies_to meant ls (answers ls (next l i))) (own_reply o l i t (from me))
     ∙ ap (λ rs. cond l.given_up (Err F20) (reply l.call (view o i)) ∷ rs)
     (rest ∙ ap (λ v. but_given_up (given_up meant ls) (play_replies meant ts v)) moved)
     ∙ sym (ap (λ b. but_given_up (l.given_up ∷ given_up meant ls) (cond b (reply l.call (view o i)
-    ∷ play_replies meant ts (play_one this (view o i))) (play_replies meant ts (play_one this (view o i))))) me)
-replies_step o meant l ls i t from rest true false me le =
+    ∷ play_replies meant ts (play_one this (view o i))) (play_replies meant ts (play_one this (view o i)))))
+        (alike ∙ me))
+replies_step o meant l ls i t from alike rest true false me le =
     absurd (let both : (from_office o l.call || is_touched o i (change_of_line l i)) ≡ true = listed_where_own
     (from_office o l.call) (is_touched o i (change_of_line l i)) (from me) in cc)
-replies_step o meant l ls i t from rest false true me le =
-    let this : Touch = record { call = l.call; accepted = is_some (change_of_line l i) } in
+replies_step o meant l ls i t from alike rest false true me le =
+    let this : Touch = record { call = bare l.call; accepted = is_some (change_of_line l i) } in
     let ts = touching_list o ls (next l i) in
     let moved : view o (next l i) ≡ play_one this (view o i) = view_next o l i t true le in
     rest ∙ ap (λ v. but_given_up (given_up meant ls) (play_replies meant ts v)) moved
     ∙ sym (ap (λ b. but_given_up (given_up meant ls) (cond b (reply l.call (view o i)
-    ∷ play_replies meant ts (play_one this (view o i))) (play_replies meant ts (play_one this (view o i))))) me)
-replies_step o meant l ls i t from rest false false me le =
+    ∷ play_replies meant ts (play_one this (view o i))) (play_replies meant ts (play_one this (view o i)))))
+        (alike ∙ me))
+replies_step o meant l ls i t from alike rest false false me le =
     rest ∙ ap (λ v. but_given_up (given_up meant ls) (play_replies meant (touching_list o ls (next l i)) v))
     (view_next o l i t false le)
 
@@ -140,19 +145,20 @@ pub isolated_replies : (o : ℕ) (meant : Call → Bool) → AreFrom o meant →
     → IsTree i.offices → replies_to meant ls (answers ls i) ≡ but_given_up (given_up meant ls)
     (play_replies meant (touching_list o ls i) (view o i))
 isolated_replies o meant from [] i t = refl
-isolated_replies o meant from (l ∷ ls) i t = replies_step o meant l ls i t (from l.call) (isolated_replies o meant from
+isolated_replies o meant from (l ∷ ls) i t = replies_step o meant l ls i t (from.own l.call) (from.alike l.call)
+    (isolated_replies o meant from
     ls (next l i) (IsTree_next l i t)) (meant l.call) (from_office o l.call || is_touched o i (change_of_line l i)) refl
     refl
 
 pub office_from : (o : ℕ) → AreFrom o (from_office o)
-office_from o call h = h
+office_from o = record { own = λ call h. h; alike = λ call. refl }
 
 by_is_of : (c : Caller) (caller : Option Caller) → is_by c caller ≡ true → is_of c.office caller ≡ true
 by_is_of c None h = h
 by_is_of c (Some d) h = grind (arith, nat_tests)
 
 pub caller_from : (c : Caller) → AreFrom c.office (from_caller c)
-caller_from c call h = by_is_of c call.caller h
+caller_from c = record { own = λ call h. by_is_of c call.caller h; alike = λ call. refl }
 
 -- where no line is given up these are all
 pub none_given_up : (meant : Call → Bool) (ls : List Line) (rs : List (Result Reply Fault)) → NoneGivenUp ls
@@ -217,7 +223,8 @@ last-push [] l i = refl
 last-push (k ∷ ls) l i = last-push ls l (next k i)
 
 pub left_after-push : (ls : List Line) (l : Line) (i : Institution) (is : List Institution) → left_after (ls ++ l ∷ [])
-    i is ≡ left_by (change_in (outcome l.call (last ls i))) l.given_up (last ls i) (left_after ls i is)
+    i is ≡ left_by (noted_of l.call (last ls i)) (change_in (outcome l.call (last ls i))) l.given_up (last ls i)
+        (left_after ls i is)
 left_after-push [] l i is = refl
 left_after-push (k ∷ ls) l i is =
-    left_after-push ls l (next k i) (left_by (change_in (outcome k.call i)) k.given_up i is)
+    left_after-push ls l (next k i) (left_by (noted_of k.call i) (change_in (outcome k.call i)) k.given_up i is)

@@ -15,7 +15,7 @@ use Rattle.mf_office.specs.declared.caller.Caller.{Caller}
 use Rattle.mf_office.specs.declared.account.Account.{Account}
 use Rattle.mf_office.specs.Numbers.{IsNumberUpTo}
 use Rattle.mf_office.specs.Tree.{IsTreeOf}
-use Rattle.mf_model.specs.declared.request.Call.{Call}
+use Rattle.mf_model.specs.Calls.{Call}
 use Rattle.mf_model.specs.declared.request.Request.{Request}
 use Rattle.mf_model.specs.declared.request.Request.TheVariants as request
 use Rattle.mf_model.specs.declared.request.CatalogueRequest.{CatalogueRequest}
@@ -45,7 +45,8 @@ use Rattle.mf_model.specs.declared.reply.Reply.TheVariants.{ProductRetired, Loan
 use Rattle.mf_model.specs.Institution.{Institution, Catalogue, ListedCharge, ListedProduct, Office, Rows, Staff, Ledger}
 use Rattle.mf_model.specs.Institution.{no_rows}
 use Rattle.mf_model.specs.Institution.{product_of, charge_in, product_in, office_at, with_rows, with_office, new_office}
-use Rattle.mf_model.specs.Institution.{Change, Catalogue_becomes, Rows_become, Office_added, after, after_maybe}
+use Rattle.mf_model.specs.Institution.{Change, Catalogue_becomes, Rows_become, Office_added, after, after_line}
+use Rattle.mf_model.specs.Institution.{after_noted, Noted}
 use Rattle.mf_model.specs.Institution.{newly_made, item_numbered, with_numbered}
 use Rattle.mf_model.specs.Tree.{parent_of, is_there, Fits}
 use Rattle.mf_catalog.specs.declared.charge.ChargeDef.{ChargeDef}
@@ -74,7 +75,7 @@ use Rattle.mf_model.specs.Loans.{on_loan, loan_changed, of_loan, in_loan, loan_a
 use Rattle.mf_model.specs.Loans.{list_loans}
 use Rattle.mf_model.specs.Desk.{Plan, plan, on_office, in_office, of_office, of_catalogue, change_in, sender_effect}
 use Rattle.mf_model.specs.Desk.{outcome, staff_at, where_permitted, sent_by}
-use Rattle.mf_model.specs.Run.{Line, next, last}
+use Rattle.mf_model.specs.Run.{Line, next, last, noted_of}
 use Rattle.mf_model.specs.Sound.{IsName, AreMembers, IsSoundCharge, IsSoundOffer, IsSoundCatalogue, IsSoundLoan}
 use Rattle.mf_model.specs.Sound.{IsEntryBy, AreEntered, AreEntriesBy, is_staff, lends, IsSoundRows, IsSoundOffice}
 use Rattle.mf_model.specs.Sound.{IsSound, IsCatalogueInRange, IsOfficeInRange, IsRepayment, IsLoanInRange, IsInRange}
@@ -968,13 +969,19 @@ accepted_sound call i change s r h =
     let k = known_line call.caller call.request (plan call.request) i change s.tree refl h in
     sound_after change i s k.fits (by_sound call.caller call.request i change s r h k.made_is)
 
+-- what is noted doesn't matter
+pub noted_sound : (noted : Noted) (change : Change) (i : Institution) → IsSound (after change i)
+    → IsSound (after_noted noted change i)
+noted_sound noted change i s = record { catalogue = s.catalogue; tree = s.tree; each = s.each }
+
 pub next_sound : (l : Line) (i : Institution) → IsSound i → IsInRange l.call.request → IsSound (next l i)
 next_sound l i s r = step l.given_up (change_in (outcome l.call i)) refl
   where
-    step : (g : Bool) (c : Option Change) → change_in (outcome l.call i) ≡ c → IsSound (after_maybe (cond g None c) i)
+    step : (g : Bool) (c : Option Change) → change_in (outcome l.call i) ≡ c
+        → IsSound (after_line (noted_of l.call i) (cond g None c) i)
     step true c e = s
     step false None e = s
-    step false (Some change) e = accepted_sound l.call i change s r e
+    step false (Some change) e = noted_sound (noted_of l.call i) change i (accepted_sound l.call i change s r e)
 
 pub last_sound : (ls : List Line) (i : Institution) → IsSound i → AreInRange ls → IsSound (last ls i)
 last_sound [] i s r = s

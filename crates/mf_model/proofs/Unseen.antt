@@ -10,6 +10,7 @@ use Rattle.mf_office.specs.declared.account.Account.{Account}
 use Rattle.mf_model.specs.declared.reply.Reply.{Reply}
 use Rattle.mf_model.specs.declared.reply.Reply.TheVariants.{ClientShown}
 use Rattle.mf_model.specs.declared.request.LoanRequest.{LoanRequest}
+use Rattle.mf_model.specs.Calls.{Received}
 use Rattle.mf_model.specs.Institution.{Institution, Catalogue, Office, Staff, Ledger, item_numbered, office_at}
 use Rattle.mf_model.specs.Institution.{product_in}
 use Rattle.mf_model.specs.Tree.{parent_of, seen_office}
@@ -103,9 +104,9 @@ abbrev refused_for : Asked → Account → Caller → Option Staff → Result Re
 refused_for asked a c None = Err F2
 refused_for asked a c (Some s) = cond (meets (need (asked_of asked a)) s.role c.office) (Err F4) (Err F3)
 
-refused_unseen : (asked : Asked) (a : Account) (c : Caller) (i : Institution) → IsUnseen c asked a i
-    → reply (call_from c (asked_of asked a)) i ≡ refused_for asked a c (staff_at i c)
-refused_unseen (Of_loan asked) a c i u = at (staff_at i c)
+refused_unseen : (asked : Asked) (a : Account) (c : Caller) (r : Received) (i : Institution) → IsUnseen c asked a i
+    → reply (call_from c (asked_of asked a) r) i ≡ refused_for asked a c (staff_at i c)
+refused_unseen (Of_loan asked) a c r i u = at (staff_at i c)
   where
     at : (staff : Option Staff) → reply_in (where_permitted c (asked_of (Of_loan asked) a)
         (On_office a.office (λ caller catalogue f. in_loan a (on_loan asked caller catalogue f.rows a.number) f.rows))
@@ -117,7 +118,7 @@ refused_unseen (Of_loan asked) a c i u = at (staff_at i c)
             (Err F3)) ≡ cond b (Err F4) (Err F3)
         permitted true = ap reply_in (carried_unseen (Of_loan asked) a c i u)
         permitted false = refl
-refused_unseen Of_client a c i u = at (staff_at i c)
+refused_unseen Of_client a c r i u = at (staff_at i c)
   where
     at : (staff : Option Staff) → reply_in (where_permitted c (asked_of Of_client a)
         (On_office a.office (λ caller catalogue f. show_client a.office a.number f.rows)) staff i)
@@ -129,7 +130,7 @@ refused_unseen Of_client a c i u = at (staff_at i c)
             ≡ cond b (Err F4) (Err F3)
         permitted true = ap reply_in (carried_unseen Of_client a c i u)
         permitted false = refl
-refused_unseen (Loan_to_client product principal periods) a c i u = at (staff_at i c)
+refused_unseen (Loan_to_client product principal periods) a c r i u = at (staff_at i c)
   where
     at : (staff : Option Staff) → reply_in (where_permitted c (asked_of (Loan_to_client product principal periods) a)
         (On_office a.office (λ caller catalogue f. submit a.office (record {
@@ -153,16 +154,18 @@ need_of (Of_loan asked) a b = refl
 need_of Of_client a b = refl
 need_of (Loan_to_client product principal periods) a b = refl
 
-pub unseen_alike : (asked : Asked) (a b : Account) (c : Caller) (i : Institution) → IsUnseen c asked a i
-    → IsUnseen c asked b i → reply (call_from c (asked_of asked a)) i ≡ reply (call_from c (asked_of asked b)) i
-unseen_alike asked a b c i u v = refused_unseen asked a c i u ∙ at (staff_at i c) ∙ sym (refused_unseen asked b c i v)
+pub unseen_alike : (asked : Asked) (a b : Account) (c : Caller) (r s : Received) (i : Institution)
+    → IsUnseen c asked a i → IsUnseen c asked b i
+    → reply (call_from c (asked_of asked a) r) i ≡ reply (call_from c (asked_of asked b) s) i
+unseen_alike asked a b c r s i u v =
+    refused_unseen asked a c r i u ∙ at (staff_at i c) ∙ sym (refused_unseen asked b c s i v)
   where
     at : (staff : Option Staff) → refused_for asked a c staff ≡ refused_for asked b c staff
     at None = refl
-    at (Some s) = ap (λ n. cond (meets n s.role c.office) (Err F4) (Err F3)) (need_of asked a b)
+    at (Some f) = ap (λ n. cond (meets n f.role c.office) (Err F4) (Err F3)) (need_of asked a b)
 
-pub unseen_refused : (asked : Asked) (a : Account) (c : Caller) (s : Staff) (i : Institution) → IsUnseen c asked a i
-    → staff_at i c ≡ Some s → meets (need (asked_of asked a)) s.role c.office ≡ true
-    → reply (call_from c (asked_of asked a)) i ≡ Err F4
-unseen_refused asked a c s i u known may = refused_unseen asked a c i u ∙ ap (refused_for asked a c) known
+pub unseen_refused : (asked : Asked) (a : Account) (c : Caller) (r : Received) (s : Staff) (i : Institution)
+    → IsUnseen c asked a i → staff_at i c ≡ Some s → meets (need (asked_of asked a)) s.role c.office ≡ true
+    → reply (call_from c (asked_of asked a) r) i ≡ Err F4
+unseen_refused asked a c r s i u known may = refused_unseen asked a c r i u ∙ ap (refused_for asked a c) known
     ∙ ap (λ b. cond b (Err F4) (Err F3)) may

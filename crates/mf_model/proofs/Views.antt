@@ -7,7 +7,7 @@ use Rattle.mf_office.specs.declared.staff.Role.{Role}
 use Rattle.mf_office.specs.declared.staff.Role.TheVariants.{Teller, Officer, Manager}
 use Rattle.mf_base.specs.declared.fault.Fault.{Fault}
 use Rattle.mf_office.specs.declared.caller.Caller.{Caller}
-use Rattle.mf_model.specs.declared.request.Call.{Call}
+use Rattle.mf_model.specs.Calls.{Call}
 use Rattle.mf_model.specs.declared.request.Request.{Request}
 use Rattle.mf_model.specs.declared.request.Request.TheVariants.{NewOffice}
 use Rattle.mf_model.specs.Institution.{Institution, Office, Rows, Staff, office_at, with_rows, with_office, new_office}
@@ -131,11 +131,11 @@ view_after o (Rows_become x rows) i t fit =
     ≡ offices_where (λ z. is_at_or_below (parent_of fs) z o) (with_rows x rows fs) =
     kept_agree (λ z. is_at_or_below (parent_of (with_rows x rows fs)) z o) (λ z. is_at_or_below (parent_of fs) z o)
     (with_rows x rows fs) (λ z there. below_with_rows x rows fs z o) in
-    ap (λ gs. record i { offices = gs })
+    ap (λ gs. record (view o i) { offices = gs })
     (now ∙ kept_with_rows (λ z. is_at_or_below (parent_of fs) z o) x rows fs
     ∙ with_rows_seen (λ z. is_at_or_below (parent_of fs) z o) x rows fs
     (is_at_or_below (parent_of (with_rows x rows fs)) x o) (sym (below_with_rows x rows fs x o)))
-    ∙ record_cond (is_at_or_below (parent_of (with_rows x rows fs)) x o) i (with_rows x rows (seen_by o fs))
+    ∙ record_cond (is_at_or_below (parent_of (with_rows x rows fs)) x o) (view o i) (with_rows x rows (seen_by o fs))
     (seen_by o fs)
 view_after o (Office_added number parent name) i t fit =
     let fs = i.offices in
@@ -144,10 +144,10 @@ view_after o (Office_added number parent name) i t fit =
     kept_agree (λ z. is_at_or_below (parent_of (with_office new fs)) z o) (λ z. is_at_or_below (parent_of fs) z o)
     fs (λ z there. below_with_office new fs z o fit.free (closed fs number t fit.free)
     (apart fs z number there fit.free)) in
-    ap (λ gs. record i { offices = gs })
+    ap (λ gs. record (view o i) { offices = gs })
     (kept_with_office (λ z. is_at_or_below (parent_of (with_office new fs)) z o) new fs t.ascending
     ∙ ap (λ gs. cond (is_at_or_below (parent_of (with_office new fs)) number o) (with_office new gs) gs) old)
-    ∙ record_cond (is_at_or_below (parent_of (with_office new fs)) number o) i (with_office new (seen_by o fs))
+    ∙ record_cond (is_at_or_below (parent_of (with_office new fs)) number o) (view o i) (with_office new (seen_by o fs))
     (seen_by o fs)
 
 parents_there_after : (new : Office) (p : ℕ) (fs : List Office) → IsTree fs → is_there fs new.number ≡ false

@@ -1,6 +1,6 @@
 -- Runs in which no line is given up.
 use Rattle.std.specs.Prelude.{false, List, map}
-use Rattle.mf_model.specs.declared.request.Call.{Call}
+use Rattle.mf_model.specs.Calls.{Call}
 use Rattle.mf_model.specs.Run.{Line}
 
 -- the call's line, which is not given up

@@ -1,7 +1,7 @@
 -- An institution: what all offices share, and for each office its own rows. Within an office things are numbered by
 -- their places, from 1. Texts are lists of bytes, days are numbers of days.
-use Rattle.std.specs.Prelude.{ℕ, ◌-◌, Bool, cond, List, [], ◌∷◌, ◌==◌, nat_lt, slice_get, option_map, Option, Some}
-use Rattle.std.specs.Prelude.{None, codes}
+use Rattle.std.specs.Prelude.{ℕ, ◌-◌, Bool, cond, List, [], ◌∷◌, ◌++◌, ◌==◌, nat_lt, slice_get, option_map}
+use Rattle.std.specs.Prelude.{Option, Some, None, codes}
 use Rattle.mf_catalog.specs.declared.charge.ChargeDef.{ChargeDef}
 use Rattle.mf_catalog.specs.declared.charge.ChargeKind.{ChargeKind}
 use Rattle.mf_catalog.specs.declared.charge.Calc.{Calc}
@@ -12,6 +12,8 @@ use Rattle.mf_office.specs.declared.staff.Role.TheVariants.{Manager}
 use Rattle.mf_office.specs.declared.caller.Caller.{Caller}
 use Rattle.mf_account.specs.declared.entry.Entry.{Entry}
 use Rattle.mf_model.specs.declared.loan.Loan.{Loan}
+use Rattle.mf_model.specs.declared.reply.Names.{Names}
+use Rattle.mf_model.specs.Calls.{Received}
 
 -- a charge of the catalogue
 pub record ListedCharge : Type 0 where
@@ -55,10 +57,31 @@ pub record Office : Type 0 where
   pub name : List ℕ
   pub rows : Rows
 
--- the offices stand by number
+-- what is noted of an accepted request: who sent it, its text, and what its reply names
+pub record Noted : Type 0 where
+  pub caller : Option Caller
+  pub received : Received
+  pub names : Names
+
+-- a line of the journal: the business day on which a request was accepted, who sent it, its text, and the office and
+-- the loan that its reply names (0 where it names none)
+pub record JournalLine : Type 0 where
+  pub day : ℕ
+  pub office : ℕ
+  pub staff : ℕ
+  pub told : List ℕ
+  pub method : List ℕ
+  pub path : List ℕ
+  pub body : List ℕ
+  pub named_office : ℕ
+  pub named_loan : ℕ
+
+-- the offices stand by number; where a journal is kept, it has a line for each request that was accepted and changed
+-- something, in order
 pub record Institution : Type 0 where
   pub catalogue : Catalogue
   pub offices : List Office
+  pub journal : Option (List JournalLine)
 
 -- what an accepted write changes: one thing, its target
 pub data Change : Type 0 where
@@ -129,7 +152,40 @@ abbrev pub after_maybe : Option Change → Institution → Institution
 after_maybe None i = i
 after_maybe (Some change) i = after change i
 
--- a new institution on a day: the head office with its manager, and nothing else
+-- who sent a request; nobody is numbered 0
+abbrev pub sender_of : Option Caller → Caller
+sender_of None = record { office = 0; staff = 0 }
+sender_of (Some c) = c
+
+-- the line that notes a request on a business day
+abbrev pub noted_line : ℕ → Noted → JournalLine
+noted_line day n = record {
+  day = day;
+  office = (sender_of n.caller).office;
+  staff = (sender_of n.caller).staff;
+  told = n.received.told;
+  method = n.received.method;
+  path = n.received.path;
+  body = n.received.body;
+  named_office = n.names.office;
+  named_loan = n.names.loan;
+}
+
+-- the journal with a line more, where one is kept
+abbrev pub with_line : JournalLine → Option (List JournalLine) → Option (List JournalLine)
+with_line line journal = option_map (λ lines. lines ++ line ∷ []) journal
+
+-- the institution after a change that was accepted on its business day, which the journal notes with it
+abbrev pub after_noted : Noted → Change → Institution → Institution
+after_noted noted change i =
+    record (after change i) { journal = with_line (noted_line i.catalogue.day noted) i.journal }
+
+-- the same where there may be none
+abbrev pub after_line : Noted → Option Change → Institution → Institution
+after_line noted None i = i
+after_line noted (Some change) i = after_noted noted change i
+
+-- a new institution on a day: the head office with its manager, and nothing else; it keeps no journal
 abbrev pub newly_made : ℕ → Institution
 newly_made day = record {
   catalogue = record { day = day; charges = []; products = [] };
@@ -139,4 +195,5 @@ newly_made day = record {
     name = codes "Head Office";
     rows = record { staff = record { name = codes "Head Manager"; role = Manager } ∷ []; clients = []; loans = [] };
   } ∷ [];
+  journal = None;
 }

@@ -1,12 +1,14 @@
 -- Whole runs, and what of a run concerns one office.
 use Rattle.std.specs.Prelude.{◌≡◌, ℕ, Bool, false, cond, ◌&&◌, ◌||◌, List, [], ◌∷◌, is_some, ◌==◌, Option, Some, None}
-use Rattle.std.specs.Prelude.{Result, Err}
+use Rattle.std.specs.Prelude.{Result, Ok, Err}
 use Rattle.mf_base.specs.declared.fault.Fault.{Fault}
 use Rattle.mf_base.specs.declared.fault.Fault.TheVariants.{F20}
 use Rattle.mf_office.specs.declared.caller.Caller.{Caller}
-use Rattle.mf_model.specs.declared.request.Call.{Call}
+use Rattle.mf_model.specs.Calls.{Call, bare}
 use Rattle.mf_model.specs.declared.reply.Reply.{Reply}
-use Rattle.mf_model.specs.Institution.{Institution, Change, after_maybe}
+use Rattle.mf_model.specs.declared.reply.Names.{Names}
+use Rattle.mf_model.specs.Names.{names_in, no_names}
+use Rattle.mf_model.specs.Institution.{Institution, Change, Noted, after_maybe, after_line}
 use Rattle.mf_model.specs.Tree.{view, touches}
 use Rattle.mf_model.specs.Desk.{outcome, change_in, reply, effect}
 
@@ -19,13 +21,22 @@ pub record Line : Type 0 where
 abbrev pub change_of_line : Line → Institution → Option Change
 change_of_line l i = cond l.given_up None (change_in (outcome l.call i))
 
+-- what a reply names
+abbrev pub named_by : Result Reply Fault → Names
+named_by (Ok reply) = names_in reply
+named_by (Err fault) = no_names
+
+-- what the journal notes of a call
+abbrev pub noted_of : Call → Institution → Noted
+noted_of call i = record { caller = call.caller; received = call.received; names = named_by (reply call i) }
+
 -- what the line is answered
 abbrev pub answer : Line → Institution → Result Reply Fault
 answer l i = cond l.given_up (Err F20) (reply l.call i)
 
 -- the institution after the line
 abbrev pub next : Line → Institution → Institution
-next l i = after_maybe (change_of_line l i) i
+next l i = after_line (noted_of l.call i) (change_of_line l i) i
 
 -- the replies to the lines, in order
 abbrev pub answers : List Line → Institution → List (Result Reply Fault)
@@ -66,7 +77,7 @@ abbrev pub is_touched : ℕ → Institution → Option Change → Bool
 is_touched o i None = false
 is_touched o i (Some change) = touches o i change
 
--- a request of the touching list
+-- a request of the touching list, without its text
 pub record Touch : Type 0 where
   pub call : Call
   pub accepted : Bool
@@ -76,7 +87,7 @@ abbrev pub touching_list : ℕ → List Line → Institution → List Touch
 touching_list o [] i = []
 touching_list o (l ∷ ls) i =
     cond (from_office o l.call || is_touched o i (change_of_line l i))
-    (record { call = l.call; accepted = is_some (change_of_line l i) } ∷ touching_list o ls (next l i))
+    (record { call = bare l.call; accepted = is_some (change_of_line l i) } ∷ touching_list o ls (next l i))
     (touching_list o ls (next l i))
 
 -- a view after an entry of the touching list: the change is read off the view

@@ -22,7 +22,8 @@ use Rattle.mf_account.specs.Loan.{DisbursedLoan}
 use Rattle.mf_account.specs.Refusals.{reversal_refused}
 use Rattle.mf_account.specs.Standing.{with_mark}
 use Rattle.mf_model.specs.Institution.{Institution, Catalogue, Office, Rows, Staff, Ledger, Change, Catalogue_becomes}
-use Rattle.mf_model.specs.Institution.{Rows_become, Office_added, after, office_at, no_rows, item_numbered}
+use Rattle.mf_model.specs.Institution.{Rows_become, Office_added, Noted, after, after_noted, office_at, no_rows}
+use Rattle.mf_model.specs.Institution.{item_numbered}
 use Rattle.mf_model.specs.Catalogue.{day_set, charge_added, product_added, product_retired}
 use Rattle.mf_model.specs.Offices.{staff_added, client_added}
 use Rattle.mf_model.specs.declared.loan.ReceiptUse.{ReceiptUse}
@@ -30,7 +31,7 @@ use Rattle.mf_model.specs.Accounts.{account_in, statement, instalments_in}
 use Rattle.mf_model.specs.Receipts.{Use, uses_from, first_use}
 use Rattle.mf_model.specs.Loans.{loan_added, loan_staged, loan_entered, lines_above}
 use Rattle.mf_model.specs.Desk.{staff_at, outcome, change_in}
-use Rattle.mf_model.specs.Run.{Line, next}
+use Rattle.mf_model.specs.Run.{Line, next, noted_of}
 use Rattle.mf_model.specs.Sound.{IsSound}
 
 -- the rows of an office, none where it is not there
@@ -124,9 +125,13 @@ change_of (AddEntry loan account) i =
 change_of (ReverseEntry loan seq account) i =
     Rows_become loan.office (loan_entered loan.number account.loan.entries (rows_at loan.office i))
 
--- the institution after a commit
+-- the institution after a commit, but for what is noted of it
 abbrev pub after_commit : Commit → Institution → Institution
 after_commit commit i = after (change_of commit i) i
+
+-- the institution after a commit that notes this of its request
+abbrev pub after_noted_commit : Commit → Noted → Institution → Institution
+after_noted_commit commit noted i = after_noted noted (change_of commit i) i
 
 -- entries with one more
 abbrev pub OneMore : List Entry → List Entry → Type 0
@@ -161,14 +166,15 @@ pub record IsAdmitted (commit : Commit) (i : Institution) : Type 0 where
 
 -- What a stop after a call may leave, where before it left one of these: a change that was made; and where the call
 -- gave up, its change or what was there.
-abbrev pub left_by : Option Change → Bool → Institution → List Institution → List Institution
-left_by None given_up i is = is
-left_by (Some change) given_up i is = after change i ∷ cond given_up is []
+abbrev pub left_by : Noted → Option Change → Bool → Institution → List Institution → List Institution
+left_by noted None given_up i is = is
+left_by noted (Some change) given_up i is = after_noted noted change i ∷ cond given_up is []
 
 -- the same after the lines of a run
 abbrev pub left_after : List Line → Institution → List Institution → List Institution
 left_after [] i is = is
-left_after (l ∷ ls) i is = left_after ls (next l i) (left_by (change_in (outcome l.call i)) l.given_up i is)
+left_after (l ∷ ls) i is =
+    left_after ls (next l i) (left_by (noted_of l.call i) (change_in (outcome l.call i)) l.given_up i is)
 
 -- A store, as its calls see it: which institution it stands for, whether the disk has so far returned what was written,
 -- and whether a stop at this moment leaves one of these institutions, whole.
@@ -182,15 +188,22 @@ module _ {S : Type 0} (stands : S → Institution → Type 0) (clean : S → Typ
     pub gives_up : IfErr result (λ fault. fault ≡ F20)
     pub stop : clean new → (is : List Institution) → leaves old is → leaves new is
 
-  -- A call that makes a change whole or, giving up, not at all. Once it is made a stop leaves it; where the call gave
-  -- up a stop may leave it or not.
-  pub record Commits (commit : Commit) (old new : S) (result : Result (Unit {0}) Fault) : Type 0 where
+  -- A call that makes this of each institution that admits it, whole or, giving up, not at all. Once it is made a stop
+  -- leaves it; where the call gave up a stop may leave it or not.
+  pub record Makes (admits : Institution → Type 0) (becomes : Institution → Institution) (old new : S)
+      (result : Result (Unit {0}) Fault) : Type 0 where
     pub premise : clean new → clean old
-    pub made : clean new → (i : Institution) → stands old i → IsAdmitted commit i
-        → OnOk result (stands new (after_commit commit i))
-    pub kept : clean new → (i : Institution) → stands old i → IsAdmitted commit i
-        → OnOk result (leaves new (after_commit commit i ∷ []))
+    pub made : clean new → (i : Institution) → stands old i → admits i → OnOk result (stands new (becomes i))
+    pub kept : clean new → (i : Institution) → stands old i → admits i → OnOk result (leaves new (becomes i ∷ []))
     pub same : clean new → (i : Institution) → stands old i → OnErr result (stands new i)
     pub gives_up : IfErr result (λ fault. fault ≡ F20)
-    pub stop : clean new → (i : Institution) (is : List Institution) → stands old i → IsAdmitted commit i
-        → leaves old is → leaves new (after_commit commit i ∷ is)
+    pub stop : clean new → (i : Institution) (is : List Institution) → stands old i → admits i
+        → leaves old is → leaves new (becomes i ∷ is)
+
+  -- a call that makes a commit which may be made, and notes this of its request
+  abbrev pub Commits : Commit → Noted → S → S → Result (Unit {0}) Fault → Type 0
+  Commits commit noted = Makes (IsAdmitted commit) (after_noted_commit commit noted)
+
+  -- the same where nothing is noted
+  abbrev pub CommitsUnnoted : Commit → S → S → Result (Unit {0}) Fault → Type 0
+  CommitsUnnoted commit = Makes (IsAdmitted commit) (after_commit commit)

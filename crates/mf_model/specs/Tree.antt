@@ -22,9 +22,9 @@ offices_where p fs = filter (λ f. p f.number) fs
 abbrev pub seen_by : ℕ → List Office → List Office
 seen_by o fs = offices_where (λ x. is_at_or_below (parent_of fs) x o) fs
 
--- what o sees: what all share, and the rows of the offices at or below it
+-- what o sees: what all share, and the rows of the offices at or below it, and no journal
 abbrev pub view : ℕ → Institution → Institution
-view o i = record { catalogue = i.catalogue; offices = seen_by o i.offices }
+view o i = record { catalogue = i.catalogue; offices = seen_by o i.offices; journal = None }
 
 -- office x, where o sees it
 abbrev pub seen_office : ℕ → ℕ → Institution → Option Office

@@ -3,7 +3,7 @@ use Rattle.std.specs.Prelude.{◌≡◌, ◌⊎◌, ℕ, Bool, false, is_some, S
 use Rattle.mf_office.specs.Tree.{is_at_or_below}
 use Rattle.mf_office.specs.declared.caller.Caller.{Caller}
 use Rattle.mf_office.specs.declared.account.Account.{Account}
-use Rattle.mf_model.specs.declared.request.Call.{Call}
+use Rattle.mf_model.specs.Calls.{Received, Call}
 use Rattle.mf_model.specs.declared.request.LoanRequest.{LoanRequest}
 use Rattle.mf_model.specs.declared.request.OfficeRequest.TheVariants.{ShowClient, SubmitLoan}
 use Rattle.mf_model.specs.declared.request.Request.{Request}
@@ -42,6 +42,6 @@ abbrev pub IsUnseen : Caller → Asked → Account → Institution → Type 0
 IsUnseen c asked account i = (is_at_or_below (parent_of i.offices) account.office c.office ≡ false)
     ⊎ (is_account_there asked account i ≡ false)
 
--- this caller sends a request
-abbrev pub call_from : Caller → Request → Call
-call_from c request = record { caller = Some c; request = request }
+-- this caller sends a request in this text
+abbrev pub call_from : Caller → Request → Received → Call
+call_from c request received = record { caller = Some c; request = request; received = received }

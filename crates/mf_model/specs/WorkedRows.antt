@@ -33,6 +33,7 @@ use Rattle.mf_catalog.specs.declared.charge.Calc.TheVariants.{Flat}
 use Rattle.mf_catalog.specs.declared.product.ProductMembers.{ProductMembers}
 use Rattle.mf_catalog.specs.declared.terms.Method.TheVariants.{EqualPrincipal}
 use Rattle.mf_catalog.specs.declared.terms.StrategyName.TheVariants.{MifosStandard}
+use Rattle.mf_model.specs.Calls.{nothing_received}
 use Rattle.mf_model.specs.Run.{Line}
 
 -- a member of staff as a caller
@@ -66,7 +67,9 @@ status_reply status = Ok (reply.Loan (account 1 1) (Status status))
 
 -- a line that is not given up, and what it is answered
 abbrev pub row : Option Caller → Request → Result Reply Fault → Line × Result Reply Fault
-row caller request reply = (record { call = record { caller = caller; request = request }; given_up = false }, reply)
+row caller request reply =
+    (record { call = record { caller = caller; request = request; received = nothing_received }; given_up = false },
+        reply)
 
 -- a client is entered and read
 abbrev pub first_day : List (Line × Result Reply Fault)

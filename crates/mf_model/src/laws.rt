@@ -22,9 +22,10 @@ ghost use Rattle.mf_model.specs.WorkedEntries.{refunding, writing_off, receipt_o
 ghost use Rattle.mf_model.specs.WorkedArrears.{thirty_days, interest_left};
 ghost use Rattle.mf_base.specs.DayText.{last_entered_day};
 ghost use Rattle.mf_office.specs.Tree.{IsTreeOf};
-ghost use Rattle.mf_model.specs.declared.request.Call.{Call};
+ghost use Rattle.mf_model.specs.Calls.{Call, Received};
 ghost use Rattle.mf_model.specs.Run.{Line, ViewIsPlay, RepliesArePlay, OwnRepliesArePlay, Alike, NoneGivenUp};
 ghost use Rattle.mf_model.specs.Run.{from_office, from_caller, given_up, replies_to, answer, answers, last, next};
+ghost use Rattle.mf_model.specs.Run.{noted_of};
 ghost use Rattle.mf_model.specs.Run.{touching_list, play_replies};
 ghost use Rattle.mf_model.specs.Store.{left_by, left_after, ledger_at, account_of, use_at};
 ghost use Rattle.mf_model.specs.declared.request.Repayment.{Repayment};
@@ -55,8 +56,8 @@ pub fn longer_run()
     ensures last { (lines : List Line) (line : Line) (i : Institution) → last (lines ++ line ∷ []) i
         ≡ next line (last lines i) }
     ensures left { (lines : List Line) (line : Line) (i : Institution) (is : List Institution) →
-        left_after (lines ++ line ∷ []) i is ≡ left_by (change_in (outcome line.call (last lines i))) line.given_up
-        (last lines i) (left_after lines i is) }
+        left_after (lines ++ line ∷ []) i is ≡ left_by (noted_of line.call (last lines i))
+        (change_in (outcome line.call (last lines i))) line.given_up (last lines i) (left_after lines i is) }
 {}
 
 /// Whatever lines come, the view of every office is its touching list played on its first view, and what its
@@ -105,12 +106,12 @@ pub fn alike_but_given_up()
 /// A client or a loan that the caller may not see, and one that isn't there, are answered alike, whatever their
 /// accounts are: with F4, where the caller is known and its role may ask.
 pub fn hidden_is_missing()
-    ensures same { (asked : Asked) (a b : Account) (c : Caller) (i : Institution) → IsUnseen c asked a i
-        → IsUnseen c asked b i →
-        reply (call_from c (asked_of asked a)) i ≡ reply (call_from c (asked_of asked b)) i }
-    ensures refusal { (asked : Asked) (a : Account) (c : Caller) (s : Staff) (i : Institution) → IsUnseen c asked a i →
-        staff_at i c ≡ Some s → meets (need (asked_of asked a)) s.role c.office ≡ true
-        → reply (call_from c (asked_of asked a)) i ≡ Err Fault.F4 }
+    ensures same { (asked : Asked) (a b : Account) (c : Caller) (r s : Received) (i : Institution)
+        → IsUnseen c asked a i → IsUnseen c asked b i →
+        reply (call_from c (asked_of asked a) r) i ≡ reply (call_from c (asked_of asked b) s) i }
+    ensures refusal { (asked : Asked) (a : Account) (c : Caller) (r : Received) (s : Staff) (i : Institution)
+        → IsUnseen c asked a i → staff_at i c ≡ Some s → meets (need (asked_of asked a)) s.role c.office ≡ true
+        → reply (call_from c (asked_of asked a) r) i ≡ Err Fault.F4 }
 {}
 
 /// No call is answered F20 by the definitions: a line is told it only where it is given up.
@@ -262,8 +263,9 @@ pub fn worked_arrears()
 pub fn arrears_can_be_summed()
     ensures seen { (o : ℕ) (i : Institution) → IsSound i → sum_by (λ (line : OfficeLine). line.loans)
         (arrears_seen o i) ≤ 10 ^ 10 }
-    ensures told { (caller : Option Caller) (i : Institution) (lines : List OfficeLine) → IsSound i →
-        reply (record { caller = caller; request = SeenArrears }) i ≡ Ok (ArrearsShown lines)
+    ensures told { (caller : Option Caller) (received : Received) (i : Institution) (lines : List OfficeLine)
+        → IsSound i →
+        reply (record { caller = caller; request = SeenArrears; received = received }) i ≡ Ok (ArrearsShown lines)
         → sum_by (λ (line : OfficeLine). line.loans) lines ≤ 10 ^ 10 }
 {}
 

@@ -7,6 +7,7 @@ pub mod laws;
 mod listing;
 mod loan;
 mod names;
+mod note;
 mod reply;
 mod request;
 mod store;
@@ -16,10 +17,11 @@ pub use commit::Commit;
 pub use listing::{ArrearsList, LoanList, OfficeList};
 pub use loan::{Loan, LoanLine, ReceiptUse, Stage, Statement};
 pub use names::is_name;
-pub use reply::{LoanReply, Reply};
+pub use note::{Note, ReceivedText, RepaymentText, RequestText};
+pub use reply::{LoanReply, Names, Reply};
 pub use request::{
-    Application, Call, CatalogueRequest, Flaw, LoanRequest, LoanStep, OfficeRequest, PlainStep,
-    Posting, Repayment, Request,
+    Application, CatalogueRequest, Flaw, LoanRequest, LoanStep, OfficeRequest, PlainStep, Posting,
+    Repayment, Request,
 };
 pub use store::{CatalogueCounts, Counts, InstitutionStore, MOST_IN_CATALOGUE};
 pub use waivable::Waivable;

@@ -1,11 +1,21 @@
 //! The replies to requests that are accepted.
 
+ghost use Rattle.std.specs.Prelude.{◌≡◌};
+ghost use Rattle.mf_model.specs.Names.{names_in, names_of_loan};
+
 use crate::listing::{ArrearsList, LoanList, OfficeList};
 use crate::loan::Statement;
 use mf_base::Day;
 use mf_catalog::{ChargeDef, Product};
 use mf_office::{Account, Caller, Name, OfficeNo};
 use mf_statement::{EntryList, InstalmentList};
+
+/// The office and the loan that a reply names; 0 where it names none.
+#[derive(Clone, Copy)]
+pub struct Names {
+    pub office: u32,
+    pub loan: u32,
+}
 
 /// What is told of one loan.
 #[derive(Drop)]
@@ -61,4 +71,36 @@ pub enum Reply {
     LoansShown(LoanList),
     /// A line of active loans for each office, by number.
     ArrearsShown(ArrearsList),
+}
+
+impl Names {
+    fn of_office(office: u32) -> Names
+        ensures { result ≡ record { office = office; loan = 0 } }
+    {
+        Names { office, loan: 0 }
+    }
+
+    fn of_loan(loan: &Account) -> Names
+        ensures { result ≡ names_of_loan loan.now }
+    {
+        Names {
+            office: loan.office.get(),
+            loan: loan.number.get(),
+        }
+    }
+}
+
+impl Reply {
+    /// What the reply to an accepted change names: the office that has what is new or changed, and the loan.
+    pub fn names(&self) -> Names
+        ensures { result ≡ names_in self.now }
+    {
+        match self {
+            Reply::OfficeMade(number) => Names::of_office(number.get()),
+            Reply::StaffMade(staff) => Names::of_office(staff.office.get()),
+            Reply::ClientMade(client) => Names::of_office(client.office.get()),
+            Reply::LoanMade(loan) | Reply::Loan { loan, .. } => Names::of_loan(loan),
+            _ => Names::of_office(0),
+        }
+    }
 }

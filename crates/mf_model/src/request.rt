@@ -7,7 +7,7 @@ use crate::waivable::Waivable;
 use mf_account::Receipt;
 use mf_base::{Day, Fault};
 use mf_catalog::{Calc, ChargeKind, ProductMembers};
-use mf_office::{Account, AccountNo, Caller, Name, OfficeNo, Role};
+use mf_office::{Account, AccountNo, Name, OfficeNo, Role};
 
 /// Why a line reads as no request.
 #[derive(Clone, Copy, PartialEq, Eq)]
@@ -186,11 +186,4 @@ pub enum Request {
         parent: OfficeNo,
         name: Name,
     },
-}
-
-/// A request and who sends it, if the line names anybody.
-#[derive(Drop)]
-pub struct Call {
-    pub caller: Option<Caller>,
-    pub request: Request,
 }

@@ -3,6 +3,7 @@
 use crate::commit::Commit;
 use crate::listing::{ArrearsList, LoanList, OfficeList};
 use crate::loan::{Loan, ReceiptUse, Statement};
+use crate::note::Note;
 use mf_account::{LoanAccount, Receipt};
 use mf_base::{Day, Fault};
 use mf_catalog::{ChargeDef, Product};
@@ -40,6 +41,7 @@ pub trait InstitutionStore {
     ghost use Rattle.mf_model.specs.Desk.{office_shown};
     ghost use Rattle.mf_model.specs.Arrears.{arrears_seen};
     ghost use Rattle.mf_model.specs.Sound.{IsSound};
+    ghost use Rattle.mf_model.specs.Notes.{noted_now};
     ghost use Rattle.mf_model.specs.Store.{Reads, Commits, role_of, counts_at, client_at, catalogue_counts, loan_at};
     ghost use Rattle.mf_model.specs.Store.{loan_with_account_at, statement_at, instalments_at, receipt_at, loans_at};
 
@@ -135,9 +137,9 @@ pub trait InstitutionStore {
         ensures { Reads stands clean leaves (arrears_seen to) self.old self.new result };
 
     /// Makes a change that leaves the institution sound. Where it hands on an account, that is the loan's after the
-    /// change.
-    fn commit(&mut self, alloc: Global, commit: Commit) -> Result<(), Fault>
-        ensures { Commits stands clean leaves commit self.old self.new result };
+    /// change. Where a journal is kept, it notes the request in the same commit.
+    fn commit(&mut self, alloc: Global, commit: Commit, note: Note<'_>) -> Result<(), Fault>
+        ensures { Commits stands clean leaves commit (noted_now note.entry) self.old self.new result };
 
     /// An institution that a store stands for is sound.
     ghost sound: { (store : Self) (i : Institution) → stands store i → IsSound i };

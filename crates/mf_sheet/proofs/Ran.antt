@@ -10,7 +10,7 @@ use Rattle.mf_office.specs.declared.caller.Caller.{Caller}
 use Rattle.mf_model.specs.declared.reply.Reply.{Reply}
 use Rattle.mf_model.specs.Institution.{Institution}
 use Rattle.mf_model.specs.Desk.{outcome, change_in}
-use Rattle.mf_model.specs.Run.{Line, answer, next, answers, NoneGivenUp}
+use Rattle.mf_model.specs.Run.{Line, answer, next, noted_of, answers, NoneGivenUp}
 use Rattle.mf_model.specs.Store.{left_by}
 use Rattle.mf_model.specs.declared.store.InstitutionStore.{Ghosts}
 use Rattle.mf_sheet_lines.specs.declared.results.SheetResult.{SheetResult}
@@ -54,7 +54,9 @@ module _ {S : Type 0} (store : Ghosts S) (caller : Caller) where
           follows = more.follows;
           given_up = subst (OnlyF20GivesUp (l ∷ more.run)) (sym replied) (only_F20 (l ∷ more.run) i);
           with_memory = λ none. none_given_up (l ∷ more.run) i (subst NoResultIsF20 replied none);
-          stop = λ is h. more.stop (left_by (change_in (outcome (call_by caller f) i)) w.0 i is) (w.1.stop is h);
+          stop = λ is h. more.stop
+              (left_by (noted_of (call_by caller f) i) (change_in (outcome (call_by caller f) i)) w.0 i
+              is) (w.1.stop is h);
         };
   }
 

@@ -15,11 +15,12 @@ use Rattle.mf_model.specs.declared.loan.ReceiptUse.{ReceiptUse}
 use Rattle.mf_model.specs.declared.reply.Reply.TheVariants as reply
 use Rattle.mf_model.specs.declared.reply.LoanReply.TheVariants as told
 use Rattle.mf_model.specs.Institution.{Institution, Ledger, Office, Staff, Change, Catalogue_becomes, Rows_become}
-use Rattle.mf_model.specs.Institution.{Office_added, new_office, office_at, item_numbered, after, after_maybe}
+use Rattle.mf_model.specs.Institution.{Office_added, new_office, office_at, item_numbered, Noted, after, after_noted}
+use Rattle.mf_model.specs.Institution.{after_line}
 use Rattle.mf_model.specs.Tree.{parent_of, seen_office, is_there, Fits}
 use Rattle.mf_model.specs.Desk.{outcome, reply_in, change_in, plan, staff_at}
 use Rattle.mf_model.specs.Receipts.{Use, use_by, use_of, uses_in, uses_from, first_use, repeated_seq}
-use Rattle.mf_model.specs.Run.{Line, next, last}
+use Rattle.mf_model.specs.Run.{Line, next, noted_of, last}
 use Rattle.mf_model.specs.Answering.{line_answered}
 use Rattle.mf_model.specs.Sound.{IsSound, IsInRange, AreInRange}
 use Rattle.mf_model.specs.Store.{rows_of, use_at}
@@ -143,6 +144,12 @@ module _ (c : Caller) (r : SheetRepayment) (seq : ℕ) (i : Institution) (t : Ta
       (sym (ap (λ (u : Use). repeated_seq r.loan.number r.amount r.day u.by) same) ∙ w.1.same) t.same in
       w.2 ∙ ap (λ n. Ok (reply.Loan r.loan (told.Repeated n), None)) number
 
+-- what is noted doesn't matter
+taken_noted : (c : Caller) (r : SheetRepayment) (seq : ℕ) (noted : Noted) (change : Change) (i : Institution)
+    → Taken c r seq (after change i) → Taken c r seq (after_noted noted change i)
+taken_noted c r seq noted change i t =
+    record { known = t.known; sees = t.sees; was = t.was; used_is = t.used_is; same = t.same }
+
 -- it is taken wherever it is accepted
 module _ (c : Caller) (r : SheetRepayment) (seq : ℕ) (i : Institution) where
   repeats : (n : ℕ) → Repeating c r i n → IsTaken r.loan seq (Ok (reply.Loan r.loan (told.Repeated n)))
@@ -179,8 +186,10 @@ module _ (c : Caller) (r : SheetRepayment) (seq : ℕ) (i : Institution) where
   taken_next : IsTaken r.loan seq (reply_in (outcome (call_of_line c (Repay r)) i))
       → Taken c r seq (next (line_answered (call_of_line c (Repay r))) i)
   taken_next =
-      every_repayment c r i (λ o t. IsTaken r.loan seq (reply_in o) → Taken c r seq (after_maybe (change_in o) i))
-      (λ fault taken. absurd (elim taken [ inl e ↦ cc | inr e ↦ cc ])) repeats enters
+      let noted : Noted = noted_of (call_of_line c (Repay r)) i in
+      every_repayment c r i (λ o t. IsTaken r.loan seq (reply_in o) → Taken c r seq (after_line noted (change_in o) i))
+      (λ fault taken. absurd (elim taken [ inl e ↦ cc | inr e ↦ cc ])) repeats
+      (λ w taken. taken_noted c r seq noted (entered_change c r i w) i (enters w taken))
 
 -- it stays taken, whatever line comes
 module _ (c : Caller) (r : SheetRepayment) (seq : ℕ) where
@@ -214,14 +223,15 @@ module _ (c : Caller) (r : SheetRepayment) (seq : ℕ) where
       r.loan.office r.receipt t.was t.used_is)
     where
       step : (g : Bool) (o : Option Change) → change_in (outcome l.call i) ≡ o → use_at r.loan.office r.receipt
-          (after_maybe (cond g None o) i) ≡ Some t.was → Taken c r seq (after_maybe (cond g None o) i)
+          (after_line (noted_of l.call i) (cond g None o) i) ≡ Some t.was
+          → Taken c r seq (after_line (noted_of l.call i) (cond g None o) i)
       step true o e used = t
       step false None e used = t
       step false (Some change) e used =
           let w : KnownLine l.call.caller (plan l.call.request) i change =
           known_line l.call.caller l.call.request (plan l.call.request) i change s.tree refl e in
-          taken_after change i s w.fits (by_sound l.call.caller l.call.request i change s range e w.made_is) t (used
-          ∙ sym t.used_is)
+          taken_noted c r seq (noted_of l.call i) change i (taken_after change i s w.fits
+          (by_sound l.call.caller l.call.request i change s range e w.made_is) t (used ∙ sym t.used_is))
 
   taken_last : (ls : List Line) (i : Institution) → IsSound i → AreInRange ls → Taken c r seq i
       → Taken c r seq (last ls i)

@@ -4,9 +4,9 @@ use Rattle.std.proofs.Common.{◌∙◌, subst}
 use Rattle.std.specs.Prelude.{◌⊎◌}
 use Rattle.mf_base.specs.declared.fault.Fault.TheVariants.{F20}
 use Rattle.mf_office.specs.declared.caller.Caller.{Caller}
-use Rattle.mf_model.specs.Institution.{Institution, Change, after, after_maybe}
+use Rattle.mf_model.specs.Institution.{Institution, Change, after_line, after_noted}
 use Rattle.mf_model.specs.Desk.{outcome, reply, change_in}
-use Rattle.mf_model.specs.Run.{Line, answers, last, next, NoneGivenUp}
+use Rattle.mf_model.specs.Run.{Line, answers, last, next, noted_of, NoneGivenUp}
 use Rattle.mf_model.specs.Answering.{line_answered, all_answered}
 use Rattle.mf_model.specs.declared.store.InstitutionStore.{Ghosts}
 use Rattle.mf_sheet_lines.specs.Lines.{sheet_line_of}
@@ -38,12 +38,13 @@ entered_or_not (Refused fault) = inr (λ e. cc)
 nothing_becomes : (c : Caller) (line : SheetLine) (i : Institution) → told_on c line i ≢ Entered → next_on c line i ≡ i
 nothing_becomes c Bad i n = refl
 nothing_becomes c (Repay r) i n =
-    ap (λ (o : Option Change). after_maybe o i) (unless_entered c r i (λ e. n (judged_is c r i ∙ e)))
+    ap (λ (o : Option Change). after_line (noted_of (call_of_line c (Repay r)) i) o i)
+    (unless_entered c r i (λ e. n (judged_is c r i ∙ e)))
 
 becomes : (c : Caller) (r : SheetRepayment) (i : Institution) (w : Entering c r i)
     → change_in (outcome (call_of_line c (Repay r)) i) ≡ Some (entered_change c r i w) → next_on c (Repay r) i
-    ≡ after (entered_change c r i w) i
-becomes c r i w e = ap (λ (o : Option Change). after_maybe o i) e
+    ≡ after_noted (noted_of (call_of_line c (Repay r)) i) (entered_change c r i w) i
+becomes c r i w e = ap (λ (o : Option Change). after_line (noted_of (call_of_line c (Repay r)) i) o i) e
 
 -- a line that is sent again at once
 told_at_once : (c : Caller) (line : SheetLine) (i : Institution) → IsToldAgain (told_on c line i)
@@ -71,7 +72,8 @@ told_after_one c (Repay r) d (Repay q) i n =
     elim (entered_or_not (judged d q i)) [
       | inl is ↦
           let s = entered_so d q i is in
-          let told : IsToldAgain (judged c r i) (judged c r (after (entered_change d q i s.0) i)) =
+          let told : IsToldAgain (judged c r i)
+          (judged c r (after_noted (noted_of (call_of_line d (Repay q)) i) (entered_change d q i s.0) i)) =
           told_now d q i s.0 c r (λ e. n (judged_is c r i ∙ e)) in
           subst (λ t. IsToldAgain t (told_on c (Repay r) (next_on d (Repay q) i))) (sym (judged_is c r i)) (
           subst (IsToldAgain (judged c r i)) (sym (judged_is c r (next_on d (Repay q) i)

@@ -1,8 +1,9 @@
 -- A sheet's lines as calls, and what they are told as results.
-use Rattle.std.specs.Prelude.{Some, List, ℕ, Result, Ok, Err}
+use Rattle.std.specs.Prelude.{Some, List, [], ℕ, Result, Ok, Err}
 use Rattle.mf_base.specs.declared.fault.Fault.{Fault}
 use Rattle.mf_office.specs.declared.caller.Caller.{Caller}
-use Rattle.mf_model.specs.declared.request.Call.{Call}
+use Rattle.mf_model.specs.Calls.{Received, Call, nothing_received}
+use Rattle.mf_model.specs.Notes.{repayment_received}
 use Rattle.mf_model.specs.declared.request.Request.{Request}
 use Rattle.mf_model.specs.declared.request.Request.TheVariants as request
 use Rattle.mf_model.specs.declared.request.Flaw.TheVariants.{Malformed}
@@ -22,9 +23,15 @@ request_of_line Bad = request.Unreadable Malformed
 request_of_line (Repay r) =
     request.Loan r.loan (asks.Repay (record { amount = r.amount; day = r.day; receipt = Some r.receipt }))
 
+-- the text of a line: that of its repayment, sent as a request
+abbrev pub received_of_line : SheetLine → Received
+received_of_line Bad = nothing_received
+received_of_line (Repay r) = repayment_received [] r.loan r.amount r.day r.receipt
+
 -- the call of a line that somebody sends
 abbrev pub call_of_line : Caller → SheetLine → Call
-call_of_line c line = record { caller = Some c; request = request_of_line line }
+call_of_line c line =
+    record { caller = Some c; request = request_of_line line; received = received_of_line line }
 
 -- the call of a line of these fields
 abbrev pub call_by : Caller → List (List ℕ) → Call

@@ -4,30 +4,56 @@ ghost use Rattle.std.specs.Prelude.{◌≡◌, IfOk, IfErr};
 ghost use Rattle.mf_model.specs.Sound.{IsInRange};
 ghost use Rattle.mf_desk.specs.Runs.{Calls};
 ghost use Rattle.mf_sheet_lines.specs.Lines.{IsLineInRange};
-ghost use Rattle.mf_sheet.specs.Lines.{request_of_line, result_of_success, call_of_line, result_of, outcome_of};
+ghost use Rattle.mf_model.specs.Notes.{received_now};
+ghost use Rattle.mf_sheet.specs.Lines.{request_of_line, received_of_line, result_of_success, call_of_line, result_of};
+ghost use Rattle.mf_sheet.specs.Lines.{outcome_of};
 
 use mf_base::Fault;
 use mf_desk::answer;
-use mf_model::{Flaw, InstitutionStore, LoanReply, LoanRequest, Repayment, Reply, Request};
+use mf_model::{
+    Flaw, InstitutionStore, LoanReply, LoanRequest, ReceivedText, Repayment, RepaymentText, Reply,
+    Request, RequestText,
+};
 use mf_office::Caller;
 use mf_sheet_lines::{SheetLine, SheetResult};
-use std::alloc::Global;
+use std::alloc::{AllocError, Global};
 
-/// What a line asks of the desk. A bad line reads as no request.
-fn request_of(line: SheetLine) -> Request
-    ensures value { result ≡ request_of_line line }
-    ensures in_range { IsLineInRange line → IsInRange result }
+/// What a line asks of the desk. A bad line reads as no request. It fails only when out of memory.
+fn request_of(line: &SheetLine) -> Result<Request, AllocError>
+    ensures value { IfOk result (λ request. request ≡ request_of_line line.now) }
+    ensures in_range { IsLineInRange line.now → IfOk result IsInRange }
 {
     match line {
-        SheetLine::Bad => Request::Unreadable(Flaw::Malformed),
-        SheetLine::Repay(repayment) => Request::Loan {
+        SheetLine::Bad => Ok(Request::Unreadable(Flaw::Malformed)),
+        SheetLine::Repay(repayment) => Ok(Request::Loan {
             loan: repayment.loan,
             asked: LoanRequest::Repay(Repayment {
                 amount: repayment.amount,
                 day: repayment.day,
-                receipt: Some(repayment.receipt),
+                receipt: Some(repayment.receipt.clone()?),
             }),
-        },
+        }),
+    }
+}
+
+/// The text of a line: that of its repayment, sent as a request.
+fn text_of(line: &SheetLine) -> RequestText<'_>
+    ensures { received_now result ≡ received_of_line line.now }
+{
+    match line {
+        SheetLine::Bad => RequestText::Received(ReceivedText {
+            told: [].as_slice(),
+            method: [].as_slice(),
+            path: [].as_slice(),
+            body: [].as_slice(),
+        }),
+        SheetLine::Repay(repayment) => RequestText::Repayment(RepaymentText {
+            told: [].as_slice(),
+            loan: repayment.loan,
+            amount: repayment.amount,
+            day: repayment.day,
+            receipt: &repayment.receipt,
+        }),
     }
 }
 
@@ -49,18 +75,21 @@ fn result_of_line<S: InstitutionStore>(
     alloc: Global,
     store: &mut S,
     caller: Caller,
-    line: SheetLine,
+    line: &SheetLine,
 ) -> Result<SheetResult, Fault>
-    requires { IsLineInRange line }
-    ensures { Calls S.InstitutionStore (λ r. outcome_of result ≡ result_of r) (call_of_line caller line) store.old
+    requires { IsLineInRange line.now }
+    ensures { Calls S.InstitutionStore (λ r. outcome_of result ≡ result_of r) (call_of_line caller line.now) store.old
         store.new }
 {
-    let request = request_of(line);
+    let Ok(request) = request_of(line) else {
+        return Err(Fault::F20);
+    };
     answer(
         alloc,
         store,
         caller,
         request,
+        &text_of(line),
         |reply: &Reply| -> Result<SheetResult, Fault>
             ensures ok { IfOk result (λ s. s ≡ result_of_success reply.now) }
             ensures err { IfErr result (λ f. f ≡ Fault.F20) }
@@ -88,5 +117,5 @@ pub fn answer_line<S: InstitutionStore>(
     requires { IsLineInRange line }
     ensures { Calls S.InstitutionStore (λ r. result ≡ result_of r) (call_of_line caller line) store.old store.new }
 {
-    outcome(result_of_line(alloc, store, caller, line))
+    outcome(result_of_line(alloc, store, caller, &line))
 }

@@ -26,7 +26,7 @@ use Rattle.mf_account.specs.Change.{KeptAccount}
 use Rattle.mf_base.specs.declared.fault.Fault.{Fault}
 use Rattle.mf_base.specs.declared.fault.Fault.TheVariants.{F20}
 use Rattle.mf_model.specs.declared.commit.Commit.{Commit}
-use Rattle.mf_model.specs.Store.{Commits, IsAdmitted, after_commit, account_at, counts_at, catalogue_counts}
+use Rattle.mf_model.specs.Store.{CommitsUnnoted, IsAdmitted, after_commit, account_at, counts_at, catalogue_counts}
 use Rattle.mf_store.specs.Facts.{Facts, KnownStore, AreTrueOf, account_key, same_key, nothing_known}
 use Rattle.mf_store.proofs.CatalogueLemmas.{some_is}
 use Rattle.mf_store.specs.Learning.{Tells, counts_told, catalogue_told, day_told}
@@ -294,8 +294,8 @@ module _ {S : Type 0} (g : Ghosts S) where
       (r : Result (Unit {0}) Fault) → ((i : Institution) → Tells (news.Account loan) i (after_commit commit i))
       → ((i : Institution) → IsAdmitted commit i → account_at loan (after_commit commit i) ≡ Some account)
       → ((i j : Institution) → AreTrueOf f i → Tells (news.Account loan) i j → (IsTrue (is_ok r) → account_at loan j
-      ≡ Some account) → AreTrueOf e j) → Commits (IsTabled g) (HasGoodDisk g) (LeavesTables g) commit old new r
-      → Commits (StandsFor g) (IsClean g) (Leaves g) commit (record { connection = old; known = f })
+      ≡ Some account) → AreTrueOf e j) → CommitsUnnoted (IsTabled g) (HasGoodDisk g) (LeavesTables g) commit old new r
+      → CommitsUnnoted (StandsFor g) (IsClean g) (Leaves g) commit (record { connection = old; known = f })
       (record { connection = new; known = e }) r
   account_commits commit loan account old new f e r tells is learns c = record {
     premise = c.premise;

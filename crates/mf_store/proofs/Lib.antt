@@ -9,6 +9,7 @@ pub mod OfficeRowsLemmas
 pub mod ArrearsLemmas
 pub mod CatalogueLemmas
 pub mod LoanLemmas
+pub mod NotedLemmas
 pub mod OneInstitution
 pub mod InstalmentReadLemmas
 pub mod PartReadLemmas

@@ -195,11 +195,13 @@ module _ (apart : (d e : ℕ) → day_text d ≡ day_text e → d ≡ e) where
       let entries = entries_same x n a.entries b.entries c d e in
       λ t. Some (record { loan = sym loan t; entries = entries t })
 
-  pub one_institution : (i j : Institution) → IsSound i → IsSound j → tables_of i ≡ tables_of j → i ≡ j
-  one_institution i j s r e = λ t. record {
+  pub one_institution : (i j : Institution) → IsSound i → IsSound j → i.journal ≡ j.journal → tables_of i ≡ tables_of j
+      → i ≡ j
+  one_institution i j s r same e = λ t. record {
     catalogue = record { day = day t; charges = charges t; products = products t };
     offices = offices_same i.offices j.offices rows i.offices j.offices (found_there i.offices s.tree.ascending)
         (found_there j.offices r.tree.ascending) heads t;
+    journal = same t;
   }
     where
       heads : map bare i.offices ≡ map bare j.offices

@@ -7,7 +7,7 @@ use Rattle.sqlite_trees.specs.declared.store.Store.{Ghosts}
 use Rattle.mf_store_sql.specs.Writes.{Serves}
 use Rattle.mf_model.specs.Institution.{Institution}
 use Rattle.mf_model.specs.Sound.{IsSound}
-use Rattle.mf_model.specs.Store.{Commits}
+use Rattle.mf_model.specs.Store.{CommitsUnnoted}
 use Rattle.mf_model.specs.declared.commit.Commit.{Commit}
 use Rattle.mf_store_schema.specs.Calls.{IsOpenUpTo}
 use Rattle.mf_store.specs.Facts.{KnownStore, AreTrueOf}
@@ -67,6 +67,6 @@ module _ {S : Type 0} (g : Ghosts S) where
   -- A commit that is made whole or, giving up, not at all: where it is made the store is open, and only a fault of the
   -- disk shuts it.
   pub record MakesCommit (commit : Commit) (old new : KnownStore S) (result : Result (Unit {0}) Fault) : Type 0 where
-    pub commits : Commits StandsFor IsClean Leaves commit old new result
+    pub commits : CommitsUnnoted StandsFor IsClean Leaves commit old new result
     pub shuts : FaultsAloneShut old new
     pub stays_open : IsClean new → OnOk result (IsOpen new)

@@ -8,7 +8,7 @@ use mf_account::{LoanAccount, Receipt};
 use mf_base::{Choice, Day, Fault};
 use mf_catalog::{ChargeDef, Product};
 use mf_model::{
-    ArrearsList, CatalogueCounts, Commit, Counts, InstitutionStore, Loan, LoanList, OfficeList,
+    ArrearsList, CatalogueCounts, Commit, Counts, InstitutionStore, Loan, LoanList, Note, OfficeList,
     ReceiptUse, Statement,
 };
 use mf_office::{Account, Caller, Name, OfficeNo, Role};
@@ -20,7 +20,7 @@ use std::alloc::Global;
 
 impl<S: Alter> Store<S> {
     ghost use Rattle.mf_model.specs.Store.{role_of, counts_at, client_at};
-    ghost use Rattle.mf_store.specs.Stands.{StandsFor, IsClean, AsksTables, MayAskTables};
+    ghost use Rattle.mf_store.specs.Stands.{StandsFor, IsClean, AsksTables, MayAskTables, MakesCommit};
 
     /// The role of a caller, or None where there is no such member of staff.
     pub fn caller(&mut self, caller: Caller) -> Result<Option<Role>, Fault>
@@ -59,6 +59,36 @@ impl<S: Alter> Store<S> {
         match self.find::<ClientRow>((client.office.get(), client.number.get()))? {
             None => Ok(None),
             Some(record) => Ok(Some(record.name.into_name())),
+        }
+    }
+
+    /// Makes a commit. No journal is kept, so nothing is noted of it.
+    fn commit_unnoted(&mut self, alloc: Global, commit: Commit) -> Result<(), Fault>
+        ensures { MakesCommit S.Store commit self.old self.new result }
+    {
+        match commit {
+            Commit::AddOffice {
+                number,
+                parent,
+                name,
+            } => self.add_office(alloc, number, parent, name),
+            Commit::AddStaff { office, name, role } => self.add_staff(office, name, role),
+            Commit::AddClient { office, name } => self.add_client(office, name),
+            Commit::SetDay { day } => self.set_day(alloc, day),
+            Commit::AddCharge {
+                name,
+                kind,
+                calc,
+                value,
+            } => self.add_charge(name, kind, calc, value),
+            Commit::AddProduct { members } => self.add_product(members),
+            Commit::RetireProduct { product } => self.retire_product(product),
+            Commit::AddLoan { office, loan } => self.add_loan(alloc, office, loan),
+            Commit::SetStage { loan, stage } => self.set_stage(alloc, loan, stage),
+            Commit::AddEntry { loan, account } => self.add_entry(alloc, loan, account),
+            Commit::ReverseEntry { loan, seq, account } => self.reverse_entry(
+                alloc, loan, seq, account,
+            ),
         }
     }
 }
@@ -158,31 +188,8 @@ impl<S: Alter> InstitutionStore for Store<S> {
         self.office_lines(alloc, to)
     }
 
-    fn commit(&mut self, alloc: Global, commit: Commit) -> Result<(), Fault> {
-        match commit {
-            Commit::AddOffice {
-                number,
-                parent,
-                name,
-            } => self.add_office(alloc, number, parent, name),
-            Commit::AddStaff { office, name, role } => self.add_staff(office, name, role),
-            Commit::AddClient { office, name } => self.add_client(office, name),
-            Commit::SetDay { day } => self.set_day(alloc, day),
-            Commit::AddCharge {
-                name,
-                kind,
-                calc,
-                value,
-            } => self.add_charge(name, kind, calc, value),
-            Commit::AddProduct { members } => self.add_product(members),
-            Commit::RetireProduct { product } => self.retire_product(product),
-            Commit::AddLoan { office, loan } => self.add_loan(alloc, office, loan),
-            Commit::SetStage { loan, stage } => self.set_stage(alloc, loan, stage),
-            Commit::AddEntry { loan, account } => self.add_entry(alloc, loan, account),
-            Commit::ReverseEntry { loan, seq, account } => self.reverse_entry(
-                alloc, loan, seq, account,
-            ),
-        }
+    fn commit(&mut self, alloc: Global, commit: Commit, _note: Note<'_>) -> Result<(), Fault> {
+        self.commit_unnoted(alloc, commit)
     }
 
     ghost sound = { λ store i stands. stands.sound };

@@ -5,9 +5,11 @@ ghost use Rattle.mf_model.specs.Institution.{Institution};
 ghost use Rattle.mf_model.specs.Sound.{IsSound};
 ghost use Rattle.mf_store_values.specs.Flat.{tables_of};
 
-/// The tables determine the institution: two sound ones that have the same rows are one and the same.
+/// The tables determine the institution but for its journal: two sound ones that have the same rows and the same
+/// journal are one and the same.
 pub fn one_institution()
-    ensures { (i j : Institution) → IsSound i → IsSound j → tables_of i ≡ tables_of j → i ≡ j }
+    ensures { (i j : Institution) → IsSound i → IsSound j → i.journal ≡ j.journal
+        → tables_of i ≡ tables_of j → i ≡ j }
 {
     mf_base::laws::texts_of_days();
 }

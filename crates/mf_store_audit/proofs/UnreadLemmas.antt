@@ -8,7 +8,7 @@ use Rattle.std.proofs.Math.Dec.{ltb}
 use Rattle.sqlite.specs.declared.types.Value.{Value}
 use Rattle.sqlite.specs.declared.types.Value.TheVariants.{Null, Int, Text as Words}
 use Rattle.sqlite.specs.Order.{Row, column}
-use Rattle.mf_store_sql.specs.Columns.{Field, Named, Number, Amount, Text, MaybeNumber, MaybeText}
+use Rattle.mf_store_sql.specs.Columns.{Field, Named, Number, Amount, Text, Bytes, MaybeNumber, MaybeText}
 use Rattle.mf_store_schema.specs.Fields.{IsNumber, IsText, CanHold, CanHoldFrom, HasFields}
 use Rattle.mf_store_schema.proofs.TreeLemmas.{past_end}
 use Rattle.mf_store_audit.specs.Unread.{IsBadText, HasBadText, IsOfType, AreOfTypesFrom, IsTyped, IsBadNumber, IsBadIn}
@@ -33,6 +33,7 @@ field_held : (f : Field) (v : Value) → IsOfType f v → ¬ IsBadText v → Can
 field_held Number v of good = number_or_bad v of.0 of.1
 field_held Amount v of good = inl of
 field_held Text v of good = inl (text_held v of.0 of.1 good)
+field_held Bytes v of good = inl of
 field_held MaybeNumber v (inl is) good = inl (inl is)
 field_held MaybeNumber v (inr of) good = go (number_or_bad v of.0 of.1)
   where

@@ -3,11 +3,11 @@ use Rattle.std.specs.Prelude.{◌≡◌, ◌⊎◌, ◌+◌, ◌^◌, ◌≤◌,
 use Rattle.std.specs.Prelude.{IsUtf8}
 use Rattle.std.specs.declared.cmp.Ordering.{Ordering}
 use Rattle.sqlite.specs.declared.types.Value.{Value}
-use Rattle.sqlite.specs.declared.types.Value.TheVariants.{Null, Int, Text as Words}
+use Rattle.sqlite.specs.declared.types.Value.TheVariants.{Null, Int, Text as Words, Blob}
 use Rattle.sqlite.specs.Order.{Row, column}
 use Rattle.sqlite.specs.Tree.{Trees}
 use Rattle.mf_store_schema.specs.Tables as table
-use Rattle.mf_store_sql.specs.Columns.{Field, Named, Number, Amount, Text, MaybeNumber, MaybeText}
+use Rattle.mf_store_sql.specs.Columns.{Field, Named, Number, Amount, Text, Bytes, MaybeNumber, MaybeText}
 use Rattle.mf_store_schema.specs.Fields.{HasFields}
 use Rattle.mf_store_schema.specs.Rows.{meta_row, office_row, staff_row, client_row, charge_row, product_row, loan_row}
 use Rattle.mf_store_schema.specs.Rows.{entry_row, receipt_row, instalment_row, share_row, by_meta, by_office, by_staff}
@@ -33,6 +33,7 @@ abbrev pub IsOfType : Field → Value → Type 0
 IsOfType Number v = (n : ℤ) × (v ≡ Int n)
 IsOfType Amount v = (n : ℤ) × (v ≡ Int n)
 IsOfType Text v = (t : List ℕ) × (v ≡ Words t)
+IsOfType Bytes v = (b : List ℕ) × (v ≡ Blob b)
 IsOfType MaybeNumber v = (v ≡ Null) ⊎ ((n : ℤ) × (v ≡ Int n))
 IsOfType MaybeText v = (v ≡ Null) ⊎ ((t : List ℕ) × (v ≡ Words t))
 
@@ -55,6 +56,7 @@ abbrev pub IsBadIn : Field → Value → Type 0
 IsBadIn Number v = IsBadNumber v
 IsBadIn Amount v = ⊥
 IsBadIn Text v = ⊥
+IsBadIn Bytes v = ⊥
 IsBadIn MaybeNumber v = IsBadNumber v
 IsBadIn MaybeText v = ⊥
 

@@ -80,7 +80,8 @@ fn audit_known<S: Alter, P: Progress>(
     progress: &mut P,
 ) -> Result<Audit, Fault>
     requires alone { connection.old.in_transaction ≡ false }
-    ensures kept { IsUnchangedUnder (IsOfVersion version) (state S.Store connection.old) (state S.Store connection.new) }
+    ensures kept { IsUnchangedUnder (IsOfVersion version) (state S.Store connection.old)
+        (state S.Store connection.new) }
     ensures exact { HasCleanDisk (state S.Store connection.new)
         → IsOfVersion version (state S.Store connection.old).now.schema
         → HaveRowids version (state S.Store connection.old).now.trees

@@ -66,9 +66,11 @@ pub(crate) fn unread_at<S: Alter>(
     version: Version,
 ) -> Searching
     requires alone { connection.old.in_transaction ≡ false }
-    ensures kept { IsUnchangedUnder (IsOfVersion version) (state S.Store connection.old) (state S.Store connection.new) }
+    ensures kept { IsUnchangedUnder (IsOfVersion version) (state S.Store connection.old)
+        (state S.Store connection.new) }
     ensures gives_up { IfErr result (λ fault. fault ≡ F20) }
-    ensures found { HasCleanDisk (state S.Store connection.new) → IsOfVersion version (state S.Store connection.old).now.schema
+    ensures found { HasCleanDisk (state S.Store connection.new)
+        → IsOfVersion version (state S.Store connection.old).now.schema
         → IfOk result (λ x. IfSome x
         (λ unread. IsUnread unread.table unread.value unread.place (state S.Store connection.old).now.trees)) }
     ensures mode { connection.new.in_transaction ≡ false }

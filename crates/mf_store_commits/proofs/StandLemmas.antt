@@ -11,7 +11,7 @@ use Rattle.sqlite_trees.specs.declared.store.Store.{Ghosts}
 use Rattle.mf_base.specs.declared.fault.Fault.{Fault}
 use Rattle.mf_base.specs.declared.fault.Fault.TheVariants.{F20}
 use Rattle.mf_model.specs.Institution.{Institution}
-use Rattle.mf_model.specs.Store.{Commits, IsAdmitted, after_commit}
+use Rattle.mf_model.specs.Store.{CommitsUnnoted, IsAdmitted, after_commit}
 use Rattle.mf_model.specs.declared.commit.Commit.{Commit}
 use Rattle.mf_store_sql.specs.Writes.{Serves, AllFit, after_all, Turns, IsSettled, MayHold}
 use Rattle.mf_store_schema.specs.Calls.{IsAsBefore}
@@ -97,7 +97,7 @@ pub made_by : {S : Type 0} (g : Ghosts S) (commit : Commit) (old new : Held S) (
     → (HasGoodDisk g new → OnErr r ((i : Institution) → IsTabled g old i → IsTabled g new i))
     → (HasGoodDisk g new → (i j : Institution) (is : List Institution) → IsTabled g old i → Becomes writes i j
     → LeavesTables g old is → LeavesTables g new (j ∷ is))
-    → Commits (IsTabled g) (HasGoodDisk g) (LeavesTables g) commit old new r
+    → CommitsUnnoted (IsTabled g) (HasGoodDisk g) (LeavesTables g) commit old new r
 made_by g commit old new writes r becomes premise gives_up made left same stop = record {
   premise = premise;
   made = λ clean i s admitted. on_ok_weaker r (λ m. m i (after_commit commit i) s (becomes i s admitted)) (made clean);

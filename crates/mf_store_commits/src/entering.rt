@@ -6,7 +6,7 @@ ghost use Rattle.mf_base.specs.declared.fault.Fault.TheVariants.{F20};
 ghost use Rattle.sqlite.specs.Held.{state};
 ghost use Rattle.mf_model.specs.Institution.{Institution};
 ghost use Rattle.mf_model.specs.Sound.{IsSound};
-ghost use Rattle.mf_model.specs.Store.{Commits, IsAdmitted};
+ghost use Rattle.mf_model.specs.Store.{CommitsUnnoted, IsAdmitted};
 ghost use Rattle.mf_model.specs.declared.commit.Commit.TheVariants.{AddEntry, ReverseEntry};
 ghost use Rattle.mf_store_schema.specs.Calls.{OnlyFaultsShut};
 ghost use Rattle.mf_store_commits.specs.Suiting.{Carries};
@@ -73,7 +73,7 @@ pub fn add_entry<S: Alter>(
     account: &LoanAccount,
 ) -> Result<(), Fault>
     requires alone { connection.old.in_transaction ≡ false }
-    ensures commits { Commits (IsTabled S.Store) (HasGoodDisk S.Store) (LeavesTables S.Store)
+    ensures commits { CommitsUnnoted (IsTabled S.Store) (HasGoodDisk S.Store) (LeavesTables S.Store)
         (AddEntry loan account.now) connection.old connection.new result }
     ensures shuts { OnlyFaultsShut (state S.Store connection.old) (state S.Store connection.new) }
     ensures open { HasGoodDisk S.Store connection.new → OnOk result (IsTrue (state S.Store connection.new).is_open) }
@@ -93,7 +93,7 @@ pub fn reverse_entry<S: Alter>(
     account: &LoanAccount,
 ) -> Result<(), Fault>
     requires alone { connection.old.in_transaction ≡ false }
-    ensures commits { Commits (IsTabled S.Store) (HasGoodDisk S.Store) (LeavesTables S.Store)
+    ensures commits { CommitsUnnoted (IsTabled S.Store) (HasGoodDisk S.Store) (LeavesTables S.Store)
         (ReverseEntry loan seq account.now) connection.old connection.new result }
     ensures shuts { OnlyFaultsShut (state S.Store connection.old) (state S.Store connection.new) }
     ensures open { HasGoodDisk S.Store connection.new → OnOk result (IsTrue (state S.Store connection.new).is_open) }

@@ -25,8 +25,8 @@ use Rattle.mf_store.specs.Stands.{StandsFor, IsClean, IsOpen, Leaves}
 use Rattle.mf_store_files.specs.Versions.{IsTabledAt, IsLeftAt}
 use Rattle.mf_store_sound.specs.Held.{HoldsSoundAt}
 
-module _ {S : Type 0} (g : Ghosts S) (v : Version) (old mid : Held S) (u : IsUnchangedUnder (IsOfVersion v) (state g old)
-    (state g mid)) where
+module _ {S : Type 0} (g : Ghosts S) (v : Version) (old mid : Held S)
+    (u : IsUnchangedUnder (IsOfVersion v) (state g old) (state g mid)) where
   module _ (lists : Lists) (live : HasGoodDisk g mid → IsTrue (state g mid).is_open) (rows : HasGoodDisk g mid
       → IsOfVersion v (state g old).now.schema → (held : HoldsSoundAt v (state g old).now.trees)
       → tables_at v held.institution ≡ lists) where

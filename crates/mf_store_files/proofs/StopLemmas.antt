@@ -9,10 +9,10 @@ use Rattle.sqlite_disk.specs.declared.Disk.{Ghosts}
 use Rattle.sqlite_store.specs.FileStore.{state, view, recovers}
 use Rattle.sqlite_store.specs.declared.store.FileStore.{FileStore}
 use Rattle.sqlite_wal.specs.Recovery.{Image}
-use Rattle.mf_model.specs.Institution.{Institution, Change, after, after_maybe}
+use Rattle.mf_model.specs.Institution.{Institution, Change, Noted, after, after_line, after_noted}
 use Rattle.mf_model.specs.Desk.{outcome, change_in}
-use Rattle.mf_model.specs.declared.request.Call.{Call}
-use Rattle.mf_model.specs.Run.{Line, change_of_line, next, last}
+use Rattle.mf_model.specs.Calls.{Call}
+use Rattle.mf_model.specs.Run.{Line, change_of_line, next, noted_of, last}
 use Rattle.mf_model.specs.Sound.{IsSound, IsInRange, AreInRange}
 use Rattle.mf_model.specs.Store.{left_by, left_after}
 use Rattle.mf_store_schema.specs.Tables.{schema}
@@ -24,7 +24,7 @@ use Rattle.mf_store_files.specs.Stops.{NoneChanges, IsLeftBy}
 
 unmoved : (run : List Line) (i : Institution) → NoneChanges run i → last run i ≡ i
 unmoved [] i none = refl
-unmoved (l ∷ ls) i none = ap (λ c. last ls (after_maybe c i)) none.0 ∙ unmoved ls i none.1
+unmoved (l ∷ ls) i none = ap (λ c. last ls (after_line (noted_of l.call i) c i)) none.0 ∙ unmoved ls i none.1
 
 module _ (left : Trees) where
   abbrev HoldsIt : Institution → Type 0
@@ -61,21 +61,22 @@ module _ (left : Trees) where
 
   first_step : (l : Line) (ls : List Line) (i : Institution) (is : List Institution) (c : Option Change)
       (given_up : Bool) → change_in (outcome l.call i) ≡ c → l.given_up ≡ given_up
-      → NoneChanges ls (after_maybe (cond given_up None c) i) → HoldsOneOf (left_by c given_up i is) left
+      → NoneChanges ls (after_line (noted_of l.call i) (cond given_up None c) i)
+      → HoldsOneOf (left_by (noted_of l.call i) c given_up i is) left
       → IsOfBefore (l ∷ ls) i is ⊎ IsOfRun (l ∷ ls) i
   first_step l ls i is None true e gives none one = inl ((unchanged_by l i None true e gives, none), one)
   first_step l ls i is None false e gives none one = inl ((unchanged_by l i None false e gives, none), one)
   first_step l ls i is (Some change) false e gives none (inl held) =
       inr (
-        after change i,
-        inl (sym (ap (λ c. last ls (after_maybe c i)) (unchanged_by l i (Some change) false e gives)
-            ∙ unmoved ls (after change i) none)),
+        after_noted (noted_of l.call i) change i,
+        inl (sym (ap (λ c. last ls (after_line (noted_of l.call i) c i)) (unchanged_by l i (Some change) false e gives)
+            ∙ unmoved ls (after_noted (noted_of l.call i) change i) none)),
         held,
       )
   first_step l ls i is (Some change) false e gives none (inr nothing) = absurd nothing
   first_step l ls i is (Some change) true e gives none (inl held) =
       inr (
-        after change i,
+        after_noted (noted_of l.call i) change i,
         inr (record {
           before = [];
           line = l;
@@ -97,9 +98,10 @@ module _ (left : Trees) where
       → IsOfBefore run i is ⊎ IsOfRun run i
   left_by_run [] i is one = inl (tt, one)
   left_by_run (l ∷ ls) i is one =
-      go (left_by_run ls (next l i) (left_by (change_in (outcome l.call i)) l.given_up i is) one)
+      go (left_by_run ls (next l i) (left_by (noted_of l.call i) (change_in (outcome l.call i)) l.given_up i is) one)
     where
-      go : IsOfBefore ls (next l i) (left_by (change_in (outcome l.call i)) l.given_up i is) ⊎ IsOfRun ls (next l i)
+      go : IsOfBefore ls (next l i) (left_by (noted_of l.call i) (change_in (outcome l.call i)) l.given_up i is)
+          ⊎ IsOfRun ls (next l i)
           → IsOfBefore (l ∷ ls) i is ⊎ IsOfRun (l ∷ ls) i
       go (inl (none, held)) = first_step l ls i is (change_in (outcome l.call i)) l.given_up refl refl none held
       go (inr it) = inr (later_too l ls i it)
@@ -111,6 +113,11 @@ module _ (left : Trees) where
       go (inl (none, inl held)) = (i, inl (sym (unmoved run i none)), held)
       go (inl (none, inr nothing)) = absurd nothing
       go (inr it) = it
+
+-- what is noted doesn't matter
+noted_sound : (noted : Noted) (change : Change) (i : Institution) → IsSound (after change i)
+    → IsSound (after_noted noted change i)
+noted_sound noted change i s = record { catalogue = s.catalogue; tree = s.tree; each = s.each }
 
 AreInRange-first : (before later : List Line) → AreInRange (before ++ later) → AreInRange before
 AreInRange-first [] later r = tt
@@ -129,8 +136,10 @@ module _
   left_sound run i j sound range (inr it) =
       let parts = subst AreInRange it.parts range in
       let before = stays_sound i it.before sound (AreInRange-first it.before (it.line ∷ it.later) parts) in
-      subst IsSound (sym it.with_change) (change_sound it.line.call (last it.before i) it.change before
-      (AreInRange-rest it.before (it.line ∷ it.later) parts).0 it.asked)
+      let made = change_sound it.line.call (last it.before i) it.change before
+      (AreInRange-rest it.before (it.line ∷ it.later) parts).0 it.asked in
+      subst IsSound (sym it.with_change)
+      (noted_sound (noted_of it.line.call (last it.before i)) it.change (last it.before i) made)
 
   pub left_tables : (run : List Line) (i : Institution) → IsSound i → AreInRange run → (left : Trees)
       → HoldsOneOf (left_after run i (i ∷ [])) left → (held : HoldsSound left) × IsLeftBy run i held.institution

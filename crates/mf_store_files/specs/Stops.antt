@@ -1,8 +1,8 @@
 -- Which institution a stop after a run of requests leaves.
 use Rattle.std.specs.Prelude.{◌≡◌, ◌⊎◌, List, [], ◌∷◌, ◌++◌, Some, None, IsTrue, ⊤}
-use Rattle.mf_model.specs.Institution.{Institution, Change, after}
+use Rattle.mf_model.specs.Institution.{Institution, Change, after_noted}
 use Rattle.mf_model.specs.Desk.{outcome, change_in}
-use Rattle.mf_model.specs.Run.{Line, change_of_line, last}
+use Rattle.mf_model.specs.Run.{Line, change_of_line, noted_of, last}
 
 -- no line of the run changes the institution
 abbrev pub NoneChanges : List Line → Institution → Type 0
@@ -19,7 +19,7 @@ pub record IsWithGivenUp (run : List Line) (i j : Institution) : Type 0 where
   pub unchanged : NoneChanges later (last before i)
   pub change : Change
   pub asked : change_in (outcome line.call (last before i)) ≡ Some change
-  pub with_change : j ≡ after change (last before i)
+  pub with_change : j ≡ after_noted (noted_of line.call (last before i)) change (last before i)
 
 -- The institution after all changes of the run, so after those of each line that was answered; or with the change of
 -- one line more, of those that were given up after the last change.

@@ -270,7 +270,7 @@ all_of schema t k catalogue meta charges products o s tree named r =
     let receipts : receipt_rows s.offices ≡ t.receipts = (λ z. sort_by by_receipt (carried_is s.offices z))
     ∙ (λ z. sort_by by_receipt (carried_by (s.entries_are z))) ∙ r.rows_are in
     record {
-      institution = record { catalogue = k; offices = fs };
+      institution = record { catalogue = k; offices = fs; journal = None };
       sound = record {
         catalogue = catalogue;
         tree = tree;

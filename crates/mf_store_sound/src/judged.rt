@@ -87,20 +87,23 @@ pub fn read_tables<S: Alter, P: Progress>(
     progress: &mut P,
 ) -> Result<Option<Tables>, Fault>
     requires alone { connection.old.in_transaction ≡ false }
-    ensures kept { IsUnchangedUnder (IsOfVersion version) (state S.Store connection.old) (state S.Store connection.new) }
+    ensures kept { IsUnchangedUnder (IsOfVersion version) (state S.Store connection.old)
+        (state S.Store connection.new) }
     ensures gives_up { IfErr result (λ fault. fault ≡ F20) }
     ensures open { HasCleanDisk (state S.Store connection.new)
         → OnOk result (IsTrue (state S.Store connection.new).is_open) }
-    ensures only { HasCleanDisk (state S.Store connection.new) → IsOfVersion version (state S.Store connection.old).now.schema
-        → IfOk result (λ x. IfSome x (λ tables. (lists : Lists)
+    ensures only { HasCleanDisk (state S.Store connection.new)
+        → IsOfVersion version (state S.Store connection.old).now.schema
+            → IfOk result (λ x. IfSome x (λ tables. (lists : Lists)
         → HoldsAt version (state S.Store connection.old).now.trees lists → tables ≡ lists_at version lists)) }
     ensures keeps { HasCleanDisk (state S.Store connection.new)
         → IsOfVersion version (state S.Store connection.old).now.schema
         → HaveRowids version (state S.Store connection.old).now.trees
         → IfOk result (λ x. IfSome x (λ tables. DoRise tables
         → HoldsAt version (state S.Store connection.old).now.trees tables)) }
-    ensures none { HasCleanDisk (state S.Store connection.new) → IsOfVersion version (state S.Store connection.old).now.schema
-        → IfOk result (λ x. IfNone x ((lists : Lists) → CanBeHeld lists
+    ensures none { HasCleanDisk (state S.Store connection.new)
+        → IsOfVersion version (state S.Store connection.old).now.schema
+            → IfOk result (λ x. IfNone x ((lists : Lists) → CanBeHeld lists
         → ¬ HoldsAt version (state S.Store connection.old).now.trees lists)) }
     ensures mode { connection.new.in_transaction ≡ false }
 {
@@ -132,7 +135,8 @@ pub fn read_sound<S: Alter, P: Progress>(
     progress: &mut P,
 ) -> Result<Option<Tables>, Fault>
     requires alone { connection.old.in_transaction ≡ false }
-    ensures kept { IsUnchangedUnder (IsOfVersion version) (state S.Store connection.old) (state S.Store connection.new) }
+    ensures kept { IsUnchangedUnder (IsOfVersion version) (state S.Store connection.old)
+        (state S.Store connection.new) }
     ensures gives_up { IfErr result (λ fault. fault ≡ F20) }
     ensures open { HasCleanDisk (state S.Store connection.new)
         → OnOk result (IsTrue (state S.Store connection.new).is_open) }
@@ -140,11 +144,14 @@ pub fn read_sound<S: Alter, P: Progress>(
         → IsOfVersion version (state S.Store connection.old).now.schema
         → HaveRowids version (state S.Store connection.old).now.trees
         → IfOk result (λ x. IfSome x (λ tables. HoldsSoundAt version (state S.Store connection.old).now.trees)) }
-    ensures rows { HasCleanDisk (state S.Store connection.new) → IsOfVersion version (state S.Store connection.old).now.schema
-        → IfOk result (λ x. IfSome x (λ tables. (held : HoldsSoundAt version (state S.Store connection.old).now.trees)
+    ensures rows { HasCleanDisk (state S.Store connection.new)
+        → IsOfVersion version (state S.Store connection.old).now.schema
+            → IfOk result (λ x. IfSome x
+                (λ tables. (held : HoldsSoundAt version (state S.Store connection.old).now.trees)
         → tables_at version held.institution ≡ tables)) }
-    ensures none { HasCleanDisk (state S.Store connection.new) → IsOfVersion version (state S.Store connection.old).now.schema
-        → IfOk result (λ x. IfNone x (¬ HoldsSoundAt version (state S.Store connection.old).now.trees)) }
+    ensures none { HasCleanDisk (state S.Store connection.new)
+        → IsOfVersion version (state S.Store connection.old).now.schema
+            → IfOk result (λ x. IfNone x (¬ HoldsSoundAt version (state S.Store connection.old).now.trees)) }
     ensures mode { connection.new.in_transaction ≡ false }
 {
     let Some(tables) = read_tables(alloc, connection, version, progress)? else {

@@ -34,7 +34,8 @@ fn holds_sound<S: Alter>(
     version: Version,
 ) -> Result<bool, Fault>
     requires alone { connection.old.in_transaction ≡ false }
-    ensures kept { IsUnchangedUnder (IsOfVersion version) (state S.Store connection.old) (state S.Store connection.new) }
+    ensures kept { IsUnchangedUnder (IsOfVersion version) (state S.Store connection.old)
+        (state S.Store connection.new) }
     ensures exact { HasCleanDisk (state S.Store connection.new)
         → IsOfVersion version (state S.Store connection.old).now.schema
         → HaveRowids version (state S.Store connection.old).now.trees

@@ -6,7 +6,7 @@ use Rattle.std.proofs.lemmas.Bool.Decides.{nat_tests}
 use Rattle.mf_base.specs.declared.fault.Fault.{Fault}
 use Rattle.mf_base.specs.declared.fault.Fault.TheVariants.{F20}
 use Rattle.mf_office.specs.declared.caller.Caller.{Caller}
-use Rattle.mf_model.specs.declared.request.Call.{Call}
+use Rattle.mf_model.specs.Calls.{Call, bare}
 use Rattle.mf_model.specs.declared.reply.Reply.{Reply}
 use Rattle.mf_model.specs.Institution.{Institution}
 use Rattle.mf_model.specs.Tree.{IsTree, view}
@@ -36,7 +36,7 @@ only a b e = cc
 own_line : (l : Line) (o : ℕ) (i : Institution) → from_office o l.call ≡ true → RepliesArePlay i (l ∷ [])
     → answer l i ≡ or_given_up l.given_up (reply l.call (view o i))
 own_line l o i own law =
-    let touch : Touch = record { call = l.call; accepted = is_some (change_of_line l i) } in
+    let touch : Touch = record { call = bare l.call; accepted = is_some (change_of_line l i) } in
     let outer : Bool → Type 0 = λ b. cond b (answer l i ∷ []) [] ≡ but_given_up (cond b (l.given_up ∷ []) [])
     (play_replies (from_office o) (cond (b || is_touched o i (change_of_line l i)) (touch ∷ []) []) (view o i)) in
     let inner : Bool → Type 0 =

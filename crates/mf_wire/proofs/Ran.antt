@@ -7,13 +7,13 @@ use Rattle.mf_model.specs.declared.request.Flaw.TheVariants.{Malformed}
 use Rattle.mf_base.specs.declared.fault.Fault.{Fault}
 use Rattle.mf_office.specs.Written.{caller_text}
 use Rattle.mf_model.specs.declared.reply.Reply.{Reply}
-use Rattle.mf_model.specs.declared.request.Call.{Call}
+use Rattle.mf_model.specs.Calls.{Call}
 use Rattle.mf_model.specs.Institution.{Institution}
 use Rattle.mf_model.specs.Tree.{IsTree}
 use Rattle.mf_model.specs.Sound.{IsSound}
 use Rattle.mf_model.specs.Desk.{outcome, change_in}
 use Rattle.mf_model.specs.Run.{Line, answer, next, answers, last, replies_to, ViewIsPlay, RepliesArePlay}
-use Rattle.mf_model.specs.Run.{OwnRepliesArePlay, from_office, from_caller, given_up, but_given_up}
+use Rattle.mf_model.specs.Run.{OwnRepliesArePlay, from_office, from_caller, given_up, but_given_up, noted_of}
 use Rattle.mf_model.specs.Store.{left_by, left_after}
 use Rattle.mf_model.specs.declared.store.InstitutionStore.{Ghosts}
 use Rattle.mf_wire_lines.specs.Replies.{fault_line}
@@ -115,7 +115,8 @@ module _ {S : Type 0} (store : Ghosts S) where
           calls = ap (λ cs. call_of line ∷ cs) r.calls;
           replied = ap (λ t. t ∷ texts) w.1.replied ∙ ap (λ ts. shown_line (answer l i) ∷ ts) r.replied;
           follows = r.follows;
-          stop = λ is h. r.stop (left_by (change_in (outcome (call_of line) i)) w.0 i is) (w.1.stop is h);
+          stop = λ is h. r.stop (left_by (noted_of (call_of line) i) (change_in (outcome (call_of line) i)) w.0 i is)
+              (w.1.stop is h);
         };
   }
 

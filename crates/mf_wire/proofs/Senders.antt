@@ -11,7 +11,7 @@ use Rattle.mf_office.specs.declared.caller.Caller.{Caller}
 use Rattle.mf_office.specs.Texts.{IsCaller, caller_of}
 use Rattle.mf_office.specs.Written.{caller_text}
 use Rattle.mf_office.proofs.ReadLemmas.{caller_exact}
-use Rattle.mf_model.specs.declared.request.Call.{Call}
+use Rattle.mf_model.specs.Calls.{Call}
 use Rattle.mf_model.specs.declared.reply.Reply.{Reply}
 use Rattle.mf_model.specs.Institution.{Institution}
 use Rattle.mf_model.specs.Run as model

@@ -3,7 +3,7 @@ use Rattle.std.proofs.Common.{◌≡◌, ℕ, Bool, List, [], ◌∷◌, map, re
 use Rattle.mf_model.specs.Institution.{Institution}
 use Rattle.mf_model.specs.Tree.{IsTree}
 use Rattle.mf_model.specs.Desk.{outcome, change_in}
-use Rattle.mf_model.specs.Run.{Line, next, answers, last}
+use Rattle.mf_model.specs.Run.{Line, next, answers, last, noted_of}
 use Rattle.mf_model.specs.Sound.{AreInRange}
 use Rattle.mf_model.specs.Store.{left_by, left_after}
 use Rattle.mf_model.specs.declared.store.InstitutionStore.{Ghosts}
@@ -49,7 +49,7 @@ module _ {S : Type 0} (store : Ghosts S) where
         in_range = (one.in_range, r.in_range);
         replied = ap₂ (λ (text : List ℕ) (texts : List (List ℕ)). text ∷ texts) w.1.replied r.replied;
         follows = r.follows;
-        stop = λ is k. r.stop (left_by (change_in (outcome l.call i)) w.0 i is) (w.1.stop is k);
+        stop = λ is k. r.stop (left_by (noted_of l.call i) (change_in (outcome l.call i)) w.0 i is) (w.1.stop is k);
       }
 
   pub serves_on : IsolationLaw → (old : S) (es : List Exchange) (new : S) (i : Institution) → IsTree i.offices

@@ -6,7 +6,7 @@ use Rattle.mf_base.specs.declared.fault.Cause.{Cause}
 use Rattle.mf_base.specs.declared.fault.Cause.TheVariants.{Read, Write, Memory}
 use Rattle.mf_base.specs.declared.fault.Fault.{Fault}
 use Rattle.mf_base.specs.declared.fault.StreamFault.{StreamFault}
-use Rattle.mf_model.specs.declared.request.Call.{Call}
+use Rattle.mf_model.specs.Calls.{Call, nothing_received}
 use Rattle.mf_model.specs.declared.request.Flaw.TheVariants.{Malformed}
 use Rattle.mf_model.specs.declared.request.Request.TheVariants.{Unreadable}
 use Rattle.mf_model.specs.declared.reply.Reply.{Reply}
@@ -28,7 +28,7 @@ parts_of_message m = record { caller = m.staff; method = m.method; path = m.targ
 
 -- the call of a message; a malformed one is nobody's
 abbrev pub call_of_message : Option Message → Call
-call_of_message None = record { caller = None; request = Unreadable Malformed }
+call_of_message None = record { caller = None; request = Unreadable Malformed; received = nothing_received }
 call_of_message (Some m) = call_of_parts (parts_of_message m)
 
 -- the status of a reply

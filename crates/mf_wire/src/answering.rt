@@ -13,7 +13,7 @@ ghost use Rattle.mf_wire.specs.Runs.{Calls};
 
 use mf_base::Fault;
 use mf_desk::answer;
-use mf_model::{InstitutionStore, Reply};
+use mf_model::{InstitutionStore, ReceivedText, Reply, RequestText};
 use mf_office::Caller;
 use mf_wire_lines::LineDesk;
 use mf_wire_replies::{body_text, line_text, status};
@@ -42,7 +42,13 @@ fn answer_parts<S: InstitutionStore, T: Drop, F: FnOnce(&Reply) -> Result<T, Fau
         return Err(Fault::F1);
     }
     let request = read_request(alloc, routes, parts.method, parts.path, parts.body)?;
-    answer(alloc, store, caller, request, show)
+    let text = RequestText::Received(ReceivedText {
+        told: [].as_slice(),
+        method: parts.method,
+        path: parts.path,
+        body: parts.body,
+    });
+    answer(alloc, store, caller, request, &text, show)
 }
 
 /// The line of the reply to a request in its parts.

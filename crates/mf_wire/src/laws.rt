@@ -4,7 +4,7 @@ ghost use Rattle.std.specs.Prelude.{◌≡◌, ◌≢◌, ℕ, Bool, List, Resul
 ghost use Rattle.std.specs.List.{AllByRecursion, concat};
 ghost use Rattle.mf_office.specs.declared.account.Account.{Account};
 ghost use Rattle.mf_office.specs.declared.caller.Caller.{Caller};
-ghost use Rattle.mf_model.specs.declared.request.Call.{Call};
+ghost use Rattle.mf_model.specs.Calls.{Received, Call};
 ghost use Rattle.mf_model.specs.declared.request.Flaw.{Flaw};
 ghost use Rattle.mf_model.specs.declared.request.Request.TheVariants.{Unreadable};
 ghost use Rattle.mf_model.specs.declared.reply.Reply.{Reply};
@@ -54,14 +54,14 @@ pub fn two_runs_agree<S: InstitutionStore, T: InstitutionStore>()
 /// A line that asks for a client or a loan which its sender may not see gets the same text as one that asks for one
 /// that isn't there, and a message the same response.
 pub fn hidden_and_missing_read_alike()
-    ensures lines { (asked : Asked) (a b : Account) (c : Caller) (i : Institution) (line other : List ℕ) →
-        IsUnseen c asked a i → IsUnseen c asked b i → call_of line ≡ call_from c (asked_of asked a) → call_of other
-        ≡ call_from c (asked_of asked b) →
+    ensures lines { (asked : Asked) (a b : Account) (c : Caller) (r s : Received) (i : Institution)
+        (line other : List ℕ) → IsUnseen c asked a i → IsUnseen c asked b i
+        → call_of line ≡ call_from c (asked_of asked a) r → call_of other ≡ call_from c (asked_of asked b) s →
         shown_line (reply (call_of line) i) ≡ shown_line (reply (call_of other) i) }
-    ensures messages { (asked : Asked) (a b : Account) (c : Caller) (i : Institution) (message other : Message)
-        (to_head : Bool) →
-        IsUnseen c asked a i → IsUnseen c asked b i → call_of_message (Some message) ≡ call_from c (asked_of asked a)
-        → call_of_message (Some other) ≡ call_from c (asked_of asked b) →
+    ensures messages { (asked : Asked) (a b : Account) (c : Caller) (r s : Received) (i : Institution)
+        (message other : Message) (to_head : Bool) →
+        IsUnseen c asked a i → IsUnseen c asked b i → call_of_message (Some message) ≡ call_from c (asked_of asked a) r
+        → call_of_message (Some other) ≡ call_from c (asked_of asked b) s →
         shown_response to_head (reply (call_of_message (Some message)) i) ≡ shown_response to_head
         (reply (call_of_message (Some other)) i) }
 {

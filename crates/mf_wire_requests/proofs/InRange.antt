@@ -18,7 +18,7 @@ use Rattle.mf_catalog.specs.declared.terms.Method.{Method}
 use Rattle.mf_catalog.specs.declared.terms.StrategyName.{StrategyName}
 use Rattle.mf_model.specs.Sound.{IsName, AreMembers, IsInRange, IsLoanInRange, AreInRange}
 use Rattle.mf_model.specs.Run.{Line}
-use Rattle.mf_model.specs.declared.request.Call.{Call}
+use Rattle.mf_model.specs.Calls.{Call}
 use Rattle.mf_model.specs.declared.request.CatalogueRequest.TheVariants as catalogue
 use Rattle.mf_model.specs.declared.request.Flaw.TheVariants.{Malformed}
 use Rattle.mf_model.specs.declared.request.LoanRequest.{LoanRequest}

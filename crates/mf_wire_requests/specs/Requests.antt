@@ -1,5 +1,5 @@
 -- What a request asks.
-use Rattle.std.specs.Prelude.{ℕ, ◌&&◌, cond, List, codes, is_some, nat_le, length, Option, Some, None, option_map}
+use Rattle.std.specs.Prelude.{[], ℕ, ◌&&◌, cond, List, codes, is_some, nat_le, length, Option, Some, None, option_map}
 use Rattle.std.specs.Prelude.{option_and_then}
 use Rattle.std.specs.Str.{bytes_eq}
 use Rattle.mf_office.specs.Texts.{caller_of}
@@ -7,7 +7,7 @@ use Rattle.mf_model.specs.declared.request.CatalogueRequest.TheVariants as catal
 use Rattle.mf_model.specs.declared.request.Flaw.TheVariants.{Malformed, NoRoute, NoMethod}
 use Rattle.mf_model.specs.declared.request.Request.{Request}
 use Rattle.mf_model.specs.declared.request.Request.TheVariants.{Unreadable, Catalogue, SeenOffices, SeenArrears}
-use Rattle.mf_model.specs.declared.request.Call.{Call}
+use Rattle.mf_model.specs.Calls.{Received, Call, nothing_received}
 use Rattle.mf_wire_requests.specs.declared.routes.Endpoint.{Endpoint}
 use Rattle.mf_wire_requests.specs.declared.routes.Endpoint.TheVariants.{ShowDay, SetDay, AddCharge, ShowCharge}
 use Rattle.mf_wire_requests.specs.declared.routes.Endpoint.TheVariants.{AddProduct, ShowProduct, RetireProduct}
@@ -92,14 +92,27 @@ abbrev pub asked_by : List ℕ → List ℕ → List ℕ → List ℕ → Reques
 asked_by caller method path body = cond (is_some (caller_of caller) && is_token method) (request_of method path body)
     (Unreadable Malformed)
 
+-- the text of a request in its four parts
+abbrev pub received_in_parts : Parts → Received
+received_in_parts p = record { told = []; method = p.method; path = p.path; body = p.body }
+
 -- a call in its four parts
 abbrev pub call_of_parts : Parts → Call
-call_of_parts p = record { caller = caller_of p.caller; request = asked_by p.caller p.method p.path p.body }
+call_of_parts p = record {
+  caller = caller_of p.caller;
+  request = asked_by p.caller p.method p.path p.body;
+  received = received_in_parts p;
+}
 
 -- what the parts of a line ask for
 abbrev pub asked_in : Option Parts → Request
 asked_in None = Unreadable Malformed
 asked_in (Some p) = asked_by p.caller p.method p.path p.body
+
+-- the text of a line in its parts, if it has them
+abbrev pub received_in : Option Parts → Received
+received_in None = nothing_received
+received_in (Some p) = received_in_parts p
 
 -- Who sends a request line, by the text before its first space, and what it asks. A line of over 65,536 bytes asks
 -- nothing.
@@ -107,4 +120,5 @@ abbrev pub call_of : List ℕ → Call
 call_of line = record {
   caller = option_and_then (λ p. caller_of p.0) (split_space line);
   request = cond (nat_le (length line) 65536) (asked_in (parts_of_line line)) (Unreadable Malformed);
+  received = received_in (parts_of_line line);
 }

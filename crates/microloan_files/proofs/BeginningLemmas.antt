@@ -8,7 +8,7 @@ use Rattle.mf_base.specs.declared.fault.Cause.TheVariants.{Read, Write, Memory}
 use Rattle.mf_base.specs.declared.fault.StreamFault.{StreamFault}
 use Rattle.mf_model.specs.Institution.{Institution, Change, after}
 use Rattle.mf_model.specs.Desk.{outcome, change_in}
-use Rattle.mf_model.specs.declared.request.Call.{Call}
+use Rattle.mf_model.specs.Calls.{Call}
 use Rattle.mf_model.specs.Run.{Line, last}
 use Rattle.mf_model.specs.Sound.{IsSound, IsInRange, AreInRange}
 use Rattle.mf_model.specs.Store.{left_after}

@@ -3,6 +3,7 @@
 mod faults;
 mod forms;
 mod memory;
+mod noted;
 mod repeats;
 
 use mf_base::Day;

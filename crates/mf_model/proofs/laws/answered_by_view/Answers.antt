@@ -6,4 +6,5 @@ pub returns-clause-office : goal.returns-clause-office
 returns-clause-office c = λ o call i t from. outcome_view o call i t from
 
 pub returns-clause-caller : goal.returns-clause-caller
-returns-clause-caller c = λ caller call i t from. outcome_view caller.office call i t (caller_from caller call from)
+returns-clause-caller c = λ caller call i t from. outcome_view caller.office call i t
+    ((caller_from caller).own call from)

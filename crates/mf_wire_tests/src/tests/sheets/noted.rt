@@ -1,0 +1,43 @@
+//! The text by which a line of a sheet is noted in a journal: it reads as that line's repayment.
+
+use super::{assert_results, lent};
+use mf_base::Day;
+use mf_journal::{repayment_body, repayment_path};
+use mf_office::Account;
+use mf_wire::answer_text;
+use std::process::Abort;
+use std::test::Fail;
+
+/// A receipt with the two characters that JSON writes with a backslash.
+const RECEIPT: &[u8] = b"R\"1\\x";
+
+const BODY: &[u8] = b"{\"amount\":20000,\"day\":\"2024-02-29\",\"receipt\":\"R\\\"1\\\\x\"}";
+
+/// A sheet with that repayment alone, and its results where the repayment is known.
+const SHEET: &[u8] = b"receipt,loan,date,amount\n\"R\"\"1\\x\",0001-000001,2024-02-29,200\n";
+
+const REPEATED: &[u8] =
+    b"receipt,loan,date,amount,result\n\"R\"\"1\\x\",0001-000001,2024-02-29,200,repeated\n";
+
+#[test]
+fn noted_text_reads_as_the_line(rt: HostRuntime) -> Result<(), Fail> {
+    let alloc = rt.alloc();
+    let mut books = lent(alloc)?;
+    let loan = Account::parse(b"0001-000001").ok_or("an account")?;
+    let day = Day::parse(b"2024-02-29").ok_or("a day")?;
+    let path = repayment_path(alloc, loan)?;
+    let body = repayment_body(alloc, 20_000, day, RECEIPT)?;
+    assert_eq!(rt; path.as_str(), "/loans/0001-000001/repayments");
+    assert_eq!(rt; body.as_slice(), BODY);
+    let (status, told) = answer_text(
+        alloc,
+        &mut books,
+        b"1/1",
+        b"POST",
+        path.as_bytes(),
+        body.as_slice(),
+    )?;
+    assert_eq!(rt; status, 201);
+    assert_eq!(rt; told.as_str(), "{\"entry\":1}");
+    assert_results(&rt, alloc, &mut books, "1/1", SHEET, REPEATED)
+}
