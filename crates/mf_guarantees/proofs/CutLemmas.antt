@@ -28,7 +28,8 @@ use Rattle.mf_account.specs.Standing.{standing_entries}
 use Rattle.mf_account.proofs.EffectLemmas.{with_settled-paid}
 use Rattle.mf_account.proofs.GoodLemmas.{IsReplayable, whole-with_settled, good-all, amounts}
 use Rattle.mf_account.proofs.SoundLemmas.{lawful-of, each-standing, first-good}
-use Rattle.mf_guarantees.specs.Reorder.{what_counts, AreNumbered, IsCutInTwo}
+use Rattle.mf_account.specs.Told.{AreNumbered}
+use Rattle.mf_guarantees.specs.Reorder.{what_counts, IsCutInTwo}
 use Rattle.mf_guarantees.proofs.ReorderLemmas.{by_day, with_dated, standing_by_day, whatever_numbers}
 
 -- ---- two payments after each other

@@ -20,7 +20,7 @@ use Rattle.mf_model.specs.declared.loan.Stage.{Stage}
 use Rattle.mf_model.specs.declared.reply.LoanReply.TheVariants.{Status}
 use Rattle.mf_model.specs.declared.reply.Reply.{Reply}
 use Rattle.mf_model.specs.declared.request.Application.{Application}
-use Rattle.mf_model.specs.declared.request.Call.{Call}
+use Rattle.mf_model.specs.Calls.{Call}
 use Rattle.mf_model.specs.declared.request.LoanRequest.{LoanRequest}
 use Rattle.mf_model.specs.declared.request.LoanRequest.TheVariants.{Show, ShowInstalments, ShowEntries, Take, Repay}
 use Rattle.mf_model.specs.declared.request.LoanRequest.TheVariants.{ChargeFee, Post, Reverse}
@@ -37,13 +37,13 @@ use Rattle.mf_model.specs.Desk.{plan, loan_need, need, meets, on_office, of_offi
 use Rattle.mf_model.specs.Desk.{sender_effect, outcome}
 use Rattle.mf_model.specs.Institution.{Institution, Catalogue, Office, Rows, Ledger, office_at, item_numbered}
 use Rattle.mf_model.specs.Institution.{with_rows, with_office, new_office, Change}
-use Rattle.mf_model.specs.Institution.{Rows_become, Office_added, after, after_maybe, charge_in, product_in}
+use Rattle.mf_model.specs.Institution.{Rows_become, Office_added, after, after_line, charge_in, product_in}
 use Rattle.mf_model.specs.Loans.{LedgerChange, on_loan, loan_changed, loan_added, new_loan, lend, with_stage}
 use Rattle.mf_model.specs.Loans.{with_new_entry, with_reversal, none_first, fee_first, enter, repayment, fee, posting}
 use Rattle.mf_model.specs.Offices.{staff_added, client_added}
 use Rattle.mf_model.specs.Outcomes.{next_of, with_value, with_found, where_found, unless_refused}
 use Rattle.mf_model.specs.Receipts.{uses_from, used_before}
-use Rattle.mf_model.specs.Run.{Line, change_of_line, next, last}
+use Rattle.mf_model.specs.Run.{Line, change_of_line, next, noted_of, last}
 use Rattle.mf_model.specs.Stages.{next_stage, stage_number}
 use Rattle.mf_model.specs.Store.{rows_of, ledger_at}
 use Rattle.mf_model.specs.Tree.{IsTree, Fits, is_there}
@@ -51,7 +51,8 @@ use Rattle.mf_model.proofs.Confined.{others_stay, old_stay}
 use Rattle.mf_model.proofs.Runs.{IsTree_next}
 use Rattle.mf_model.proofs.StaffLemmas.{rows_found}
 use Rattle.mf_model.proofs.Steps.{known_line, catalogue_change}
-use Rattle.mf_guarantees.specs.Entered.{AtSomeLine, kind_need, entries_of, entry_of, is_reversed, IsAccepted, IsEntered}
+use Rattle.mf_guarantees.specs.Entered.{AtSomeLine, kind_need, entries_held, entry_at_place, is_reversed}
+use Rattle.mf_guarantees.specs.Entered.{IsAccepted, IsEntered}
 use Rattle.mf_guarantees.specs.Entered.{IsTakenBack}
 use Rattle.mf_guarantees.proofs.LoanSteps.{IsPermitted, permitted, ChangesLoan, loan_changes, change_told, entered_is}
 use Rattle.mf_guarantees.proofs.LoanSteps.{reversed_is, some_same}
@@ -179,7 +180,8 @@ becomes_by (Reverse seq) by k rows n l becomes place h =
 -- ---- requests on offices leave the entries of all loans
 
 abbrev AreSameEntries : Rows → Rows → Type 0
-AreSameEntries old new = (n : ℕ) → entries_of (item_numbered new.loans n) ≡ entries_of (item_numbered old.loans n)
+AreSameEntries old new = (n : ℕ) → entries_held (item_numbered new.loans n)
+    ≡ entries_held (item_numbered old.loans n)
 
 abbrev AreSameBy : Rows → Result (Reply × Option Rows) Fault → Type 0
 AreSameBy rows (Err fault) = Unit {0}
@@ -202,18 +204,18 @@ refused rows (Err fault) next same = tt
 refused rows (Ok u) next same = same
 
 slice_new : (ls : List Ledger) (new : Ledger) (k : ℕ) → new.entries ≡ []
-    → entries_of (slice_get (ls ++ new ∷ []) k) ≡ entries_of (slice_get ls k)
+    → entries_held (slice_get (ls ++ new ∷ []) k) ≡ entries_held (slice_get ls k)
 slice_new [] new zero none = none
 slice_new [] new (suc k) none = refl
 slice_new (l ∷ ls) new zero none = refl
 slice_new (l ∷ ls) new (suc k) none = slice_new ls new k none
 
 numbered_new : (ls : List Ledger) (new : Ledger) (n : ℕ) → new.entries ≡ []
-    → entries_of (item_numbered (ls ++ new ∷ []) n) ≡ entries_of (item_numbered ls n)
+    → entries_held (item_numbered (ls ++ new ∷ []) n) ≡ entries_held (item_numbered ls n)
 numbered_new ls new n none = go (n == 0)
   where
-    go : (b : Bool) → entries_of (cond b None (slice_get (ls ++ new ∷ []) (n - 1)))
-        ≡ entries_of (cond b None (slice_get ls (n - 1)))
+    go : (b : Bool) → entries_held (cond b None (slice_get (ls ++ new ∷ []) (n - 1)))
+        ≡ entries_held (cond b None (slice_get ls (n - 1)))
     go true = refl
     go false = slice_new ls new (n - 1) none
 
@@ -243,11 +245,11 @@ same_by_office (ListLoans above) office k rows = tt
 -- ---- the entries of a loan in an institution after a change
 
 abbrev in_office_at : Option Office → ℕ → List Entry
-in_office_at o n = entries_of (item_numbered (rows_of o).loans n)
+in_office_at o n = entries_held (item_numbered (rows_of o).loans n)
 
 rows_same : (i : Institution) (x : ℕ) (new : Rows) (f : Office) (loan : Account) → office_at x i.offices ≡ Some f
     → AreSameEntries f.rows new
-    → entries_of (ledger_at loan (after (Rows_become x new) i)) ≡ entries_of (ledger_at loan i)
+    → entries_held (ledger_at loan (after (Rows_become x new) i)) ≡ entries_held (ledger_at loan i)
 rows_same i x new f loan there same =
     let n : ℕ = loan.number in
     elim (cases_eq loan.office x) [
@@ -264,17 +266,17 @@ rows_same i x new f loan there same =
 told_same : (i : Institution) (change : Change) (x : ℕ) (f : Office) (loan : Account)
     (r : Result (Reply × Option Rows) Fault) → office_at x i.offices ≡ Some f → AreSameBy f.rows r
     → change_in (of_office x r) ≡ Some change
-    → entries_of (ledger_at loan (after change i)) ≡ entries_of (ledger_at loan i)
+    → entries_held (ledger_at loan (after change i)) ≡ entries_held (ledger_at loan i)
 told_same i change x f loan (Err fault) there same h = absurd (cc)
 told_same i change x f loan (Ok (told, None)) there same h = absurd (cc)
 told_same i change x f loan (Ok (told, Some new)) there same h =
     let is : Rows_become x new ≡ change = cc in
-    ap (λ (c : Change). entries_of (ledger_at loan (after c i))) (sym is) ∙ rows_same i x new f loan there same
+    ap (λ (c : Change). entries_held (ledger_at loan (after c i))) (sym is) ∙ rows_same i x new f loan there same
 
 office_same : (i : Institution) (change : Change) (x : ℕ) (asked : OfficeRequest) (loan : Account) (o : Option Office)
     → office_at x i.offices ≡ o
     → change_in (in_office x (λ k f. on_office asked x k f.rows) i.catalogue o) ≡ Some change
-    → entries_of (ledger_at loan (after change i)) ≡ entries_of (ledger_at loan i)
+    → entries_held (ledger_at loan (after change i)) ≡ entries_held (ledger_at loan i)
 office_same i change x asked loan None there h = absurd (cc)
 office_same i change x asked loan (Some f) there h =
     told_same i change x f loan (on_office asked x i.catalogue f.rows) there
@@ -291,7 +293,7 @@ none_there (Some f) h = absurd (cc)
 
 new_office_same : (i : Institution) (number parent : ℕ) (name : List ℕ) (loan : Account)
     → Fits (Office_added number parent name) i.offices
-    → entries_of (ledger_at loan (after (Office_added number parent name) i)) ≡ entries_of (ledger_at loan i)
+    → entries_held (ledger_at loan (after (Office_added number parent name) i)) ≡ entries_held (ledger_at loan i)
 new_office_same i number parent name loan fit =
     let new : Office = new_office number parent name in
     let n : ℕ = loan.number in
@@ -358,8 +360,8 @@ record IsAsked (call : Call) (loan : Account) (place : ℕ) (old new : Option En
   becomes : IsMade asked by old new ⊎ IsMarked asked place old new
 
 abbrev StepAt : Call → Account → ℕ → Institution → Institution → Type 0
-StepAt call loan place i j = (entry_of loan place j ≡ entry_of loan place i)
-    ⊎ IsAsked call loan place (entry_of loan place i) (entry_of loan place j)
+StepAt call loan place i j = (entry_at_place loan place j ≡ entry_at_place loan place i)
+    ⊎ IsAsked call loan place (entry_at_place loan place i) (entry_at_place loan place j)
 
 asked_of_loan : (call : Call) (own loan : Account) (asked : LoanRequest) (place : ℕ) (i : Institution)
     (change : Change) → call.request ≡ request.Loan own asked → ChangesLoan own asked call.caller i change
@@ -368,13 +370,13 @@ asked_of_loan call own loan asked place i change is s =
     let j : Institution = after (Rows_become own.office (loan_changed own.number s.becomes s.office.rows)) i in
     let ledgers : LedgersAfter own s.ledger (s.becomes s.ledger) i j =
     ledgers_after own i s.office s.ledger s.becomes s.office_is s.ledger_is in
-    let old : slice_get s.ledger.entries place ≡ entry_of own place i =
-    ap (λ (o : Option Ledger). slice_get (entries_of o) place) (sym ledgers.before) in
-    let new : slice_get (s.becomes s.ledger).entries place ≡ entry_of own place j =
-    ap (λ (o : Option Ledger). slice_get (entries_of o) place) (sym ledgers.now) in
+    let old : slice_get s.ledger.entries place ≡ entry_at_place own place i =
+    ap (λ (o : Option Ledger). slice_get (entries_held o) place) (sym ledgers.before) in
+    let new : slice_get (s.becomes s.ledger).entries place ≡ entry_at_place own place j =
+    ap (λ (o : Option Ledger). slice_get (entries_held o) place) (sym ledgers.now) in
     let by = becomes_by asked s.caller i.catalogue s.office.rows own.number s.ledger s.becomes place s.becomes_is in
-    let told : Becomes asked s.caller place (entry_of own place i) (entry_of own place j) =
-    subst (λ (o : Option Entry). Becomes asked s.caller place o (entry_of own place j)) old
+    let told : Becomes asked s.caller place (entry_at_place own place i) (entry_at_place own place j) =
+    subst (λ (o : Option Entry). Becomes asked s.caller place o (entry_at_place own place j)) old
     (subst (λ (o : Option Entry). Becomes asked s.caller place (slice_get s.ledger.entries place) o) new by) in
     let here : StepAt call own place i j = elim told [
       | inl kept ↦ inl kept
@@ -389,7 +391,7 @@ asked_of_loan call own loan asked place i change is s =
     subst (λ (c : Change). StepAt call loan place i (after c i)) s.change_is
     (elim (same_account loan own) [
       | inl same ↦ subst (λ (a : Account). StepAt call a place i j) (sym same) here
-      | inr apart ↦ inl (ap (λ (o : Option Ledger). slice_get (entries_of o) place) (ledgers.others loan apart))
+      | inr apart ↦ inl (ap (λ (o : Option Ledger). slice_get (entries_held o) place) (ledgers.others loan apart))
     ])
 
 asked_of : (call : Call) (c : Caller) (r : Request) (loan : Account) (place : ℕ) (i : Institution) (change : Change)
@@ -398,7 +400,7 @@ asked_of : (call : Call) (c : Caller) (r : Request) (loan : Account) (place : �
 asked_of call c (request.Unreadable flaw) loan place i change is h e fit = absurd (cc)
 asked_of call c (request.Catalogue asked) loan place i change is h e fit =
     let k = catalogue_change (on_catalogue asked i.catalogue) change e in
-    inl (ap (λ (x : Change). entry_of loan place (after x i)) k.1)
+    inl (ap (λ (x : Change). entry_at_place loan place (after x i)) k.1)
 asked_of call c (request.Office x asked) loan place i change is h e fit =
     inl (ap (λ (es : List Entry). slice_get es place)
     (office_same i change x asked loan (office_at x i.offices) refl e))
@@ -409,7 +411,7 @@ asked_of call c request.SeenArrears loan place i change is h e fit = absurd (cc)
 asked_of call c (request.NewOffice number parent name) loan place i change is h e fit =
     let added : Office_added number parent name ≡ change = cc in
     inl (ap (λ (es : List Entry). slice_get es place)
-    (ap (λ (x : Change). entries_of (ledger_at loan (after x i))) (sym added)
+    (ap (λ (x : Change). entries_held (ledger_at loan (after x i))) (sym added)
     ∙ new_office_same i number parent name loan (subst (λ (x : Change). Fits x i.offices) (sym added) fit)))
 
 -- ---- one line
@@ -418,17 +420,17 @@ record MadeAt (loan : Account) (place : ℕ) (l : Line) (i : Institution) : Type
   entry : Entry
   entered : IsEntered loan entry.kind entry.staff l i
   stands : entry.reversed ≡ false
-  before : entry_of loan place i ≡ None
-  now : entry_of loan place (next l i) ≡ Some entry
+  before : entry_at_place loan place i ≡ None
+  now : entry_at_place loan place (next l i) ≡ Some entry
 
 record MarkedAt (loan : Account) (place : ℕ) (l : Line) (i : Institution) : Type 0 where
   entry : Entry
   taken_back : IsTakenBack loan place l i
-  before : entry_of loan place i ≡ Some entry
-  now : entry_of loan place (next l i) ≡ Some (record entry { reversed = true })
+  before : entry_at_place loan place i ≡ Some entry
+  now : entry_at_place loan place (next l i) ≡ Some (record entry { reversed = true })
 
 abbrev LineStep : Account → ℕ → Line → Institution → Type 0
-LineStep loan place l i = (entry_of loan place (next l i) ≡ entry_of loan place i)
+LineStep loan place l i = (entry_at_place loan place (next l i) ≡ entry_at_place loan place i)
     ⊎ (MadeAt loan place l i ⊎ MarkedAt loan place l i)
 
 accepted_by : (loan : Account) (asked : LoanRequest) (by : Caller) (l : Line) (i : Institution) (change : Change)
@@ -450,14 +452,16 @@ line_step : (loan : Account) (place : ℕ) (l : Line) (i : Institution) → IsTr
 line_step loan place l i t = go l.given_up (change_in (outcome l.call i)) refl refl
   where
     go : (g : Bool) (c : Option Change) → l.given_up ≡ g → change_in (outcome l.call i) ≡ c → LineStep loan place l i
-    go true c e f = inl (ap (λ g. entry_of loan place (after_maybe (cond g None (change_in (outcome l.call i))) i)) e)
+    go true c e f = inl (ap (λ g. entry_at_place loan place (after_line (noted_of l.call i) (cond g None
+        (change_in (outcome l.call i))) i)) e)
     go false None e f =
-        inl (ap (λ g. entry_of loan place (after_maybe (cond g None (change_in (outcome l.call i))) i)) e
-        ∙ ap (λ (c : Option Change). entry_of loan place (after_maybe c i)) f)
+        inl (ap (λ g. entry_at_place loan place (after_line (noted_of l.call i) (cond g None
+        (change_in (outcome l.call i))) i)) e
+        ∙ ap (λ (c : Option Change). entry_at_place loan place (after_line (noted_of l.call i) c i)) f)
     go false (Some change) e f =
         let is : change_of_line l i ≡ Some change = ap (λ g. cond g None (change_in (outcome l.call i))) e ∙ f in
-        let to : entry_of loan place (next l i) ≡ entry_of loan place (after change i) =
-        ap (λ (c : Option Change). entry_of loan place (after_maybe c i)) is in
+        let to : entry_at_place loan place (next l i) ≡ entry_at_place loan place (after change i) =
+        ap (λ (c : Option Change). entry_at_place loan place (after_line (noted_of l.call i) c i)) is in
         let p : IsPermitted l.call i = permitted l.call i change f in
         let known = known_line l.call.caller l.call.request (plan l.call.request) i change t refl f in
         let effect : sender_effect (Some p.caller) (plan l.call.request) i ≡ Some change =
@@ -498,14 +502,14 @@ record IsSameMade (a b : Entry) : Type 0 where
 
 -- an entry keeps its kind and who made it
 stays : (loan : Account) (place : ℕ) (lines : List Line) (i : Institution) (a b : Entry) → IsTree i.offices
-    → entry_of loan place i ≡ Some a → entry_of loan place (last lines i) ≡ Some b → IsSameMade a b
+    → entry_at_place loan place i ≡ Some a → entry_at_place loan place (last lines i) ≡ Some b → IsSameMade a b
 stays loan place [] i a b t h k =
     let same : a ≡ b = some_same a b (sym h ∙ k) in
     record { kind = ap (λ (e : Entry). e.kind) same; staff = ap (λ (e : Entry). e.staff) same }
 stays loan place (l ∷ ls) i a b t h k = elim (line_step loan place l i t) [
   | inl kept ↦ stays loan place ls (next l i) a b (IsTree_next l i t) (kept ∙ h) k
   | inr one ↦ elim one [
-    | inl made ↦ let none : entry_of loan place i ≡ None = made.before in absurd (cc)
+    | inl made ↦ let none : entry_at_place loan place i ≡ None = made.before in absurd (cc)
     | inr mark ↦
         let same : mark.entry ≡ a = some_same mark.entry a (sym mark.before ∙ h) in
         let rest = stays loan place ls (next l i) (record mark.entry { reversed = true }) b (IsTree_next l i t)
@@ -518,7 +522,7 @@ stays loan place (l ∷ ls) i a b t h k = elim (line_step loan place l i t) [
 ]
 
 pub each_entered : (loan : Account) (place : ℕ) (lines : List Line) (i : Institution) (e : Entry) → IsTree i.offices
-    → entry_of loan place i ≡ None → entry_of loan place (last lines i) ≡ Some e
+    → entry_at_place loan place i ≡ None → entry_at_place loan place (last lines i) ≡ Some e
     → AtSomeLine (IsEntered loan e.kind e.staff) lines i
 each_entered loan place [] i e t h k = absurd (cc)
 each_entered loan place (l ∷ ls) i e t h k = elim (line_step loan place l i t) [
@@ -528,12 +532,12 @@ each_entered loan place (l ∷ ls) i e t h k = elim (line_step loan place l i t)
         let same = stays loan place ls (next l i) made.entry e (IsTree_next l i t) made.now k in
         inl (subst (λ (c : Caller). IsEntered loan e.kind c l i) same.staff
         (subst (λ (x : Kind). IsEntered loan x made.entry.staff l i) same.kind made.entered))
-    | inr mark ↦ let some : entry_of loan place i ≡ Some mark.entry = mark.before in absurd (cc)
+    | inr mark ↦ let some : entry_at_place loan place i ≡ Some mark.entry = mark.before in absurd (cc)
   ]
 ]
 
 pub each_taken_back : (loan : Account) (place : ℕ) (lines : List Line) (i : Institution) → IsTree i.offices
-    → is_reversed (entry_of loan place i) ≡ false → is_reversed (entry_of loan place (last lines i)) ≡ true
+    → is_reversed (entry_at_place loan place i) ≡ false → is_reversed (entry_at_place loan place (last lines i)) ≡ true
     → AtSomeLine (IsTakenBack loan place) lines i
 each_taken_back loan place [] i t h k = absurd (cc)
 each_taken_back loan place (l ∷ ls) i t h k = elim (line_step loan place l i t) [

@@ -9,7 +9,7 @@ use Rattle.mf_account.specs.declared.entry.Entry.{Entry}
 use Rattle.mf_account.specs.Loan.{DisbursedLoan}
 use Rattle.mf_account.specs.Refusals.{refusal_of, reversal_refused}
 use Rattle.mf_model.specs.declared.reply.LoanReply.{LoanReply}
-use Rattle.mf_model.specs.declared.request.Call.{Call}
+use Rattle.mf_model.specs.Calls.{Call}
 use Rattle.mf_model.specs.declared.request.LoanRequest.{LoanRequest}
 use Rattle.mf_model.specs.declared.request.Request.{Request}
 use Rattle.mf_model.specs.declared.request.Request.TheVariants as request

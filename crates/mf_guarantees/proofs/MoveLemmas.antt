@@ -19,7 +19,7 @@ use Rattle.mf_account.proofs.StatusLemmas.{repaid_by, repaid-told}
 use Rattle.mf_model.specs.declared.loan.Stage.{Stage}
 use Rattle.mf_model.specs.declared.loan.Stage.TheVariants.{Submitted, Approved, Disbursed, Withdrawn, Rejected}
 use Rattle.mf_model.specs.declared.reply.LoanReply.TheVariants.{Status}
-use Rattle.mf_model.specs.declared.request.Call.{Call}
+use Rattle.mf_model.specs.Calls.{Call}
 use Rattle.mf_model.specs.declared.request.LoanRequest.TheVariants.{Take, Repay, Reverse}
 use Rattle.mf_model.specs.declared.request.LoanStep.TheVariants.{Disburse}
 use Rattle.mf_model.specs.declared.request.Repayment.{Repayment}
@@ -39,7 +39,7 @@ use Rattle.mf_model.proofs.AccountLemmas.{account_is}
 use Rattle.mf_model.proofs.Confined.{others_stay}
 use Rattle.mf_model.proofs.Growing.{numbered_suc}
 use Rattle.mf_model.proofs.StaffLemmas.{rows_found}
-use Rattle.mf_guarantees.specs.Moves.{repaid, paid_out, if_dated, if_there, loan_sum, office_sum, whole_sum, Rises}
+use Rattle.mf_guarantees.specs.Moves.{repaid, paid_out, if_dated, sum_or_zero, loan_sum, office_sum, whole_sum, Rises}
 use Rattle.mf_guarantees.proofs.LoanSteps.{loan_changes, change_told, entered_is, reversed_is}
 use Rattle.mf_guarantees.proofs.LoanSteps.{repeated_none, some_same}
 
@@ -185,21 +185,22 @@ moved read loan i f l becomes up there found =
     let is = ap (λ (r : Rows). sum_by read r.loans) new_rows in
     let whole = rows_sum (λ r. sum_by read r.loans) x new fs f up there in
     record {
-      before = ap (λ (r : Rows). if_there read (item_numbered r.loans n)) old_rows ∙ ap (if_there read) found;
-      now = ap (λ (r : Rows). if_there read (item_numbered r.loans n)) new_rows
-          ∙ ap (if_there read) (numbered_same becomes n f.rows.loans l found);
+      before = ap (λ (r : Rows). sum_or_zero read (item_numbered r.loans n)) old_rows ∙ ap (sum_or_zero read) found;
+      now = ap (λ (r : Rows). sum_or_zero read (item_numbered r.loans n)) new_rows
+          ∙ ap (sum_or_zero read) (numbered_same becomes n f.rows.loans l found);
       office = omega (arith, sum, was, is);
       all = omega (arith, sum, whole);
       other_loans = λ other apart. elim (cases_eq other.office x) [
         | inl same ↦
             let number : other.number ≢ n = λ e. apart (λ t. record { office = same t; number = e t }) in
-            ap (λ y. if_there read (item_numbered (rows_of (office_at y (with_rows x new fs))).loans other.number)) same
-            ∙ ap (λ (r : Rows). if_there read (item_numbered r.loans other.number)) new_rows
-            ∙ ap (if_there read) (numbered_other becomes n other.number f.rows.loans number)
-            ∙ sym (ap (λ y. if_there read (item_numbered (rows_of (office_at y fs)).loans other.number)) same
-            ∙ ap (λ (r : Rows). if_there read (item_numbered r.loans other.number)) old_rows)
+            ap (λ y. sum_or_zero read (item_numbered (rows_of (office_at y (with_rows x new fs))).loans other.number))
+                same
+            ∙ ap (λ (r : Rows). sum_or_zero read (item_numbered r.loans other.number)) new_rows
+            ∙ ap (sum_or_zero read) (numbered_other becomes n other.number f.rows.loans number)
+            ∙ sym (ap (λ y. sum_or_zero read (item_numbered (rows_of (office_at y fs)).loans other.number)) same
+            ∙ ap (λ (r : Rows). sum_or_zero read (item_numbered r.loans other.number)) old_rows)
         | inr elsewhere ↦
-            ap (λ (o : Option Office). if_there read (item_numbered (rows_of o).loans other.number))
+            ap (λ (o : Option Office). sum_or_zero read (item_numbered (rows_of o).loans other.number))
             (others_stay x other.office new fs elsewhere)
       ];
       other_offices = λ y apart.

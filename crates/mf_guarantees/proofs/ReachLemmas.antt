@@ -4,9 +4,9 @@ use Rattle.std.proofs.Common.{ap, ◌∙◌}
 use Rattle.std.specs.Prelude.{is_some}
 use Rattle.mf_office.specs.Tree.{is_at_or_below}
 use Rattle.mf_model.specs.Institution.{Institution, office_at, Change, Catalogue_becomes, Rows_become}
-use Rattle.mf_model.specs.Institution.{Office_added, after, after_maybe, new_office}
+use Rattle.mf_model.specs.Institution.{Office_added, after, after_line, new_office}
 use Rattle.mf_model.specs.Desk.{plan, change_in, outcome}
-use Rattle.mf_model.specs.Run.{Line, next, last, from_office}
+use Rattle.mf_model.specs.Run.{Line, next, noted_of, last, from_office}
 use Rattle.mf_model.specs.Tree.{IsTree, Fits, is_there, parent_of, touches}
 use Rattle.mf_model.proofs.Confined.{others_stay, old_stay}
 use Rattle.mf_model.proofs.Runs.{IsTree_next}
@@ -51,12 +51,13 @@ module _ (o y : ℕ) where
       same = record { office = refl; outside = outside }
 
       step : (g : Bool) (c : Option Change) → change_in (outcome l.call i) ≡ c
-          → Stays o y i (after_maybe (cond g None c) i)
+          → Stays o y i (after_line (noted_of l.call i) (cond g None c) i)
       step true c e = same
       step false None e = same
       step false (Some change) e =
           let known = known_line l.call.caller l.call.request (plan l.call.request) i change t refl e in
-          changed change i t known.fits (known.touching o from) there outside
+          let stays = changed change i t known.fits (known.touching o from) there outside in
+          record { office = stays.office; outside = stays.outside }
 
   -- after any run from o
   pub stays : (lines : List Line) (i : Institution) → IsTree i.offices → AreFrom o lines

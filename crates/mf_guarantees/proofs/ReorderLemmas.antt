@@ -14,7 +14,8 @@ use Rattle.mf_account.specs.Account.{after_entries, first_state}
 use Rattle.mf_account.specs.Effect.{State, own_effect, with_overpaid_paid, after_entry}
 use Rattle.mf_account.specs.Loan.{DisbursedLoan, orders_of, schedule_of, state_of_loan}
 use Rattle.mf_account.specs.Standing.{is_before, order_with, with_entry, standing_entries, entry_at}
-use Rattle.mf_guarantees.specs.Reorder.{what_counts, AreNumbered, AreSwapped, unmoved, swapped, again, AreReordered}
+use Rattle.mf_account.specs.Told.{AreNumbered}
+use Rattle.mf_guarantees.specs.Reorder.{what_counts, AreSwapped, unmoved, swapped, again, AreReordered}
 
 -- ---- entries put into their places by day alone
 

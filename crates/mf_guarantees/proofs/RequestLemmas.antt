@@ -37,14 +37,14 @@ use Rattle.mf_model.specs.Desk.{plan, on_office, of_catalogue, of_office, in_off
 use Rattle.mf_model.specs.Desk.{sender_effect, outcome}
 use Rattle.mf_model.specs.Institution.{Institution, Catalogue, Rows, Ledger, Office}
 use Rattle.mf_model.specs.Institution.{office_at, with_rows, new_office, item_numbered, charge_in, product_in}
-use Rattle.mf_model.specs.Institution.{Change, Catalogue_becomes, Rows_become, Office_added, after, after_maybe}
+use Rattle.mf_model.specs.Institution.{Change, Catalogue_becomes, Rows_become, Office_added, after, after_line}
 use Rattle.mf_model.specs.Loans.{LedgerChange, with_stage, with_reversal, unless_fault, fault_or, enter}
 use Rattle.mf_model.specs.Loans.{none_first, fee_first, reverse, repeat_of, unless_known, on_loan, of_loan, in_loan}
 use Rattle.mf_model.specs.Loans.{loan_added, new_loan, lend, repayment, fee, posting}
 use Rattle.mf_model.specs.Offices.{staff_added, client_added}
 use Rattle.mf_model.specs.Outcomes.{next_of, with_value, with_found, where_found, unless_refused}
 use Rattle.mf_model.specs.Receipts.{Use, uses_from, used_before, repeated_seq}
-use Rattle.mf_model.specs.Run.{Line, next, last}
+use Rattle.mf_model.specs.Run.{Line, next, noted_of, last}
 use Rattle.mf_model.specs.Stages.{next_stage, stage_number}
 use Rattle.mf_model.specs.Tree.{IsTree, Fits}
 use Rattle.mf_model.proofs.Confined.{others_stay, old_stay}
@@ -341,12 +341,13 @@ one_line : (l : Line) (i : Institution) → IsTree i.offices → AllRemains i (n
 one_line l i t = step l.given_up (change_in (outcome l.call i)) refl
   where
     step : (g : Bool) (c : Option Change) → change_in (outcome l.call i) ≡ c
-        → AllRemains i (after_maybe (cond g None c) i)
+        → AllRemains i (after_line (noted_of l.call i) (cond g None c) i)
     step true c e = all_self i
     step false None e = all_self i
     step false (Some change) e =
         let known = known_line l.call.caller l.call.request (plan l.call.request) i change t refl e in
-        sent l.call.caller l.call.request i change known.made_is known.fits
+        let all = sent l.call.caller l.call.request i change known.made_is known.fits in
+        record { catalogue = all.catalogue; offices = all.offices }
 
 -- nothing is gone after any run
 pub run_keeps : (lines : List Line) (i : Institution) → IsTree i.offices → AllRemains i (last lines i)

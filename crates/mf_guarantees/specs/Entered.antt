@@ -30,13 +30,13 @@ kind_need WriteOff = A_manager
 kind_need Refund = A_manager
 
 -- the entries of a loan; none where there is none
-abbrev pub entries_of : Option Ledger → List Entry
-entries_of None = []
-entries_of (Some l) = l.entries
+abbrev pub entries_held : Option Ledger → List Entry
+entries_held None = []
+entries_held (Some l) = l.entries
 
 -- the entry at a place of a loan, counted from 0
-abbrev pub entry_of : Account → ℕ → Institution → Option Entry
-entry_of loan place i = slice_get (entries_of (ledger_at loan i)) place
+abbrev pub entry_at_place : Account → ℕ → Institution → Option Entry
+entry_at_place loan place i = slice_get (entries_held (ledger_at loan i)) place
 
 -- there is an entry, and it is reversed
 abbrev pub is_reversed : Option Entry → Bool

@@ -20,13 +20,13 @@ abbrev pub paid_out : Ledger → ℕ
 paid_out l = if_dated (disbursed_on l.loan.stage) l.loan.principal
 
 -- what is read of a loan; 0 where there is none
-abbrev pub if_there : (Ledger → ℕ) → Option Ledger → ℕ
-if_there read None = 0
-if_there read (Some l) = read l
+abbrev pub sum_or_zero : (Ledger → ℕ) → Option Ledger → ℕ
+sum_or_zero read None = 0
+sum_or_zero read (Some l) = read l
 
 -- a sum of one loan
 abbrev pub loan_sum : (Ledger → ℕ) → Account → Institution → ℕ
-loan_sum read loan i = if_there read (ledger_at loan i)
+loan_sum read loan i = sum_or_zero read (ledger_at loan i)
 
 -- over the loans of office x
 abbrev pub office_sum : (Ledger → ℕ) → ℕ → Institution → ℕ

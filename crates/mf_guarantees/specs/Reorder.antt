@@ -8,10 +8,6 @@ use Rattle.mf_account.specs.Standing.{entry_at}
 abbrev pub what_counts : Entry → Entry
 what_counts e = record e { seq = 0; receipt = None; staff = record { office = 1; staff = 1 } }
 
--- each entry's number is that of its place, from 1
-abbrev pub AreNumbered : List Entry → Type 0
-AreNumbered entries = (place : ℕ) → place < length entries → (entry_at entries place).seq ≡ place + 1
-
 -- the same entries in another order, but that those of one day stand in the order in which they stood: neighbours of
 -- different days change places, as often as one likes
 pub data AreSwapped : List Entry → List Entry → Type 0 where

@@ -21,7 +21,7 @@ ghost use Rattle.mf_alloc.specs.Rows.{IsCell, outstanding};
 ghost use Rattle.mf_alloc.specs.Sums.{Instalment, AreWithin};
 ghost use Rattle.mf_arrears.specs.Ageing.{days_overdue};
 ghost use Rattle.mf_arrears.specs.Line.{AgedLoan, class_of, line_of_loans, par30_of};
-ghost use Rattle.mf_model.specs.declared.request.Call.{Call};
+ghost use Rattle.mf_model.specs.Calls.{Call};
 ghost use Rattle.mf_arrears.specs.Report.{total_of};
 ghost use Rattle.mf_model.specs.Arrears.{active_in, arrears_line};
 ghost use Rattle.mf_model.specs.Institution.{Institution, Catalogue, Change, Catalogue_becomes, Office, Staff};
@@ -35,10 +35,11 @@ ghost use Rattle.mf_model.specs.Run.{Line, last};
 ghost use Rattle.mf_model.specs.Sound.{IsSound, AreInRange};
 ghost use Rattle.mf_model.specs.Store.{ledger_at, account_of};
 ghost use Rattle.mf_guarantees.specs.Money.{IsAccountedFor};
-ghost use Rattle.mf_guarantees.specs.Entered.{AtSomeLine, IsEntered, IsTakenBack, entry_of, is_reversed};
+ghost use Rattle.mf_guarantees.specs.Entered.{AtSomeLine, IsEntered, IsTakenBack, entry_at_place, is_reversed};
 ghost use Rattle.mf_guarantees.specs.Moves.{Rises, repaid, paid_out};
 ghost use Rattle.mf_guarantees.specs.More.{PaysNoLess};
-ghost use Rattle.mf_guarantees.specs.Reorder.{AreNumbered, AreReordered, IsCutInTwo};
+ghost use Rattle.mf_account.specs.Told.{AreNumbered};
+ghost use Rattle.mf_guarantees.specs.Reorder.{AreReordered, IsCutInTwo};
 ghost use Rattle.mf_guarantees.specs.Sources.{HasSources};
 ghost use Rattle.mf_guarantees.specs.Sums.{paid_out_in, all_paid_out, AreAccountedFor};
 ghost use Rattle.mf_guarantees.specs.Roles.{is_repayment, is_concession};
@@ -125,10 +126,11 @@ pub fn only_managers_concede()
 /// at that moment.
 pub fn every_entry_was_allowed_when_it_was_made()
     ensures made { (i : Institution) (lines : List Line) (loan : Account) (place : ℕ) (entry : Entry) →
-        IsTree i.offices → entry_of loan place i ≡ None → entry_of loan place (last lines i) ≡ Some entry →
+        IsTree i.offices → entry_at_place loan place i ≡ None → entry_at_place loan place (last lines i) ≡ Some entry →
         AtSomeLine (IsEntered loan entry.kind entry.staff) lines i }
     ensures taken_back { (i : Institution) (lines : List Line) (loan : Account) (place : ℕ) → IsTree i.offices →
-        is_reversed (entry_of loan place i) ≡ false → is_reversed (entry_of loan place (last lines i)) ≡ true →
+        is_reversed (entry_at_place loan place i) ≡ false → is_reversed (entry_at_place loan place (last lines i))
+            ≡ true →
         AtSomeLine (IsTakenBack loan place) lines i }
 {}
 
