@@ -5,6 +5,7 @@ The program is that of this checkout, or the one that MICROLOAN names. What is w
 the system has a folder for it. It wants the `sqlite3` shell.
 """
 import contextlib
+import json
 import os
 import shutil
 import sqlite3
@@ -17,6 +18,7 @@ PROGRAM = os.environ.get("MICROLOAN") or os.path.join(TOP, "out", "microloan")
 DAYS = 87  # the first lines of the program's request lines: the day of docs/lines.md
 PAGE = 4096
 SUM = 8  # bytes at the end of each page
+MOST_ENTRIES = 9999  # of a loan
 PATIENCE = 60  # seconds that a command may take
 FIRST_SCHEMA = "drop table instalments; drop table shares; update meta set schema = 1"
 # what shows an institution of that day, and of the lines that follow it here
@@ -58,6 +60,28 @@ def answered(path, lines):
     if status != 0:
         raise SystemExit(f"the program refuses {path}: {said.decode(errors='replace').strip()}")
     return replies
+
+
+def lines_of_most_entries(each_reversed=False):
+    """Lines of a loan that takes as many entries as it may, and one more, each with its reply, worked out by hand."""
+    account, of = '"loan":"0001-000001"', "1/1 POST /loans/0001-000001"
+    product = {"name": "Many", "method": "flat", "rate": 1200, "frequency": "months", "every": 1}
+    product |= {"principal_grace": 0, "interest_grace": 0, "min_principal": 1, "max_principal": 100000}
+    product |= {"min_periods": 1, "max_periods": 12, "strategy": "mifos-standard-strategy"}
+    yield '1/1 POST /clients {"office":1,"name":"Amina"}', '201 {"client":"0001-000001"}'
+    yield f"1/1 POST /products {json.dumps(product)}", '201 {"product":1}'
+    yield '1/1 POST /loans {"client":"0001-000001","product":1,"principal":100000,"periods":3}', f"201 {{{account}}}"
+    yield f"{of}/approve", f'200 {{{account},"status":200}}'
+    yield f'{of}/disburse {{"day":"2024-01-01"}}', f'200 {{{account},"status":300}}'
+    cent = f'{of}/repayments {{"amount":1,"day":"2024-01-01"}}'
+    for entry in range(1, MOST_ENTRIES + 1):
+        yield cent, f'201 {{"entry":{entry}}}'
+        if each_reversed:
+            yield f"{of}/entries/{entry}/reverse", f'200 {{"entry":{entry}}}'
+    yield cent, '409 {"fault":"F18"}'
+    if not each_reversed:
+        yield f"{of}/entries/{MOST_ENTRIES}/reverse", f'200 {{"entry":{MOST_ENTRIES}}}'
+        yield cent, '409 {"fault":"F18"}'
 
 
 def day_lines():
