@@ -1,23 +1,24 @@
 // The frame of all pages: who is signed in, the way to each page, and which page the address names.
-import {button, element, fill, link, spinner} from "./shared/elements.js";
+import {alertBox, button, element, fill, link, spinner} from "./shared/elements.js";
 import {leavePage, Problem} from "./shared/api.js";
-import {beginSession, session, HEAD_OFFICE, MANAGER, OFFICER, TELLER} from "./shared/session.js";
+import {beginSession, endSession, session, HEAD_OFFICE, MANAGER, OFFICER, TELLER} from "./shared/session.js";
 import {followHistory, leaveDialog, note} from "./shared/dialogs.js";
 import {adoptOlder, unsentLines, whenDraftsChange} from "./shared/drafts.js";
-import {institution, learnInstitution} from "./shared/institution.js";
-import {refusalLine, showRefusal} from "./shared/refusals.js";
+import {institution, learnInstitution, recallInstitution} from "./shared/institution.js";
+import {keptWords, whenKeptChanges} from "./shared/kept.js";
+import {refusalBox, refusalLine, showRefusal} from "./shared/refusals.js";
 import {officeNamed, offices} from "./shared/desk.js";
 import {leaveForSignIn, ownActs} from "./shared/person.js";
 import {LANGUAGES, chooseLanguage, language, locale, say, showDay} from "./shared/words.js";
 
 // each in a file of views/ of its name, loaded once it is shown
 const PAGES = [
-    "today", "clients", "client", "loans", "loan", "waivers", "statement", "round", "arrears", "penalties", "catalogue",
-    "people"
+    "today", "clients", "client", "loans", "loan", "waivers", "statement", "round", "kept", "arrears", "penalties",
+    "catalogue", "people"
 ];
 const WAYS = [
-    ["today"], ["clients", "client"], ["loans", "loan", "waivers"], ["round"], ["arrears", "penalties"], ["catalogue"],
-    ["people"]
+    ["today"], ["clients", "client"], ["loans", "loan", "waivers"], ["round", "kept"], ["arrears", "penalties"],
+    ["catalogue"], ["people"]
 ];
 const ROLES = {
     [TELLER]: "teller",
@@ -26,12 +27,17 @@ const ROLES = {
     [HEAD_OFFICE]: "head"
 };
 
+const SLOW = 5000;  // milliseconds after which one may go on without waiting for the desk
+
 const main = element("main", {id: "main", class: "container-xl py-3 py-md-4", tabindex: "-1"});
 
-// #/loan/0005-000001 names the page loan, and hands it the rest
+let without = null;  // why the pages were opened without the desk
+
+// #/loan/0005-000001 names the page loan, and hands it the rest. Without the desk a round is the one on this phone.
 function place() {
     const [name, ...rest] = location.hash.replace(/^#\/?/, "").split("/");
-    return {name: PAGES.includes(name) ? name : "today", rest: rest.map(decodeURIComponent)};
+    const known = PAGES.includes(name) ? name : "today";
+    return {name: without !== null && known === "round" ? "kept" : known, rest: rest.map(decodeURIComponent)};
 }
 
 async function load(name) {
@@ -54,7 +60,11 @@ async function showPage() {
     const isFirst = shown === null;
     shown = page;
     try {
-        await (await load(name))(page, ...rest);
+        if (without !== null && name !== "kept") {
+            showWithout(page, name);
+        } else {
+            await (await load(name))(page, ...rest);
+        }
     } catch (problem) {
         if (shown === page) {
             showRefusal(page, problem, showPage);
@@ -70,6 +80,19 @@ async function showPage() {
             title.focus({preventScroll: true});
         }
     }
+}
+
+// What needs the desk says that there is no network, and what can be done.
+function showWithout(page, name) {
+    const way = WAYS.find((names) => names.includes(name))?.[0] ?? "loans";  // where a statement belongs to
+    const words = without.hasNoReply ?
+        alertBox("info", element("p", {class: "fw-semibold mb-1"}, say("without.what")), say("without.do")) :
+        refusalBox(without);
+    fill(
+        page, element("h1", {class: "h3", tabindex: "-1"}, say(`way.${way}`)), words,
+        element(
+            "div", {class: "page-actions"}, link("#/kept", say("kept.title"), {class: "btn btn-primary"}),
+            button(say(without.hasNoReply ? "without.again" : "again"), begin)));
 }
 
 // The way to the page that is shown shows it anew.
@@ -108,7 +131,8 @@ function person(officeName) {
         element("div", {class: "person-office"}, `${session.staff} ${officeName}`));
 }
 
-function topBar(officeName) {
+// end: what stands at the bar's end, before the choice of a language
+function topBar(dayWords, end) {
     const ways = WAYS.map(
         ([name]) => element(
             "li", {class: "nav-item"},
@@ -127,11 +151,11 @@ function topBar(officeName) {
     const day = element(
         "span", {class: "business-day", id: "business-day", title: say("business-day")},
         element("span", {class: "visually-hidden"}, `${say("business-day")} `),
-        element("span", {id: "day-shown"}, showDay(session.day)));
+        element("span", {id: "day-shown"}, dayWords));
     const inner = element(
         "div", {class: "collapse navbar-collapse", id: "menu"},
         element("ul", {class: "navbar-nav me-auto", id: "ways"}, ways),
-        element("div", {class: "bar-end"}, person(officeName), ownActs(session), languageChoice()));
+        element("div", {class: "bar-end"}, end, languageChoice()));
     return element(
         "header", {class: "bar d-print-none"},
         element(
@@ -139,11 +163,23 @@ function topBar(officeName) {
             link("#/today", institution.name, {class: "navbar-brand"}), day, toggler, inner));
 }
 
-// Each page tells which rounds have lines that were typed and not sent, and leads there.
+// Each page tells what was typed into rounds and not sent, in this browser and on this phone, and leads there.
 const unsent = element("div", {class: "unsent d-print-none", role: "status"});
 
-async function showUnsent() {
-    const lines = unsentLines(await offices());
+let telling = null;
+
+// What is changed in one go is told in one.
+function showUnsent() {
+    telling ??= Promise.resolve().then(() => {
+        telling = null;
+        return tellUnsent();
+    });
+    return telling;
+}
+
+async function tellUnsent() {
+    const [list, kept] = await Promise.all([without === null ? offices() : null, keptWords().catch(() => null)]);
+    const lines = [...unsentLines(list), kept].filter(Boolean);
     fill(unsent, lines.map(({href, words}) => element("div", {class: "container-xl"}, link(href, words))));
 }
 
@@ -167,30 +203,85 @@ function skipLink() {
     return button(say("skip"), skip, {class: "btn btn-primary skip-link"});
 }
 
+// The frame, and in it the page that the address names.
+async function showFrame(bar) {
+    const printed = element("div", {class: "institution d-none d-print-block"}, institution.name);
+    fill(document.getElementById("desk"), skipLink(), bar, unsent, printed, main);
+    document.documentElement.dataset.locale = locale;
+    window.addEventListener("hashchange", showPage);
+    adoptOlder();
+    whenDraftsChange(showUnsent);
+    whenKeptChanges(showUnsent);
+    await showUnsent();
+    followHistory();
+    window.addEventListener("desk-day", showNewDay);
+    window.addEventListener("desk-begin", begin);
+    window.addEventListener("online", beginUnasked);
+    window.addEventListener("unhandledrejection", tellProblem);
+    await showPage();
+}
+
+let attempt = 0;  // a later beginning, or going on without the desk, takes the place of those before
+
 async function begin() {
+    attempt += 1;
+    const own = attempt;
     const desk = document.getElementById("desk");
     document.documentElement.lang = language;
     fill(desk, element("div", {class: "container py-5"}, spinner(say("loading"))));
+    const offer = () => desk.firstChild.append(button(say("without.go"), () => beginWithout(new Problem({}))));
+    const clock = setTimeout(offer, SLOW);
     try {
         await Promise.all([learnInstitution(), beginSession(), load(place().name)]);
-        const own = await officeNamed(session.office);
-        const printed = element("div", {class: "institution d-none d-print-block"}, institution.name);
-        fill(desk, skipLink(), topBar(own?.name ?? ""), unsent, printed, main);
-        document.documentElement.dataset.locale = locale;
-        window.addEventListener("hashchange", showPage);
-        adoptOlder();
-        whenDraftsChange(() => showUnsent());
-        await showUnsent();
-        followHistory();
-        window.addEventListener("desk-day", showNewDay);
-        window.addEventListener("unhandledrejection", tellProblem);
-        await showPage();
-    } catch (problem) {
-        if (problem.front === "password" && await leaveForSignIn()) {
-            return;
+        const name = (await officeNamed(session.office))?.name ?? "";
+        if (own === attempt) {
+            without = null;
+            await showFrame(topBar(showDay(session.day), [person(name), ownActs(session)]));
         }
+    } catch (problem) {
+        if (own === attempt) {
+            await goOnAfter(problem, desk);
+        }
+    } finally {
+        clearTimeout(clock);
+    }
+}
+
+async function goOnAfter(problem, desk) {
+    if (problem.front === "password" && await leaveForSignIn()) {
+        return;
+    }
+    if (problem instanceof Problem && problem.isLost) {
+        await beginWithout(problem);
+    } else {
         showRefusal(fill(desk, element("div", {class: "container py-5"})).firstChild, problem, begin);
     }
 }
 
-begin();
+// The pages without the desk: what is kept on this phone, whoever is signed in.
+async function beginWithout(problem) {
+    attempt += 1;
+    without = problem;
+    endSession();
+    recallInstitution();
+    await showFrame(topBar(say(problem.hasNoReply ? "without.network" : "without.desk"), null));
+}
+
+// The network is back: the desk is begun with, unless something is being typed.
+function beginUnasked() {
+    if (without !== null && !document.activeElement.matches("input, select")) {
+        begin();
+    }
+}
+
+// Once the page is there, its files are kept for a time without a network. Only a safe address has a worker.
+async function keepPages() {
+    try {
+        await navigator.serviceWorker?.register("/worker.js", {updateViaCache: "none"});
+    } catch (problem) {
+        console.warn("the pages are not kept", problem);  // they work without it, as long as there is a network
+    }
+}
+
+await begin();
+await keepPages();

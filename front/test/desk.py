@@ -245,8 +245,9 @@ def credentials(name, password=None):
     return base64.b64encode(f"{name}:{password_of(name, password)}".encode()).decode()
 
 
-def new_browser(width, height, language="en"):
-    """A headless Chromium. The width is set by the browser's tools, since its windows are at least 500 columns wide."""
+def new_browser(width, height, language="en", profile=None):
+    """A headless Chromium, with a profile that may be a folder's. The width is set by the browser's tools, since its
+    windows are at least 500 columns wide."""
     from selenium import webdriver
     from selenium.webdriver.chrome.service import Service
 
@@ -256,6 +257,8 @@ def new_browser(width, height, language="en"):
         options.add_argument(word)
     if os.geteuid() == 0:
         options.add_argument("--no-sandbox")
+    if profile:
+        options.add_argument(f"--user-data-dir={profile}")
     options.add_experimental_option("prefs", {"intl.accept_languages": language})
     options.set_capability("goog:loggingPrefs", {"browser": "ALL"})
     driver = webdriver.Chrome(service=Service(running.find("chromedriver")), options=options)

@@ -211,6 +211,7 @@ class OtherSites(unittest.TestCase):
                 self.assertEqual(status, wanted)
                 policies = "; ".join(fields.get_all("Content-Security-Policy"))
                 self.assertIn("default-src 'self'; img-src 'self' data:", policies)
+                self.assertIn("worker-src 'self'; manifest-src 'self'", policies)
                 self.assertIn("frame-ancestors 'none'", policies)
                 self.assertNotIn("unsafe", policies)
                 self.assertEqual(fields["X-Content-Type-Options"], "nosniff")

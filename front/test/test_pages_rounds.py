@@ -10,16 +10,20 @@ import test_pages_loans as loans
 import running
 
 COUNT = 40
-FORTY = (
-    loans.LINES
-    + b"".join(
+
+
+def lines_of(count):
+    """An office with so many loans, on 2024-03-31."""
+    paid_out = (
         b'2/2 POST /clients {"office":2,"name":"Client %d"}\n'
         b'2/2 POST /loans {"client":"0002-%06d","product":1,"principal":100000,"periods":3}\n'
-        b'2/1 POST /loans/0002-%06d/approve\n2/1 POST /loans/0002-%06d/disburse {"day":"2024-01-31"}\n' % (i, i, i, i)
-        for i in range(1, COUNT + 1)
+        b'2/1 POST /loans/0002-%06d/approve\n2/1 POST /loans/0002-%06d/disburse {"day":"2024-01-31"}\n'
     )
-    + b'1/1 PUT /business-day {"day":"2024-03-31"}\n'
-)
+    made = b"".join(paid_out % (i, i, i, i) for i in range(1, count + 1))
+    return loans.LINES + made + b'1/1 PUT /business-day {"day":"2024-03-31"}\n'
+
+
+FORTY = lines_of(COUNT)
 # a slow network, so that something can happen while a round is sent
 SLOW = {"offline": False, "latency": 60, "downloadThroughput": -1, "uploadThroughput": -1}
 

@@ -378,7 +378,7 @@ class Backups(roots.ServedDesk):
     def follow_the_page(self, bundle):
         """Runs the lines of its page. What they print."""
         with open(os.path.join(roots.TOP, "docs", "recovery.md"), encoding="utf-8") as file:
-            page = file.read().split("## From a dead machine to a running desk")[1].split("```")[1]
+            page = file.read().split("## From a dead machine to a running desk")[1].split("\n```\n")[1]
         page = re.sub(r"  +\(.*\)\n", "\n", page.replace("\\\n", " "))
         page = page.replace("RWR5cbL9..", self.signer).replace("apt install", "apt-get -qq install -y")
         page = re.sub(r"\./microloan_[0-9.]+_amd64.deb", "/root/microloan.deb", page)

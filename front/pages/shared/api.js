@@ -19,6 +19,11 @@ export class Problem extends Error {
         return this.fault === "F20" ||
             (this.fault === null && !["origin", "large", "password", "left", "log", "reader"].includes(this.front));
     }
+
+    // whether nothing answered at all
+    get hasNoReply() {
+        return this.fault === null && this.front === null && this.status === 0;
+    }
 }
 
 let running = 0;
@@ -154,10 +159,16 @@ export function repay(loan, repayment) {
     return tryAgain(() => change("POST", `/loans/${loan}/repayments`, repayment));
 }
 
-export async function whoAmI() {
-    return (await tryAgain(() => send("GET", "/me"))).body;
+// What the pages begin with. A browser that says there is no network isn't asked again and again.
+async function firstRead(path) {
+    const once = () => send("GET", path);
+    return (await (navigator.onLine ? tryAgain(once) : once())).body;
 }
 
-export async function institutionFile() {
-    return (await tryAgain(() => send("GET", "/institution.json"))).body;
+export function whoAmI() {
+    return firstRead("/me");
+}
+
+export function institutionFile() {
+    return firstRead("/institution.json");
 }

@@ -122,12 +122,17 @@ function unsentRounds() {
     return [...rounds.keys()].sort().map((name) => rounds.get(name));
 }
 
-// the same in words, for the offices of a list, each with where it is
+// the same in words, for the offices of a list, each with where it is; all of them by number where there is no list
 export function unsentLines(list) {
-    const names = new Map(list.map(({number, name}) => [number, name]));
-    return unsentRounds().filter(({office}) => names.has(office)).map(({office, day, lines, cents}) => ({
+    const names = new Map(list?.map(({number, name}) => [number, name]));
+    const isTold = ({office}) => list === null || names.has(office);
+    return unsentRounds().filter(isTold).map(({office, day, lines, cents}) => ({
         href: `#/round/${office}/${day}`,
-        words: sayCount("unsent", lines, {day: showDay(day), office: names.get(office), amount: showMoney(cents)})
+        words: sayCount("unsent", lines, {
+            day: showDay(day),
+            office: names.get(office) ?? office,
+            amount: showMoney(cents)
+        })
     }));
 }
 

@@ -60,6 +60,15 @@ export function textField({label, hint}) {
     return field({label, input: textInput({maxlength: MOST_LETTERS}), hint, judge: (text) => ({value: text.trim()})});
 }
 
+// what is not shown as it is typed, and kept by no browser
+export function passwordField({label, hint, least, most}) {
+    const judge = (text) => {
+        const length = [...text].length;
+        return length >= least && length <= most ? {value: text} : {wrong: say("field.length", {least, most})};
+    };
+    return field({label, input: textInput({type: "password", autocomplete: "off"}), hint, judge, wide: true});
+}
+
 export function nameField({label, value = ""}) {
     const judge = (text) => (isName(text.trim()) ? {value: text.trim()} : {wrong: say("field.name.wrong")});
     return field({label, input: textInput({value, maxlength: 200}), hint: say("field.name.hint"), judge, wide: true});

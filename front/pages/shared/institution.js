@@ -9,6 +9,7 @@ export const institution = {
     leastDue: 1n,
     asksTotal: false,
 };
+const KEPT_AS = "institution";
 
 function centsOr(value, otherwise) {
     return Number.isSafeInteger(value) && value > 0 ? BigInt(value) : otherwise;
@@ -16,6 +17,16 @@ function centsOr(value, otherwise) {
 
 export async function learnInstitution() {
     const told = await institutionFile();
+    localStorage.setItem(KEPT_AS, JSON.stringify(told));
+    take(told);
+}
+
+// what it told this browser last, where nothing answers
+export function recallInstitution() {
+    take(JSON.parse(localStorage.getItem(KEPT_AS) ?? "{}"));
+}
+
+function take(told) {
     if (typeof told.name === "string" && told.name.trim() !== "") {
         institution.name = told.name.trim();
     }

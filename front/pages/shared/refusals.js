@@ -1,8 +1,16 @@
 // Refusals in words, each with what to do.
-import {button, element, fill, alertBox} from "./elements.js";
+import {button, element, fill, alertBox, link} from "./elements.js";
 import {Problem} from "./api.js";
 import {NotDone, NotKnown} from "./writing.js";
 import {hasWords, say} from "./words.js";
+
+// What a page found itself, in its own words: what it is, and what to do.
+export class Told extends Error {
+    constructor(what, todo) {
+        super(what);
+        this.todo = todo;
+    }
+}
 
 const KINDS = ["origin", "down", "large", "busy", "password", "log", "many", "slow", "reader"];
 
@@ -15,6 +23,9 @@ function keyOf(problem) {
 
 // what was refused, and what to do about it
 export function inWords(problem) {
+    if (problem instanceof Told) {
+        return {what: problem.message, todo: problem.todo, mark: ""};
+    }
     if (problem instanceof NotDone) {
         return {what: say("front.not-done.what"), todo: say("front.not-done.do"), mark: markOf(problem.problem)};
     }
@@ -46,11 +57,16 @@ export function refusalLine(problem) {
     return `${mark ? `${mark}: ` : ""}${what} ${todo}`;
 }
 
-// Shows in this place what went wrong with a reading, and lets it be tried again.
+// Shows in this place what went wrong with a reading, and lets it be tried again. What is kept on this phone opens also
+// where nothing answers.
 export function showRefusal(place, problem, again) {
     const box = refusalBox(problem);
+    const small = "btn btn-sm btn-outline-danger mt-2 me-2";
     if (again) {
-        box.append(button(say("again"), again, {class: "btn btn-sm btn-outline-danger mt-2"}));
+        box.append(button(say("again"), again, {class: small}));
+    }
+    if (problem instanceof Problem && problem.isLost) {
+        box.append(link("#/kept", say("kept.title"), {class: small}));
     }
     fill(place, box);
 }

@@ -71,6 +71,11 @@ export async function beginSession() {
     sessionStorage.setItem("rank", String(session.rank));
 }
 
+// Nobody is known to be signed in: nothing answers.
+export function endSession() {
+    Object.assign(session, {user: "", hasSession: false, staff: "", office: 0, rank: 0, day: ""});
+}
+
 export async function renewDay() {
     session.day = (await read("/business-day")).day;
     return session.day;

@@ -68,6 +68,32 @@ export const showMoney = money.format;
 export const readMoney = money.parse;
 export const showDay = daysFor(locale);
 
+const clock = new Intl.DateTimeFormat(locale, {
+    hour: "2-digit",
+    minute: "2-digit",
+    hourCycle: "h23",
+    numberingSystem: "latn"
+});
+
+// a moment by this machine's clock: its time, and its day where that isn't today's
+export function showMoment(milliseconds) {
+    const moment = new Date(milliseconds);
+    const date = [moment.getFullYear(), moment.getMonth() + 1, moment.getDate()];
+    const day = date.map((part) => String(part).padStart(2, "0")).join("-");
+    const isToday = moment.toDateString() === new Date().toDateString();
+    return isToday ? clock.format(moment) : `${showDay(day)} ${clock.format(moment)}`;
+}
+
+const ago = new Intl.RelativeTimeFormat(locale, {numberingSystem: "latn"});
+
+// how long ago a moment was: in minutes, from an hour on in hours, from two days on in days
+export function showAge(milliseconds) {
+    const minutes = Math.floor((Date.now() - milliseconds) / 60_000);
+    const units = [[2880, 1440, "day"], [60, 60, "hour"], [-Infinity, 1, "minute"]];
+    const [, size, unit] = units.find(([least]) => minutes >= least);
+    return ago.format(-Math.floor(minutes / size), unit);
+}
+
 export function showCount(count) {
     return counted.format(count);
 }

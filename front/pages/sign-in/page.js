@@ -1,11 +1,13 @@
 // The page of the sign-in: name and password, a first password that must be changed, a code; and, for who is signed in,
 // their own password (#password), their second factor (#code) and their people (#people). Another #.. is the way back.
 import {alertBox, button, element, fill, freshId, link} from "../shared/elements.js";
-import {LANGUAGES, chooseLanguage, language} from "../shared/words.js";
+import {keptWords} from "../shared/kept.js";
+import {LANGUAGES, chooseLanguage, language, say} from "../shared/words.js";
 import {asked, Refused, sendCode, signIn} from "./asking.js";
 import {told, word} from "./words.js";
 
 const main = document.getElementById("sign-in");
+const kept = element("div", {class: "unsent", role: "status"});
 const trouble = element("div", {"aria-live": "assertive"});
 let user = "";
 
@@ -64,6 +66,13 @@ function show(title, ...content) {
         element("h1", {class: "h3"}, title), languageChoice()), trouble, content);
     document.title = `${title} · microloan`;
     main.querySelector("input")?.focus();
+}
+
+// What waits on this phone is told here too. Without a network it opens, whoever is signed in.
+async function showKept() {
+    const waiting = (await keptWords().catch(() => null))?.words;
+    const words = navigator.onLine ? waiting : link("/#/kept", waiting ?? say("kept.title"));
+    fill(kept, words && element("div", {class: "container"}, words));
 }
 
 function goToDesk() {
@@ -209,6 +218,8 @@ const OWN_PAGES = {"#password": showOwnPassword, "#code": showSecondFactor, "#pe
 
 async function begin() {
     document.documentElement.lang = language;
+    main.before(kept);
+    showKept();
     const page = OWN_PAGES[location.hash];
     if (!page) {
         showForm();
@@ -227,4 +238,6 @@ async function begin() {
 }
 
 window.addEventListener("hashchange", begin);
+window.addEventListener("online", showKept);
+window.addEventListener("offline", showKept);
 begin();

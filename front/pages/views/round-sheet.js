@@ -58,16 +58,16 @@ async function readKnown(loan) {
     return knownOf(told, entries);
 }
 
-// Sends lines in their order. Ends early where no reply comes, and answers that problem: the lines after it were not
-// sent.
+// Sends lines in their order, each once what is told of it is done. Ends early where no reply comes, and answers that
+// problem: the lines after it were not sent.
 export async function sendLines(lines, reason, tell) {
     for (const line of lines) {
         line.isSending = true;
         line.result = null;
-        tell(line);
+        await tell(line);
         const problem = await sendLine(line, reason);
         line.isSending = false;
-        tell(line);
+        await tell(line);
         if (problem?.isLost || problem?.front === "password") {
             return problem;
         }
@@ -87,7 +87,7 @@ async function sendLine(line, reason) {
         if (!(problem instanceof Problem)) {
             throw problem;
         }
-        line.result = problem.fault ?? "lost";
+        line.result = problem.fault ?? (problem.isLost ? "lost" : problem.front);
         return problem;
     }
 }
@@ -106,16 +106,19 @@ export function resultNode(result) {
     if (result === "lost") {
         return element("span", {class: "badge status-waiting", "data-result": result}, say("result.lost"));
     }
-    const {what, todo} = inWords(new Problem({fault: result}));
+    const isFault = /^F\d/.test(result);
+    const {what, todo} = inWords(new Problem(isFault ? {fault: result} : {front: result}));
     return element(
-        "span", {class: "line-refusal", "data-result": result}, element("strong", {}, `${result}: ${what} `), todo);
+        "span", {class: "line-refusal", "data-result": result},
+        element("strong", {}, `${isFault ? `${result}: ` : ""}${what} `), todo);
 }
 
 // how often lines came to what, in words
 export function tally(results) {
     const count = (name) => results.filter((result) => result === name).length;
-    const refused = results.filter((result) => /^F\d|^formula$/.test(result ?? "")).length;
-    const counts = {entered: count("entered"), repeated: count("repeated"), refused, lost: count("lost")};
+    const known = {entered: count("entered"), repeated: count("repeated"), lost: count("lost")};
+    const refused = results.filter(Boolean).length - known.entered - known.repeated - known.lost;
+    const counts = {entered: known.entered, repeated: known.repeated, refused, lost: known.lost};
     return Object.entries(counts)
         .filter(([, number]) => number > 0)
         .map(([name, number]) => say(`tally.${name}`, {count: showCount(number)}))

@@ -1,11 +1,11 @@
 // A round of collections: what is due in an office by a day, loan by loan, and the repayments of the round.
-import {alertBox, button, card, element, emptyState, fill, freshId, spinner} from "../shared/elements.js";
+import {alertBox, button, card, element, emptyState, fill, freshId, link, spinner} from "../shared/elements.js";
 import {renewDay, session} from "../shared/session.js";
-import {asTree, entries as readEntries, loan as readLoan, offices} from "../shared/desk.js";
+import {asTree, offices} from "../shared/desk.js";
 import {isDay} from "../shared/days.js";
 import {sum} from "../shared/money.js";
 import {draftsOf, endDraft, keepDraft, NO_DRAFT, throwAway, whenDraftsChange} from "../shared/drafts.js";
-import {knownOf} from "../shared/repayments.js";
+import {idOf, keptRounds} from "../shared/kept.js";
 import {say, sayCount, showDay, showMoney} from "../shared/words.js";
 import {officeChoice, pageHead} from "../shared/tables.js";
 import {choiceField, dayField, textField} from "../shared/forms.js";
@@ -13,8 +13,11 @@ import {ask} from "../shared/dialogs.js";
 import {refusalBox} from "../shared/refusals.js";
 import {lineTable, sumsByCollector} from "./round-lines.js";
 import {readOthers, readRound} from "./round-reading.js";
-import {nextReceipt, paymentsOf} from "./round-receipts.js";
+import {nextReceipt} from "./round-receipts.js";
 import {askBefore, saveSheet, sendLines, sheetCard, tally} from "./round-sheet.js";
+import {beginFurther, renewLine, settleLine} from "./round-state.js";
+import {canSeal} from "./kept-pin.js";
+import {takeAlong} from "./kept-taking.js";
 
 export async function round(page, officeText, dayText) {
     const [list] = await Promise.all([offices(), renewDay()]);
@@ -37,9 +40,21 @@ export async function round(page, officeText, dayText) {
         element("p", {class: "d-none d-print-block"}, `${office} ${named?.name ?? ""} · ${showDay(day)}`),
         element("div", {class: "filters d-print-none"}, choice, dayChoice.node), place,
         element("div", {class: "mt-3 d-print-none"}, sheetCard()));
-    const made = {place, actions, office, day, isEarly: day > session.day, ...(await readRound(office, day))};
+    const names = {office, officeName: named?.name ?? "", day};
+    const made = {place, actions, ...names, isEarly: day > session.day, ...(await readRound(office, day))};
     showRound(made);
+    await noteKept(made);
     await addOthers(made);
+}
+
+// A round that is on this phone too is told of: what was typed there is entered from there.
+async function noteKept({place, office, day}) {
+    const id = idOf({office, day});
+    const kept = await keptRounds().catch(() => []);
+    if (kept.some((record) => record.id === id)) {
+        const way = link(`#/kept/${office}/${day}`, say("kept.title"), {class: "btn btn-sm btn-outline-secondary ms-2"});
+        place.before(alertBox("info", say("kept.here"), way));
+    }
 }
 
 // What was typed in another tab is shown in this one as long as the page is there.
@@ -68,17 +83,8 @@ function takeDrafts(made, loan) {
     showState(made);
 }
 
-// reads again what the round has of a loan
 async function renew(made, line) {
-    const [told, entries] = await Promise.all([readLoan(line.loan), readEntries(line.loan)]);
-    line.payments = paymentsOf(line, entries);
-    line.known = knownOf(told, entries);
-    const paid = line.owed - line.known.owed;
-    line.owed = line.known.owed;
-    line.due = line.due > paid ? line.due - paid : 0n;
-    if (line.text === "") {
-        line.receipt = nextReceipt(line, line.payments);
-    }
+    await renewLine(line);
     made.table.show(line);
     showState(made);
 }
@@ -124,7 +130,8 @@ function showRound(made) {
     };
     fill(
         actions, button(say("print"), () => window.print(), quiet),
-        button(say("round.save"), () => saveSheet(lines, `${office}-${day}`), quiet));
+        button(say("round.save"), () => saveSheet(lines, `${office}-${day}`), quiet),
+        canSeal() && button(say("kept.take"), () => made.isSending || takeAlong(made), quiet));
     const {summary, trouble, propose, enter, drop} = made.parts;
     fill(
         place, isEarly && alertBox("info", say("round.early", {day: showDay(session.day)})), arrangement(made),
@@ -141,7 +148,7 @@ function smallNote({small}) {
 }
 
 // what is looked for, in which order, and who collected
-function arrangement(made) {
+export function arrangement(made) {
     const id = freshId("find");
     const search = element("input", {class: "form-control", type: "search", id, autocomplete: "off"});
     const order = choiceField({
@@ -210,7 +217,7 @@ function lock(made, lines, isSending) {
 
 function tell(made, line) {
     if (["entered", "repeated"].includes(line.result)) {
-        settle(made, line);
+        settle(line);
     } else {
         keep(made, line);
     }
@@ -221,27 +228,17 @@ function tell(made, line) {
     showState(made);
 }
 
-// A line that was entered shows what it is now, as far as this tab knows, and is no draft any more.
-function settle(made, line) {
-    const {receipt, cents, result, known} = line;
-    const over = cents > line.owed ? cents - line.owed : 0n;
-    line.results[receipt] = result;
-    line.payments.push(...paymentsOf(line, [{receipt, amount: cents, staff: session.staff, reversed: false}]));
-    line.owed -= cents - over;
-    line.due = line.due > cents ? line.due - cents : 0n;
-    line.known = {...known, entries: known.entries + 1, owed: line.owed, overpaid: known.overpaid + over};
-    Object.assign(line, {isFurther: false, text: "", cents: null, result: null});
+// What was entered is no draft any more.
+function settle(line) {
+    settleLine(line);
     line.isWriting = true;
     endDraft(line);
     line.isWriting = false;
 }
 
-// Gives a line the next receipt, for one payment more of this loan in this round. An amount that was refused since
-// another stands is sent at once.
+// An amount that was refused since another stands is sent at once.
 async function payFurther(made, line) {
-    line.receipt = nextReceipt(line, line.payments);
-    line.isFurther = true;
-    line.result = null;
+    beginFurther(line);
     if (line.cents === null) {
         made.table.show(line);
         made.table.focus(line);
@@ -270,7 +267,7 @@ function showState(made) {
 }
 
 // what stands of the round, what came of sending, and who collected how much of what is typed
-function moreWords(lines, typed) {
+export function moreWords(lines, typed) {
     const standing = lines.flatMap(({payments}) => payments.filter(({reversed}) => !reversed));
     const amount = showMoney(sum(standing.map((one) => one.amount)));
     return [

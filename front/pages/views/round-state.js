@@ -1,0 +1,37 @@
+// What a line of a round becomes: once it was entered, as it is read again, and for one payment more.
+import {entries as readEntries, loan as readLoan} from "../shared/desk.js";
+import {knownOf} from "../shared/repayments.js";
+import {session} from "../shared/session.js";
+import {nextReceipt, paymentsOf} from "./round-receipts.js";
+
+// A line that was entered shows what it is now, as far as this page knows.
+export function settleLine(line) {
+    const {receipt, cents, result, known} = line;
+    const over = cents > line.owed ? cents - line.owed : 0n;
+    line.results[receipt] = result;
+    line.payments.push(...paymentsOf(line, [{receipt, amount: cents, staff: session.staff, reversed: false}]));
+    line.owed -= cents - over;
+    line.due = line.due > cents ? line.due - cents : 0n;
+    line.known = {...known, entries: known.entries + 1, owed: line.owed, overpaid: known.overpaid + over};
+    Object.assign(line, {isFurther: false, text: "", cents: null, result: null});
+}
+
+// reads again what the round has of a loan
+export async function renewLine(line) {
+    const [told, entries] = await Promise.all([readLoan(line.loan), readEntries(line.loan)]);
+    line.payments = paymentsOf(line, entries);
+    line.known = knownOf(told, entries);
+    const paid = line.owed - line.known.owed;
+    line.owed = line.known.owed;
+    line.due = line.due > paid ? line.due - paid : 0n;
+    if (line.text === "") {
+        line.receipt = nextReceipt(line, line.payments);
+    }
+}
+
+// The next receipt, for one payment more of this loan in this round.
+export function beginFurther(line) {
+    line.receipt = nextReceipt(line, line.payments);
+    line.isFurther = true;
+    line.result = null;
+}

@@ -1,0 +1,737 @@
+"""A day without a network: pages that open without one, a round taken along, what is typed on it and sent later. The
+loans are those of the tests of rounds: forty, of each 683.33 due on 2024-03-31."""
+import contextlib
+import json
+import os
+import re
+import shutil
+import signal
+import tempfile
+import time
+import unittest
+
+import desk
+import reader
+import running
+import test_pages
+import test_pages_counter as counter
+import test_pages_loans as loans
+import test_pages_rounds as rounds
+
+PLACE = "2/2024-03-31"
+PIN = "24 bees"
+COUNT = 5
+FEW = rounds.lines_of(COUNT)
+CUT = {"offline": True, "latency": 0, "downloadThroughput": -1, "uploadThroughput": -1}
+OPEN = CUT | {"offline": False}
+SLOW = OPEN | {"latency": 60}
+AMOUNTS = "return [...document.querySelectorAll('.paid-field')].map((one) => one.value)"
+# what stands in the browser's database, as bytes: none of it may be readable
+KEPT = """
+const done = arguments[0];
+indexedDB.open('microloan-kept').onsuccess = ({target}) => {
+    const asked = target.result.transaction('rounds').objectStore('rounds').getAll();
+    asked.onsuccess = () => done(asked.result.map((one) => `${one.id} ${one.count} ${one.cents} ` +
+        new TextDecoder('latin1').decode(one.sealed.data)));
+};
+"""
+
+
+class Phone(reader.Reader):
+    """A browser of an officer's phone."""
+
+    def __init__(self, it, name):
+        super().__init__(it, name, width=360, height=740)
+        self.driver.execute_cdp_cmd("Network.enable", {})
+
+    def close(self):
+        self.network(OPEN)
+        super().close()
+
+    def network(self, conditions):
+        """Sets the page's network; the worker's is that of the machine."""
+        self.driver.execute_cdp_cmd("Network.emulateNetworkConditions", conditions)
+
+    def is_kept(self):
+        """Waits until the pages' worker is there and has their files."""
+        state = "const {active} = await navigator.serviceWorker.ready; return active.state"
+        self.wait(lambda: self.module(state) == "activated", "the worker")
+
+    def look(self, name):
+        """Takes a screenshot of what is seen, where MICROLOAN_SHOTS names a folder for them."""
+        if os.environ.get("MICROLOAN_SHOTS"):
+            desk.screenshot(self.driver, name)
+
+    # what the officer does
+
+    def take_along(self, place=PLACE):
+        self.go(f"round/{place}")
+        self.is_kept()
+        self.open_dialog("Take this round along")
+        self.fill("New PIN", PIN)
+        self.fill("The PIN once more", PIN)
+        self.send("Choose a PIN")
+        self.wait(lambda: "Taken along" in self.text("main"), "the round on the phone")
+
+    def unlock(self, pin=PIN):
+        self.wait(lambda: self.all("main form input"), "the question for the PIN")
+        self.all("main form input")[0].send_keys(pin)
+        self.press("Open")
+
+    def open_kept(self, place=PLACE):
+        self.driver.get("about:blank")
+        self.driver.get(f"{self.desk.url}/#/kept/{place}")
+        self.unlock()
+        self.wait(lambda: self.all(".paid-field"), "the round")
+
+    def type(self, line, amount):
+        field = self.all(".paid-field")[line - 1]
+        field.clear()
+        field.send_keys(amount)
+
+    def bar(self):
+        return re.sub(r"\d\d:\d\d$", "HH:MM", self.text(".unsent"))
+
+    def results(self):
+        found = self.script("return [...document.querySelectorAll('[data-result]')].map((one) => one.dataset.result)")
+        return {result: found.count(result) for result in found}
+
+
+class Battery(Phone):
+    """A phone with a profile of its own, which outlives its browser: that is killed as by a flat battery."""
+
+    def __init__(self, it, name):
+        self.desk, self.name = it, name
+        self.profile = tempfile.mkdtemp(prefix="microloan-phone-")
+        self.kills = 0
+        self.start()
+        self.sign_in()
+
+    def start(self):
+        self.driver = desk.new_browser(360, 740, profile=self.profile)
+        self.wish("light")
+        self.widen(360, 740)
+        self.driver.execute_cdp_cmd("Network.enable", {})
+
+    def sign_in(self):
+        self.desk.let_in(self.driver, self.name)
+        self.driver.get(self.desk.url + "/")
+        self.settle()
+
+    def die(self):
+        """Kills the browser's processes, and chromedriver, and starts a browser anew."""
+        driver = self.driver.service.process
+        killed = descendants(driver.pid)
+        driver.kill()
+        for pid in killed:  # the browser before those that it would start anew
+            with contextlib.suppress(ProcessLookupError):
+                os.kill(pid, signal.SIGKILL)
+        driver.wait()
+        self.wait(lambda: not any(os.path.exists(f"/proc/{pid}") for pid in killed), "the end of the browser")
+        for name in ("SingletonLock", "SingletonCookie", "SingletonSocket"):
+            with contextlib.suppress(FileNotFoundError):
+                os.unlink(os.path.join(self.profile, name))
+        self.kills += 1
+        self.start()
+
+    def close(self):
+        self.driver.quit()
+        shutil.rmtree(self.profile, ignore_errors=True)
+
+
+def descendants(pid):
+    """The processes below a process, from above."""
+    children = []
+    with contextlib.suppress(FileNotFoundError):
+        for thread in os.listdir(f"/proc/{pid}/task"):
+            with open(f"/proc/{pid}/task/{thread}/children", encoding="ascii") as file:
+                children += [int(child) for child in file.read().split()]
+    return [one for child in children for one in [child, *descendants(child)]]
+
+
+class Case(unittest.TestCase):
+    def phone(self, it, name):
+        made = Phone(it, name)
+        self.addCleanup(made.close)
+        return made
+
+
+def entered(it, count=COUNT):
+    """Of each loan, the repayments that stand: day, amount and receipt."""
+    told = [it.send("head", "GET", f"/api/loans/0002-{loan:06}/entries")[1]["entries"] for loan in range(1, count + 1)]
+    return [[(one["day"], one["amount"], one["receipt"]) for one in entries] for entries in told]
+
+
+def once(*amounts):
+    """What stands where each line of the round was entered once."""
+    return [[("2024-03-31", cents, f"2-20240331-{loan:06}")] for loan, cents in enumerate(amounts, 1)]
+
+
+class Opening(Case):
+    """The pages install, and open with the network cut."""
+
+    PLACES = (
+        "today", "clients/2", "client/0002-000001", "loans/2", "loan/0002-000001", "statement/0002-000001", "round/2",
+        "arrears", "waivers/0002-000001", "penalties/2", "catalogue", "people",
+    )
+
+    def test_installs(self):
+        with loans.desk_with(loans.PAID_OUT) as it:
+            tom = self.phone(it, "tom")
+            tom.is_kept()
+            self.assertEqual(tom.driver.execute_cdp_cmd("Page.getAppManifest", {})["errors"], [])
+            errors = tom.driver.execute_cdp_cmd("Page.getInstallabilityErrors", {})["installabilityErrors"]
+            self.assertEqual(errors, [])
+            place = re.search(r'"(/files/[^"]+/manifest.webmanifest)"', it.exchange("tom", "GET", "/")[2].decode())[1]
+            manifest = json.loads(it.exchange(None, "GET", place)[2])
+            for icon in manifest["icons"]:
+                status, fields, _ = it.exchange(None, "GET", icon["src"])
+                self.assertEqual((status, fields["Content-Type"]), (200, icon["type"]))
+
+    def test_every_page_with_the_front_gone(self):
+        """No page is the browser's own: each says that there is no network, and leads to what is on the phone."""
+        with loans.desk_with(loans.PAID_OUT) as it:
+            tom = self.phone(it, "tom")
+            tom.is_kept()
+            it.nginx.stop()
+            tom.network(CUT)
+            tom.driver.execute_cdp_cmd("Network.clearBrowserCache", {})
+            for place in self.PLACES:
+                with self.subTest(place):
+                    tom.driver.get("about:blank")
+                    tom.driver.get(f"{it.url}/#/{place}")
+                    tom.wait(lambda: tom.all("main h1"), "the page")
+                    if place != "round/2":
+                        self.assertIn("There is no network, and this page needs the desk.", tom.text("main"))
+                    self.assertIn("No network", tom.text(".bar"))
+                    self.assertLessEqual(tom.script("return document.documentElement.scrollWidth"), 360)
+            tom.network(OPEN)
+            tom.press("Look for the network")  # the front is gone still
+            tom.wait(lambda: "There is no network" in tom.text("main"), "the same page")
+            it.nginx.start()
+            tom.press("Look for the network")
+            tom.wait(lambda: tom.title() == "Offices and staff", "the desk")
+
+    def test_a_desk_that_hangs(self):
+        """After five seconds one may go on without waiting; and go back to the desk once it answers."""
+        with loans.desk_with(loans.PAID_OUT) as it:
+            tom = self.phone(it, "tom")
+            it.serve.process.send_signal(signal.SIGSTOP)
+            tom.driver.refresh()
+            tom.press("Go on without the network", "#desk")
+            tom.wait(lambda: "There is no network" in tom.text("main"), "the page without the desk")
+            it.serve.process.send_signal(signal.SIGCONT)
+            tom.press("Look for the network")
+            tom.wait(lambda: tom.title().startswith("Today"), "the desk")
+
+    def test_the_desk_is_never_kept(self):
+        """What the worker keeps is files and libraries; a reply of the desk is asked for each time."""
+        with loans.desk_with(loans.PAID_OUT) as it:
+            tom = self.phone(it, "tom")
+            tom.go(loans.LOAN)
+            tom.is_kept()
+            tom.reload()
+            kept = tom.module(
+                "const urls = []; for (const name of await caches.keys()) for (const one of await (await "
+                "caches.open(name)).keys()) urls.push(new URL(one.url).pathname); return urls"
+            )
+            self.assertGreater(len(kept), 40)
+            self.assertEqual([path for path in kept if not re.match(r"/files/[0-9a-f]{16}/|/lib/", path)], [])
+            asked = len(it.log)
+            for _ in range(2):
+                tom.reload()
+            paths = [line["path"] for line in it.log[asked:]]
+            self.assertEqual(paths.count("/api/loans/0002-000001"), 2)
+            self.assertEqual(paths.count("/api/loans/0002-000001/entries"), 2)
+            it.send("tom", "POST", "/api/loans/0002-000001/repayments", {"amount": 2000, "day": "2024-03-31"})
+            tom.reload()
+            self.assertIn("1,000.00", tom.text("main"))  # 1,020.00 less 20.00
+
+    def test_the_policy(self):
+        """A worker and a manifest of this front, and no others."""
+        with loans.desk_with(loans.PAID_OUT) as it:
+            policies = it.exchange("tom", "GET", "/")[1].get_all("Content-Security-Policy")
+            self.assertIn("worker-src 'self'; manifest-src 'self'", policies)
+            tom = self.phone(it, "tom")
+            tried = tom.module(
+                "try { new Worker(URL.createObjectURL(new Blob(['']))); return 'made'; } "
+                "catch (problem) { return problem.name; }"
+            )
+            blocked = tom.module(
+                "return new Promise((done) => { document.addEventListener('securitypolicyviolation', (event) => "
+                "done(event.effectiveDirective)); try { new Worker('data:text/javascript,0'); } catch { } })"
+            )
+            self.assertIn((tried, blocked)[1], ("worker-src", "worker-src-elem"))
+            status, fields, _ = it.exchange(None, "GET", "/worker.js")
+            kind = fields["Content-Type"], fields["Cache-Control"]
+            self.assertEqual((status, *kind), (200, "application/javascript", "no-cache"))
+
+
+class Round(Case):
+    """A round taken along: typed into without a network, and sent when there is one."""
+
+    def test_taken_typed_and_sent(self):
+        with loans.desk_with(FEW) as it:
+            zoe = self.phone(it, "zoe")
+            zoe.go(f"round/{PLACE}")
+            zoe.type(1, "100")  # typed before the round is taken along
+            zoe.take_along()
+            self.assertEqual(zoe.bar(), "1 not sent, 100.00, since HH:MM")
+            self.assertIn("on business day Mar 31, 2024", zoe.text(".kept-age"))
+            zoe.network(CUT)
+            zoe.driver.get("about:blank")
+            zoe.driver.get(f"{it.url}/#/{counter.ROUND}")  # the address of the round at the desk
+            zoe.unlock()
+            zoe.wait(lambda: len(zoe.all(".paid-field")) == COUNT, "the round")
+            zoe.type(2, "200")
+            zoe.type(3, "41.20")
+            self.assertEqual(zoe.wait(lambda: "341.20" in zoe.bar() and zoe.bar(), "it"), self.BAR)
+            self.assertFalse(zoe.all(".round-enter")[0].is_enabled())
+            zoe.look("offline-round")
+            for place in ("today", "people", "kept"):
+                zoe.driver.get(f"{it.url}/#/{place}")
+                zoe.wait(lambda: zoe.bar() == self.BAR, "the bar")
+            self.sealed(zoe)
+            zoe.network(OPEN)
+            zoe.open_kept()
+            self.assertEqual(zoe.script(AMOUNTS)[:4], ["100", "200", "41.20", ""])
+            zoe.press("Enter 3 repayments")
+            zoe.wait(lambda: zoe.results() == {"entered": 3}, "the results")
+            zoe.wait(lambda: zoe.bar() == "", "the end of the bar")
+            self.assertEqual(entered(it, 4), once(10000, 20000, 4120) + [[]])
+            zoe.open_kept()
+            self.assertEqual(zoe.results(), {"entered": 3}, "what was entered stays told")
+
+    BAR = "3 not sent, 341.20, since HH:MM"
+
+    def sealed(self, zoe):
+        """What lies on the phone has no name, no loan and no amount of a line in it."""
+        (text,) = zoe.driver.execute_async_script(KEPT)
+        self.assertTrue(text.startswith("2 2024-03-31 3 34120 "))
+        for secret in ("Client", "0002-", "41.20", "4120,", "receipt"):
+            self.assertNotIn(secret, text)
+
+    def test_lost_while_it_is_sent(self):
+        """The network goes while lines are sent: the one without an answer can't be typed over, and all stand once."""
+        with loans.desk_with(rounds.FORTY) as it:
+            zoe = self.phone(it, "zoe")
+            zoe.take_along()
+            zoe.press("Fill in what is due")
+            zoe.wait(lambda: zoe.bar().startswith("40 not sent"), "it")
+            zoe.network(SLOW)
+            zoe.press("Enter 40 repayments")
+            zoe.wait(lambda: zoe.results().get("entered", 0) >= 3, "the first results")
+            it.nginx.stop()
+            zoe.wait(lambda: "The connection was lost." in zoe.text("main"), "that it was lost")
+            self.assertEqual(zoe.results().get("lost"), 1)
+            locked = zoe.all("tr:has([data-result=lost]) .paid-field")[0]
+            self.assertEqual((locked.get_attribute("readonly"), locked.get_attribute("value")), ("true", "683.33"))
+            it.nginx.start()
+            it.let_in(zoe.driver, "zoe")
+            zoe.open_kept()
+            self.assertEqual(zoe.results().get("lost"), 1)
+            zoe.press(zoe.text(".round-enter"))
+            zoe.wait(lambda: zoe.bar() == "", "all results")
+            self.assertEqual(entered(it, rounds.COUNT), once(*[68333] * rounds.COUNT))
+
+    def test_two_phones(self):
+        """An officer and a teller took the same round along: what both have counts once, what differs is told."""
+        with loans.desk_with(FEW) as it:
+            zoe, tom = self.phone(it, "zoe"), self.phone(it, "tom")
+            for who in (zoe, tom):
+                who.take_along()
+                who.network(CUT)
+                who.type(1, "100")
+            zoe.type(2, "20")
+            tom.type(2, "30")
+            tom.type(3, "40")
+            for who, count in ((zoe, 2), (tom, 3)):
+                who.wait(lambda who=who, count=count: who.bar().startswith(f"{count} not sent"), "what is kept")
+                who.network(OPEN)
+                who.press(f"Enter {count} repayments")
+            zoe.wait(lambda: zoe.results() == {"entered": 2}, "the results")
+            tom.wait(lambda: tom.results() == {"repeated": 1, "standing": 1, "F15": 1, "entered": 1}, "the results")
+            tom.wait(lambda: "20.00 entered by 2/2" in tom.text("main"), "what stands")
+            self.assertEqual(entered(it, 4), once(10000, 2000, 4000) + [[]])
+            self.assertEqual(tom.bar(), "1 not sent, 30.00, since HH:MM")
+            tom.press("Enter 30.00 as a further payment")
+            tom.press("Enter 1 repayment")
+            tom.wait(lambda: tom.bar() == "", "the further payment")
+            further = ("2024-03-31", 3000, "2-20240331-000002-2")
+            self.assertEqual(entered(it, 2)[1], once(0, 2000)[1] + [further])
+
+    def test_the_business_day_moved(self):
+        """Ten days on, the payments are entered on the day of their round, and why so late is asked."""
+        with loans.desk_with(FEW) as it:
+            zoe = self.phone(it, "zoe")
+            zoe.take_along()
+            zoe.network(CUT)
+            zoe.type(1, "100")
+            zoe.wait(lambda: zoe.bar().startswith("1 not sent"), "it")
+            it.send("head", "PUT", "/api/business-day", {"day": "2024-04-10"})
+            zoe.network(OPEN)
+            zoe.open_kept()
+            self.assertIn("on business day Mar 31, 2024", zoe.text(".kept-age"))
+            self.assertIn("Apr 10, 2024", zoe.text(".bar"))
+            zoe.open_dialog("Enter 1 repayment")
+            zoe.fill("Reason", "no network in the village")
+            zoe.press("Enter 1 repayment", ".modal.show")
+            zoe.wait(lambda: zoe.results() == {"entered": 1}, "the result")
+            self.assertEqual(entered(it, 1), once(10000))
+
+    def test_a_round_of_a_day_to_come(self):
+        with loans.desk_with(FEW) as it:
+            zoe = self.phone(it, "zoe")
+            zoe.take_along("2/2024-04-01")
+            zoe.type(1, "100")
+            self.assertIn("The business day is Mar 31, 2024.", zoe.text("main"))
+            self.assertFalse(zoe.all(".round-enter")[0].is_enabled())
+            it.send("head", "PUT", "/api/business-day", {"day": "2024-04-01"})
+            zoe.open_kept("2/2024-04-01")
+            zoe.press("Enter 1 repayment")
+            zoe.wait(lambda: zoe.results() == {"entered": 1}, "the result")
+            self.assertEqual(entered(it, 1), [[("2024-04-01", 10000, "2-20240401-000001")]])
+
+    def test_taken_along_again(self):
+        """What is typed and not sent stays; what the desk has by now is shown."""
+        with loans.desk_with(FEW) as it:
+            zoe = self.phone(it, "zoe")
+            zoe.take_along()
+            zoe.type(1, "100")
+            zoe.type(2, "50")
+            zoe.wait(lambda: zoe.bar().startswith("2 not sent"), "it")
+            paid = {"amount": 5000, "day": "2024-03-31", "receipt": "2-20240331-000002"}
+            it.send("tom", "POST", "/api/loans/0002-000002/repayments", paid)
+            zoe.go(counter.ROUND)
+            self.assertIn("This round is on this phone too.", zoe.text("main"))
+            zoe.press("Take this round along")
+            zoe.wait(lambda: "Taken along" in zoe.text("main"), "the round on the phone")
+            self.assertIn("50.00 entered by 2/3", zoe.text("main"))
+            self.assertEqual(zoe.script(AMOUNTS)[:2], ["100", ""])
+            self.assertEqual(zoe.bar(), "1 not sent, 100.00, since HH:MM")
+
+
+class Pin(Case):
+    """What is on the phone is locked by a PIN: a wrong one loses nothing, and a forgotten one has a way."""
+
+    def taken(self, it):
+        zoe = self.phone(it, "zoe")
+        zoe.take_along()
+        zoe.type(1, "100")
+        zoe.wait(lambda: zoe.bar() == self.BAR, "the bar")
+        return zoe
+
+    BAR = "1 not sent, 100.00, since HH:MM"
+
+    def test_wrong_and_right(self):
+        with loans.desk_with(FEW) as it:
+            zoe = self.taken(it)
+            zoe.network(CUT)
+            zoe.driver.get("about:blank")
+            zoe.driver.get(f"{it.url}/#/kept/{PLACE}")
+            for wrong in ("25 bees", PIN + " ", PIN.upper()):
+                zoe.unlock(wrong)
+                zoe.wait(lambda: "The PIN is wrong. Nothing is lost." in zoe.text("main").replace("\n\n", " "), "that")
+                self.assertEqual((zoe.bar(), zoe.all(".paid-field")), (self.BAR, []))
+            zoe.all("main form input")[0].clear()
+            zoe.all("main form input")[0].send_keys("short")
+            zoe.press("Open")
+            zoe.wait(lambda: "Type 6 to 64 characters." in zoe.text("main"), "the length")
+            zoe.look("offline-pin")
+            zoe.all("main form input")[0].clear()
+            zoe.unlock()
+            zoe.wait(lambda: zoe.script(AMOUNTS)[:1] == ["100"], "what was typed")
+
+    def test_locked_when_idle(self):
+        """After five minutes without a touch, and where the clock was set back; what was typed stays."""
+        with loans.desk_with(FEW) as it:
+            zoe = self.taken(it)
+            for minutes in (4, 6, -1):
+                zoe.script(f"Date.now = () => new Date().getTime() + {minutes * 60_000}")
+                if minutes == 4:
+                    zoe.script("document.dispatchEvent(new Event('visibilitychange'))")
+                    self.assertEqual(zoe.script(AMOUNTS)[:1], ["100"])
+                    continue
+                zoe.wait(lambda: not zoe.all(".paid-field") and zoe.all("main form input"), "the lock")
+                self.assertNotIn("Client", zoe.text("main"))
+                zoe.unlock()
+                zoe.wait(lambda: zoe.script(AMOUNTS)[:1] == ["100"], "what was typed")
+            zoe.press("Lock the rounds")
+            zoe.wait(lambda: zoe.all("main form input"), "the lock")
+
+    def test_forgotten(self):
+        """What is lost is told first; afterwards a round can be taken along with another PIN."""
+        with loans.desk_with(FEW) as it:
+            zoe = self.taken(it)
+            zoe.driver.get("about:blank")
+            zoe.driver.get(f"{it.url}/#/kept")
+            zoe.wait(lambda: zoe.all("main form input"), "the question for the PIN")
+            for button in ("Cancel", "Throw all of it away"):
+                zoe.open_dialog("The PIN is forgotten")
+                told = re.sub(r"\d\d:\d\d", "HH:MM", zoe.text(".modal"))
+                self.assertIn(f"This is lost for good: 1 round is on this phone · {self.BAR}.", told)
+                self.assertIn("Enter those repayments again from your receipt book", told)
+                zoe.look("offline-forgotten")
+                zoe.press(button, ".modal.show")
+                zoe.wait(lambda: not zoe.all(".modal"), "the end of the dialog")
+                if button == "Cancel":
+                    self.assertEqual(zoe.bar(), self.BAR)
+            zoe.wait(lambda: "No round is on this phone." in zoe.text("main"), "the end of it")
+            self.assertEqual(zoe.bar(), "")
+            zoe.take_along()
+
+    def test_removed(self):
+        """A round is removed once it is said what is lost with it."""
+        with loans.desk_with(FEW) as it:
+            zoe = self.taken(it)
+            zoe.open_dialog("Remove from this phone")
+            self.assertIn("This is lost for good: 1 not sent, 100.00, since", zoe.text(".modal"))
+            zoe.cancel()
+            zoe.open_dialog("Remove from this phone")
+            zoe.send("Remove from this phone")
+            zoe.wait(lambda: "No round is on this phone." in zoe.text("main") and zoe.bar() == "", "the end of it")
+
+
+class Eyes(Case):
+    """What is on the phone, at 360 columns: in the light, the dark, each language, for a finger and a screen reader."""
+
+    def test_each_page(self):
+        with loans.desk_with(FEW) as it:
+            zoe = self.phone(it, "zoe")
+            zoe.take_along()
+            for line, amount in enumerate(("100", "20", "x"), 1):
+                zoe.type(line, amount)
+            zoe.wait(lambda: zoe.bar().startswith("3 not sent"), "it")
+            zoe.go(counter.ROUND)
+            self.look_at(zoe, "at the desk")
+            zoe.network(CUT)
+            for language in ("en", "fr", "es", "sw"):
+                zoe.script("localStorage.setItem('language', arguments[0])", language)
+                zoe.reload()
+                zoe.driver.get(f"{it.url}/#/today")
+                zoe.wait(lambda: zoe.all("main .alert"), "the page")
+                self.look_at(zoe, f"{language} without")
+                zoe.driver.get(f"{it.url}/#/kept")
+                zoe.wait(lambda: zoe.all("main form input"), "the question for the PIN")
+                self.look_at(zoe, f"{language} locked")
+                zoe.all("main form input")[0].send_keys(PIN)
+                zoe.all("main form button")[0].click()
+                zoe.wait(lambda: zoe.all("main h2 a"), "the list")
+                self.look_at(zoe, f"{language} list")
+                zoe.all("main h2 a")[0].click()
+                zoe.wait(lambda: zoe.all(".paid-field"), "the round")
+                self.look_at(zoe, f"{language} round")
+
+    def look_at(self, zoe, name):
+        with self.subTest(name):
+            self.assertLessEqual(zoe.script("return document.documentElement.scrollWidth"), 360)
+            self.assertEqual(zoe.script(test_pages.NAMELESS), [])
+            self.assertEqual(zoe.script(test_pages.SMALL), [])
+            for scheme in ("light", "dark"):
+                zoe.wish(scheme)
+                self.assertEqual(zoe.script(test_pages.CONTRAST), [], scheme)
+                if os.environ.get("MICROLOAN_SHOTS"):
+                    desk.screenshot(zoe.driver, f"offline {name} {scheme}".replace(" ", "-"), whole=True)
+            zoe.wish("light")
+
+
+class People(Case):
+    """Who is signed in sends; what is on the phone belongs to who knows its PIN."""
+
+    def of_zoe(self, it):
+        """A phone on which one amount of zoe's waits."""
+        phone = self.phone(it, "zoe")
+        phone.take_along()
+        phone.type(1, "100")
+        phone.wait(lambda: phone.bar() == self.BAR, "the bar")
+        return phone
+
+    def hand_over(self, it, phone, name):
+        it.let_in(phone.driver, name)
+        phone.driver.get(it.url + "/")
+        phone.wait(lambda: phone.bar() == self.BAR, "the bar")
+        phone.driver.get(f"{it.url}/#/kept/{PLACE}")
+        phone.wait(lambda: phone.all("main form input"), "the question for the PIN")
+        self.assertNotIn("Client", phone.text("main"))
+        phone.open_kept()
+
+    BAR = "1 not sent, 100.00, since HH:MM"
+
+    def test_another_person_sends(self):
+        with desk.Desk(lines=FEW, people=loans.PEOPLE, sessions=True) as it:
+            phone = self.of_zoe(it)
+            self.hand_over(it, phone, "tom")
+            told = "zoe 2/2 took this round along. What you send is entered in your name: tom 2/3."
+            self.assertIn(told, phone.text("main"))
+            phone.press("Enter 1 repayment")
+            phone.wait(lambda: phone.bar() == "", "the result")
+            (entry,) = it.send("head", "GET", "/api/loans/0002-000001/entries")[1]["entries"]
+            self.assertEqual((entry["staff"], entry["amount"], entry["receipt"]), ("2/3", 10000, "2-20240331-000001"))
+
+    def test_who_does_not_see_the_office_loses_nothing(self):
+        south = b'1/1 POST /offices {"number":3,"parent":1,"name":"South"}\n'
+        sami = b'1/1 POST /staff {"office":3,"name":"Sami","role":"teller"}\n'
+        with desk.Desk(lines=FEW + south + sami, people=loans.PEOPLE | {"sami": "3/1"}, sessions=True) as it:
+            phone = self.of_zoe(it)
+            self.hand_over(it, phone, "sami")
+            phone.press("Enter 1 repayment")
+            phone.wait(lambda: phone.results() == {"F4": 1}, "the refusal")
+            self.assertIn("F4: It is not there, or it is not yours to see. Check the number.", phone.text("main"))
+            self.assertEqual((phone.bar(), phone.script(AMOUNTS)[0]), (self.BAR, "100"))
+            self.assertEqual(entered(it, 1), [[]])
+
+    def test_signed_out(self):
+        """By sessions: the sign-in's page tells what waits, and opens it where there is no network."""
+        with desk.Desk(lines=FEW, people=loans.PEOPLE, sessions=True) as it:
+            zoe = self.phone(it, "zoe")
+            zoe.take_along()
+            zoe.type(1, "100")
+            zoe.wait(lambda: zoe.bar().startswith("1 not sent"), "it")
+            place = zoe.script("return document.querySelector('link[rel=manifest]').href").removeprefix(it.url)
+            self.assertEqual(it.exchange(None, "GET", place)[1]["Content-Type"], "application/manifest+json")
+            zoe.script("document.getElementById('sign-out').click()")
+            zoe.wait(lambda: zoe.title() == "Sign in" and zoe.bar() == "1 not sent, 100.00, since HH:MM", "the sign-in")
+            zoe.driver.get(it.url + "/")  # the worker has the page, and yet the front's answer counts
+            zoe.wait(lambda: zoe.driver.current_url == it.url + "/sign-in.html", "the sign-in")
+            it.nginx.stop()
+            zoe.network(CUT)
+            zoe.reload()
+            zoe.wait(lambda: zoe.all(".unsent a"), "the way")
+            zoe.look("offline-sign-in")
+            zoe.all(".unsent a")[0].click()
+            zoe.unlock()
+            zoe.wait(lambda: zoe.all("main h2 a"), "the list")
+            zoe.all("main h2 a")[0].click()
+            zoe.wait(lambda: zoe.script(AMOUNTS)[:1] == ["100"], "the round")
+            zoe.type(2, "50")
+            zoe.wait(lambda: zoe.bar().startswith("2 not sent, 150.00"), "it")
+            it.nginx.start()
+            zoe.network(OPEN)
+            zoe.press("Look for the network")
+            zoe.wait(lambda: zoe.title() == "Sign in", "the sign-in")
+            self.assertEqual(entered(it, 2), [[], []])
+            it.let_in(zoe.driver, "tom")
+            zoe.open_kept()
+            zoe.press("Enter 2 repayments")
+            zoe.wait(lambda: zoe.bar() == "", "the results")
+            self.assertEqual(entered(it, 3), once(10000, 5000) + [[]])
+
+
+class Kills(Case):
+    """A round of forty, typed and sent while the browser is killed with SIGKILL: each line is entered once."""
+
+    TYPING = (14, 40)  # the lines at which it is killed as they are typed
+    # as it is sent: after how many results, and so many seconds more
+    SENDING = ((0, 0), (2, 0.02), (4, 0.1))
+    AMOUNTS = [f"{10 + line}.{line:02}" for line in range(1, rounds.COUNT + 1)]
+
+    def test_each_line_once(self):
+        with loans.desk_with(rounds.FORTY) as it:
+            zoe = Battery(it, "zoe")
+            self.addCleanup(zoe.close)
+            zoe.take_along()
+            self.type_all(zoe)
+            self.send_all(it, zoe)
+            cents = [int(amount.replace(".", "")) for amount in self.AMOUNTS]
+            self.assertEqual(entered(it, rounds.COUNT), once(*cents))
+            print(f"    {zoe.kills} kills", end=" ")
+
+    def type_all(self, zoe):
+        """What the bar told before a kill is there after it; of the amount that was being typed, a beginning."""
+        zoe.network(CUT)
+        for line, amount in enumerate(self.AMOUNTS, 1):
+            if line in self.TYPING and line > 1:
+                zoe.wait(lambda line=line: zoe.bar().startswith(f"{line - 1} not sent"), "what was typed before")
+            zoe.type(line, amount)
+            if line in self.TYPING:
+                zoe.die()
+                zoe.network(CUT)
+                zoe.open_kept()
+                kept = zoe.script(AMOUNTS)
+                self.assertEqual(kept[: line - 1], self.AMOUNTS[: line - 1])
+                self.assertTrue(amount.startswith(kept[line - 1]), kept[line - 1])
+                zoe.type(line, amount)
+        zoe.wait(lambda: zoe.bar().startswith(f"{rounds.COUNT} not sent"), "all of it")
+
+    def send_all(self, it, zoe):
+        zoe.network(OPEN)
+        it.let_in(zoe.driver, "zoe")
+        zoe.open_kept()
+        unknown = 0
+        for results, seconds in self.SENDING:
+            zoe.network(SLOW)
+            before = sum(zoe.results().get(one, 0) for one in ("entered", "repeated"))
+            zoe.press(zoe.all(".round-enter")[0].text)
+            zoe.wait(lambda: not zoe.all(".round-enter")[0].is_enabled(), "the sending")
+            done = "return document.querySelectorAll('[data-result=entered], [data-result=repeated]').length"
+            zoe.wait(lambda wanted=before + results: zoe.script(done) >= wanted, "the results")
+            time.sleep(seconds)
+            zoe.die()
+            stands = [len(one) for one in entered(it, rounds.COUNT)]
+            self.assertLessEqual(max(stands), 1)
+            it.let_in(zoe.driver, "zoe")
+            zoe.open_kept()
+            unknown += zoe.results().get("lost", 0)
+            # whatever doesn't stand is typed still, to the last digit
+            left = [text for text, count in zip(zoe.script(AMOUNTS), stands) if count == 0]
+            self.assertEqual(left, [text for text, count in zip(self.AMOUNTS, stands) if count == 0])
+        self.assertGreaterEqual(unknown, 1, "a line was on its way as it was killed")
+        zoe.press(zoe.all(".round-enter")[0].text)
+        zoe.wait(lambda: zoe.bar() == "", "all results")
+
+
+class Versions(Case):
+    """The pages are changed while a round is on the phone."""
+
+    WORKER = (
+        "const {installing, waiting} = await navigator.serviceWorker.getRegistration();"
+        "return !installing && !waiting && (await caches.match(files.src)) !== undefined"
+    )
+
+    def test_replaced_and_nothing_lost(self):
+        with tempfile.TemporaryDirectory() as folder:
+            pages = shutil.copytree(os.path.join(running.FRONT, "pages"), os.path.join(folder, "pages"))
+            it = desk.Desk(lines=FEW, people=loans.PEOPLE, pages=pages)
+            self.addCleanup(it.end)
+            zoe = self.phone(it, "zoe")
+            zoe.take_along()
+            zoe.type(1, "100")
+            zoe.wait(lambda: zoe.bar().startswith("1 not sent"), "it")
+            names = "return caches.keys()"
+            (first,) = zoe.module(names)
+            for version in (2, 3):
+                with self.subTest(version):
+                    self.change(it, pages, f"Phone of version {version}")
+                    zoe.type(version, str(version))  # in a page of the version before
+                    zoe.wait(lambda: zoe.bar().startswith(f"{version} not sent"), "it")
+                    zoe.open_kept()
+                    self.assertIn(f"Phone of version {version}", zoe.text("main"), "it shows at once")
+                    zoe.wait(lambda: zoe.module(self.WORKER), "the worker of this version")
+                    it.nginx.stop()
+                    zoe.network(CUT)
+                    zoe.driver.execute_cdp_cmd("Network.clearBrowserCache", {})
+                    zoe.open_kept()
+                    self.assertIn(f"Phone of version {version}", zoe.text("main"), "and without a network")
+                    self.assertEqual(zoe.script(AMOUNTS)[:version], ["100", "2", "3"][:version])
+                    zoe.network(OPEN)
+                    it.nginx.start()
+                    it.let_in(zoe.driver, "zoe")
+                    zoe.open_kept()
+            self.assertEqual(len(zoe.module(names)), 2)
+            self.assertNotIn(first, zoe.module(names))
+            zoe.press("Enter 3 repayments")
+            zoe.wait(lambda: zoe.bar() == "", "the results")
+            self.assertEqual(entered(it, 4), once(10000, 200, 300) + [[]])
+
+    def change(self, it, pages, words):
+        """Lays the pages out anew, with other words in place of the title of rounds on the phone."""
+        path = os.path.join(pages, "words", "en.js")
+        with open(path, encoding="utf-8") as file:
+            text = file.read()
+        with open(path, "w", encoding="utf-8") as file:
+            file.write(re.sub(r'"kept.title": ".*"', f'"kept.title": "{words}"', text))
+        it.nginx.lay_out()
+
+
+if __name__ == "__main__":
+    unittest.main()
