@@ -105,7 +105,7 @@ module _ {S : Type 0} (store : Ghosts S) where
       (fault : Fault) → KeepsSound → ((s : S) (i : Institution) → store.stands s i → IsSound i) → IsInRange call.request
       → d.commit ≡ Some commit → Decides store (outcome call) old mid (Ok d) → Commits store.stands store.clean
       store.leaves commit noted mid new (Err fault) → noted ≡ noted_with call (names_in d.reply)
-          → Changes store {T = T} call old new (Err fault)
+      → Changes store {T = T} call old new (Err fault)
   changes_given_up call d commit noted old mid new fault keeps sound r e decides commits note_is =
       let change = λ (k : store.clean mid) (i : Institution) (s : store.stands old i). its_change call d commit i e
       (decides.decides k i s) in
@@ -129,7 +129,7 @@ module _ {S : Type 0} (store : Ghosts S) where
   -- what is told of the institution is told of the caller's own view of it
   pub tells_own_view : {T : Type 0} (shows : Reply → Result T Fault → Type 0) (c : Caller) (request : Request)
       (received : Received) (old new : S) (result : Result T Fault) → IsAnsweredByView
-          → ((s : S) (i : Institution) → store.stands s i
+      → ((s : S) (i : Institution) → store.stands s i
       → IsSound i)
       → Tells store shows (reply (call_from c request received)) old new result
       → Tells store shows (λ i. reply (call_from c request received)

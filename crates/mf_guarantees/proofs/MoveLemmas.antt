@@ -194,7 +194,7 @@ moved read loan i f l becomes up there found =
         | inl same ↦
             let number : other.number ≢ n = λ e. apart (λ t. record { office = same t; number = e t }) in
             ap (λ y. sum_or_zero read (item_numbered (rows_of (office_at y (with_rows x new fs))).loans other.number))
-                same
+            same
             ∙ ap (λ (r : Rows). sum_or_zero read (item_numbered r.loans other.number)) new_rows
             ∙ ap (sum_or_zero read) (numbered_other becomes n other.number f.rows.loans number)
             ∙ sym (ap (λ y. sum_or_zero read (item_numbered (rows_of (office_at y fs)).loans other.number)) same

@@ -130,7 +130,7 @@ pub fn every_entry_was_allowed_when_it_was_made()
         AtSomeLine (IsEntered loan entry.kind entry.staff) lines i }
     ensures taken_back { (i : Institution) (lines : List Line) (loan : Account) (place : ℕ) → IsTree i.offices →
         is_reversed (entry_at_place loan place i) ≡ false → is_reversed (entry_at_place loan place (last lines i))
-            ≡ true →
+        ≡ true →
         AtSomeLine (IsTakenBack loan place) lines i }
 {}
 

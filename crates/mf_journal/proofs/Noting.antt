@@ -129,7 +129,7 @@ unread (l ∷ ls) journal i =
 -- nor do the institution's rows
 pub last_with : (run : List Line) (journal : Option (List JournalLine)) (i : Institution)
     → (other : Option (List JournalLine))
-        × (last run (with_other_journal journal i) ≡ with_other_journal other (last run i))
+    × (last run (with_other_journal journal i) ≡ with_other_journal other (last run i))
 last_with [] journal i = (journal, refl)
 last_with (l ∷ ls) journal i =
     let w = next_with journal i l in

@@ -25,7 +25,12 @@ fn push_quoted(text: &mut Vec<u8>, bytes: &[u8]) -> Result<(), Fault>
 
 /// The body of the request that asks for a repayment of so many cents, on a day, with a receipt. Its only error is F20,
 /// out of memory.
-pub fn repayment_body(alloc: Global, amount: u64, day: Day, receipt: &[u8]) -> Result<Vec<u8>, Fault>
+pub fn repayment_body(
+    alloc: Global,
+    amount: u64,
+    day: Day,
+    receipt: &[u8],
+) -> Result<Vec<u8>, Fault>
     ensures body { IfOk result (λ body. body.items ≡ repayment_body amount day receipt.now) }
     ensures gives_up { IfErr result (λ fault. fault ≡ F20) }
 {

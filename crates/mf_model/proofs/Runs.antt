@@ -67,7 +67,7 @@ view_next o l i t b is = step (change_of_line l i) refl b is
 
     step : (c : Option Change) → change_of_line l i ≡ c → (b : Bool) → (from_office o l.call || is_touched o i c) ≡ b
         → view o (after_line (noted_of l.call i) c i)
-            ≡ cond b (play_one (record { call = bare l.call; accepted = is_some c }) (view o i))
+        ≡ cond b (play_one (record { call = bare l.call; accepted = is_some c }) (view o i))
         (view o i)
     step None e b is = none b
     step (Some change) e b is = goes change e (from_office o l.call) (touches o i change) refl refl b is
@@ -109,7 +109,7 @@ listed_where_own own now e = ap (λ b. b || now) e
 replies_step : (o : ℕ) (meant : Call → Bool) (l : Line) (ls : List Line) (i : Institution) → IsTree i.offices
     → (meant l.call ≡ true → from_office o l.call ≡ true) → meant (bare l.call) ≡ meant l.call
     → replies_to meant ls (answers ls (next l i))
-        ≡ but_given_up (given_up meant ls) (play_replies meant (touching_list o ls (next l i)) (view o (next l i)))
+    ≡ but_given_up (given_up meant ls) (play_replies meant (touching_list o ls (next l i)) (view o (next l i)))
     → (own listed : Bool) → meant l.call ≡ own → (from_office o l.call || is_touched o i (change_of_line l i)) ≡ listed
     → cond own (answer l i ∷ replies_to meant ls (answers ls (next l i))) (replies_to meant ls (answers ls (next l i)))
     ≡ but_given_up (cond own (l.given_up ∷ given_up meant ls) (given_up meant ls))
@@ -124,7 +124,7 @@ replies_step o meant l ls i t from alike rest true true me le =
     (rest ∙ ap (λ v. but_given_up (given_up meant ls) (play_replies meant ts v)) moved)
     ∙ sym (ap (λ b. but_given_up (l.given_up ∷ given_up meant ls) (cond b (reply l.call (view o i)
     ∷ play_replies meant ts (play_one this (view o i))) (play_replies meant ts (play_one this (view o i)))))
-        (alike ∙ me))
+    (alike ∙ me))
 replies_step o meant l ls i t from alike rest true false me le =
     absurd (let both : (from_office o l.call || is_touched o i (change_of_line l i)) ≡ true = listed_where_own
     (from_office o l.call) (is_touched o i (change_of_line l i)) (from me) in cc)
@@ -135,7 +135,7 @@ replies_step o meant l ls i t from alike rest false true me le =
     rest ∙ ap (λ v. but_given_up (given_up meant ls) (play_replies meant ts v)) moved
     ∙ sym (ap (λ b. but_given_up (given_up meant ls) (cond b (reply l.call (view o i)
     ∷ play_replies meant ts (play_one this (view o i))) (play_replies meant ts (play_one this (view o i)))))
-        (alike ∙ me))
+    (alike ∙ me))
 replies_step o meant l ls i t from alike rest false false me le =
     rest ∙ ap (λ v. but_given_up (given_up meant ls) (play_replies meant (touching_list o ls (next l i)) v))
     (view_next o l i t false le)
@@ -224,7 +224,7 @@ last-push (k ∷ ls) l i = last-push ls l (next k i)
 
 pub left_after-push : (ls : List Line) (l : Line) (i : Institution) (is : List Institution) → left_after (ls ++ l ∷ [])
     i is ≡ left_by (noted_of l.call (last ls i)) (change_in (outcome l.call (last ls i))) l.given_up (last ls i)
-        (left_after ls i is)
+    (left_after ls i is)
 left_after-push [] l i is = refl
 left_after-push (k ∷ ls) l i is =
     left_after-push ls l (next k i) (left_by (noted_of k.call i) (change_in (outcome k.call i)) k.given_up i is)

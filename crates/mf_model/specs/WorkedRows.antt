@@ -67,9 +67,10 @@ status_reply status = Ok (reply.Loan (account 1 1) (Status status))
 
 -- a line that is not given up, and what it is answered
 abbrev pub row : Option Caller → Request → Result Reply Fault → Line × Result Reply Fault
-row caller request reply =
-    (record { call = record { caller = caller; request = request; received = nothing_received }; given_up = false },
-        reply)
+row caller request reply = (
+  record { call = record { caller = caller; request = request; received = nothing_received }; given_up = false },
+  reply,
+)
 
 -- a client is entered and read
 abbrev pub first_day : List (Line × Result Reply Fault)

@@ -8,8 +8,8 @@ use mf_account::{LoanAccount, Receipt};
 use mf_base::{Choice, Day, Fault};
 use mf_catalog::{ChargeDef, Product};
 use mf_model::{
-    ArrearsList, CatalogueCounts, Commit, Counts, InstitutionStore, Loan, LoanList, Note, OfficeList,
-    ReceiptUse, Statement,
+    ArrearsList, CatalogueCounts, Commit, Counts, InstitutionStore, Loan, LoanList, Note,
+    OfficeList, ReceiptUse, Statement,
 };
 use mf_office::{Account, Caller, Name, OfficeNo, Role};
 use mf_statement::InstalmentList;

@@ -94,7 +94,7 @@ pub fn read_tables<S: Alter, P: Progress>(
         → OnOk result (IsTrue (state S.Store connection.new).is_open) }
     ensures only { HasCleanDisk (state S.Store connection.new)
         → IsOfVersion version (state S.Store connection.old).now.schema
-            → IfOk result (λ x. IfSome x (λ tables. (lists : Lists)
+        → IfOk result (λ x. IfSome x (λ tables. (lists : Lists)
         → HoldsAt version (state S.Store connection.old).now.trees lists → tables ≡ lists_at version lists)) }
     ensures keeps { HasCleanDisk (state S.Store connection.new)
         → IsOfVersion version (state S.Store connection.old).now.schema
@@ -103,7 +103,7 @@ pub fn read_tables<S: Alter, P: Progress>(
         → HoldsAt version (state S.Store connection.old).now.trees tables)) }
     ensures none { HasCleanDisk (state S.Store connection.new)
         → IsOfVersion version (state S.Store connection.old).now.schema
-            → IfOk result (λ x. IfNone x ((lists : Lists) → CanBeHeld lists
+        → IfOk result (λ x. IfNone x ((lists : Lists) → CanBeHeld lists
         → ¬ HoldsAt version (state S.Store connection.old).now.trees lists)) }
     ensures mode { connection.new.in_transaction ≡ false }
 {
@@ -146,12 +146,12 @@ pub fn read_sound<S: Alter, P: Progress>(
         → IfOk result (λ x. IfSome x (λ tables. HoldsSoundAt version (state S.Store connection.old).now.trees)) }
     ensures rows { HasCleanDisk (state S.Store connection.new)
         → IsOfVersion version (state S.Store connection.old).now.schema
-            → IfOk result (λ x. IfSome x
-                (λ tables. (held : HoldsSoundAt version (state S.Store connection.old).now.trees)
+        → IfOk result (λ x. IfSome x
+        (λ tables. (held : HoldsSoundAt version (state S.Store connection.old).now.trees)
         → tables_at version held.institution ≡ tables)) }
     ensures none { HasCleanDisk (state S.Store connection.new)
         → IsOfVersion version (state S.Store connection.old).now.schema
-            → IfOk result (λ x. IfNone x (¬ HoldsSoundAt version (state S.Store connection.old).now.trees)) }
+        → IfOk result (λ x. IfNone x (¬ HoldsSoundAt version (state S.Store connection.old).now.trees)) }
     ensures mode { connection.new.in_transaction ≡ false }
 {
     let Some(tables) = read_tables(alloc, connection, version, progress)? else {

@@ -12,7 +12,7 @@ pub returns-in_default-2-clause-decides : goal.returns-in_default-2-clause-decid
 returns-in_default-2-clause-decides g c =
     let s = g.S.InstitutionStore in
     then_refuses s (role_of c.args.caller.now)
-        (outcome (call_from c.args.caller.now c.args.request nothing_received)) c.args.store.now
+    (outcome (call_from c.args.caller.now c.args.request nothing_received)) c.args.store.now
     c.caller.new.self None F2
     (rw (none_there c.in_ok-role.field-0 c.in_default-2.not-Some) at c.in_ok-role.ensures)
     (λ i e. sent_unknown c.args.caller.now c.args.request i c.in_default.not-Unreadable e)
@@ -21,7 +21,7 @@ pub returns-then-not-may_send-clause-decides : goal.returns-then-not-may_send-cl
 returns-then-not-may_send-clause-decides g c =
     let s = g.S.InstitutionStore in
     then_refuses s (role_of c.args.caller.now)
-        (outcome (call_from c.args.caller.now c.args.request nothing_received)) c.args.store.now
+    (outcome (call_from c.args.caller.now c.args.request nothing_received)) c.args.store.now
     c.caller.new.self (Some c.in-Some.role) F3
     (rw c.in-Some.is at c.in_ok-role.ensures)
     (λ i e. sent_known c.args.caller.now c.args.request c.in-Some.role i c.in_default.not-Unreadable e
