@@ -1,15 +1,24 @@
--- What the columns of the rows of charges, products, loans and entries stand for.
-use Rattle.std.specs.Prelude.{◌≡◌, ℕ, List, Option}
+-- What the columns of the rows of charges, products, loans and entries stand for, and which rows stand for nothing.
+use Rattle.std.specs.Prelude.{◌≡◌, ◌≢◌, ◌≤◌, ℕ, List, Option}
 use Rattle.mf_account.specs.declared.entry.Entry.{Entry}
+use Rattle.mf_alloc.specs.Sums.{Instalment, IsRowWithin}
+use Rattle.mf_base.specs.DayText.{last_day, last_entered_day}
+use Rattle.mf_office.specs.Numbers.{IsNumberUpTo}
+use Rattle.mf_model.specs.Receipts.{Use}
+use Rattle.mf_model.specs.Sound.{IsStageBy}
+use Rattle.mf_model.specs.declared.loan.Loan.{Loan}
 use Rattle.mf_model.specs.Institution.{ListedCharge, ListedProduct}
 use Rattle.mf_model.specs.Stages.{stage_number}
 use Rattle.mf_model.specs.declared.loan.Stage.{Stage}
 use Rattle.mf_store_values.specs.declared.catalogue.ChargeColumns.{ChargeColumns}
 use Rattle.mf_store_values.specs.declared.catalogue.ProductColumns.{ProductColumns}
 use Rattle.mf_store_values.specs.declared.kept_entries.EntryColumns.{EntryColumns}
-use Rattle.mf_store_values.specs.Flat.{approval_text, disbursal_text}
+use Rattle.mf_store_values.specs.Flat.{approval_text, disbursal_text, entry_in, instalment_in, loan_in}
+use Rattle.mf_store_values.specs.ReceiptRows.{receipt_in}
 use Rattle.mf_store_schema.specs.declared.entries.EntryRow.{EntryRow}
+use Rattle.mf_store_schema.specs.declared.instalments.InstalmentRow.{InstalmentRow}
 use Rattle.mf_store_schema.specs.declared.loans.LoanRow.{LoanRow}
+use Rattle.mf_store_schema.specs.declared.receipts.ReceiptRow.{ReceiptRow}
 
 -- what they stand for of a charge
 abbrev pub charge_columns_of : ListedCharge → ChargeColumns
@@ -59,3 +68,18 @@ entry_with seq instalment receipt c = record {
 -- and with those of a row
 abbrev pub entry_of_columns : EntryRow → EntryColumns → Entry
 entry_of_columns row c = entry_with row.seq row.instalment row.receipt c
+
+-- the row is that of no instalment of which at most what is owed is settled
+abbrev pub IsNoInstalment : InstalmentRow → Type 0
+IsNoInstalment row = (office loan number : ℕ) (sums : Instalment) → sums.due ≤ last_day → IsRowWithin sums
+    → row ≢ instalment_in office loan (number, sums)
+
+-- the row is that of no loan with a client's number and days that may be entered
+abbrev pub IsNoLoan : LoanRow → Type 0
+IsNoLoan row = (today office number : ℕ) (l : Loan) → today ≤ last_entered_day → IsStageBy today l.stage
+    → IsNumberUpTo 999999 l.client → row ≢ loan_in office number l
+
+-- the rows are not those of a receipt and of the entry that carries it
+abbrev pub AreOfNoUse : ReceiptRow → EntryRow → Type 0
+AreOfNoUse receipt entry = (office : ℕ) (u : Use) (e : Entry) → IsNumberUpTo 999999 u.by.loan → e.day ≤ last_day
+    → receipt ≡ receipt_in office u → entry ≢ entry_in office u.by.loan e

@@ -1,10 +1,11 @@
 //! What the rows of a loan's instalments stand for. What can be no instalment's is F20.
 
-ghost use Rattle.std.specs.Prelude.{◌≡◌, ◌+◌, ◌≤◌, ℕ, List, map, pos, IfOk, IfErr};
+ghost use Rattle.std.specs.Prelude.{◌≡◌, ◌+◌, ◌≤◌, ◌<◌, ℕ, List, map, pos, IfOk, IfErr};
 ghost use Rattle.mf_base.specs.declared.fault.Fault.TheVariants.{F20};
 ghost use Rattle.std.specs.List.{AllByRecursion, list_any};
 ghost use Rattle.mf_alloc.specs.Sums.{Instalment, AreWhole, AreWithin, IsRowWithin, IsWhole, is_open};
 ghost use Rattle.mf_store_schema.specs.Rows.{instalment_row};
+ghost use Rattle.mf_store_values.specs.Decoded.{IsNoInstalment};
 ghost use Rattle.mf_store_values.specs.Flat.{instalment_in};
 
 use crate::loans::day_from;
@@ -32,6 +33,12 @@ pub(crate) fn amounts_from(sums: PortionSums) -> Result<PortionAmounts, Fault>
       written_off = pos amounts.written_off;
     }) }
     ensures within { IfOk result (λ amounts. amounts.paid + amounts.waived + amounts.written_off ≤ amounts.owed) }
+    ensures none { IfErr result (λ _. (owed paid waived written_off : ℕ) → sums ≡ record {
+      owed = pos owed;
+      paid = pos paid;
+      waived = pos waived;
+      written_off = pos written_off;
+    } → owed < paid + waived + written_off) }
     ensures gives_up { IfErr result (λ fault. fault ≡ F20) }
 {
     let owed = to_unsigned(sums.owed)?;
@@ -54,6 +61,7 @@ pub fn instalment_from(row: &InstalmentRow) -> Result<mf_alloc::Instalment, Faul
     ensures row { IfOk result (λ found. (office loan number : ℕ) (sums : Instalment) → IsWhole sums
         → row.now ≡ instalment_in office loan (number, sums) → found ≡ sums) }
     ensures within { IfOk result (λ found. IsWhole found × IsRowWithin found) }
+    ensures none { IfErr result (λ _. IsNoInstalment row.now) }
     ensures gives_up { IfErr result (λ fault. fault ≡ F20) }
 {
     let penalty = amounts_from(row.penalty)?;

@@ -1,14 +1,15 @@
 //! What the rows of loans stand for.
 
-ghost use Rattle.std.specs.Prelude.{◌≡◌, ◌≤◌, ℕ, Some, IfSome, IfOk, IfErr};
+ghost use Rattle.std.specs.Prelude.{◌≡◌, ◌≢◌, ◌≤◌, ℕ, Some, IfSome, IfOk, IfErr};
 ghost use Rattle.mf_base.specs.declared.fault.Fault.TheVariants.{F20};
-ghost use Rattle.mf_base.specs.DayText.{day_text, last_entered_day};
+ghost use Rattle.mf_base.specs.DayText.{day_text, last_day, last_entered_day};
+ghost use Rattle.mf_office.specs.Numbers.{IsNumberUpTo};
 ghost use Rattle.mf_model.specs.Sound.{IsStageBy};
 ghost use Rattle.mf_model.specs.Stages.{disbursed_on};
 ghost use Rattle.mf_model.specs.declared.loan.Loan.{Loan};
 ghost use Rattle.mf_model.specs.declared.loan.Stage.{Stage};
 ghost use Rattle.mf_store_schema.specs.Rows.{loan_row};
-ghost use Rattle.mf_store_values.specs.Decoded.{IsStageTold};
+ghost use Rattle.mf_store_values.specs.Decoded.{IsStageTold, IsNoLoan};
 ghost use Rattle.mf_store_values.specs.Flat.{loan_in};
 
 use crate::offices::office_number;
@@ -19,9 +20,10 @@ use mf_office::{Account, AccountNo};
 use mf_store_schema::{LoanRow, Text, read_row};
 use sqlite::Row;
 
-/// The day of a text.
+/// The day of a text; F20 where it is that of none.
 pub(crate) fn day_from(text: &Text) -> Result<Day, Fault>
     ensures day { IfOk result (λ day. (n : ℕ) → text.now ≡ day_text n → day ≡ n) }
+    ensures none { IfErr result (λ _. (n : ℕ) → n ≤ last_day → text.now ≢ day_text n) }
     ensures gives_up { IfErr result (λ fault. fault ≡ F20) }
 {
     laws::texts_of_days();
@@ -74,6 +76,7 @@ pub fn disbursal_day(row: &LoanRow) -> Option<Day>
 /// The number of a client or a loan that a row keeps. F20 where it is none, which no number in the tables is.
 pub(crate) fn account_number(number: u32) -> Result<AccountNo, Fault>
     ensures number { IfOk result (λ n. n ≡ number) }
+    ensures none { IfErr result (λ _. ¬ IsNumberUpTo 999999 number) }
     ensures gives_up { IfErr result (λ fault. fault ≡ F20) }
 {
     match AccountNo::new(number) {
@@ -82,10 +85,11 @@ pub(crate) fn account_number(number: u32) -> Result<AccountNo, Fault>
     }
 }
 
-/// The loan of a row.
+/// The loan of a row; F20 where it is that of none.
 pub fn loan_from(row: LoanRow) -> Result<Loan, Fault>
     ensures loan { IfOk result (λ loan. (office number : ℕ) (l : Loan) → row ≡ loan_in office number l
         → loan ≡ l) }
+    ensures none { IfErr result (λ _. IsNoLoan row) }
     ensures gives_up { IfErr result (λ fault. fault ≡ F20) }
 {
     let client = account_number(row.client)?;

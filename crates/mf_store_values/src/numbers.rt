@@ -1,7 +1,7 @@
 //! What numbers of rows stand for beside choices, where None is for a number that stands for nothing; and amounts as
 //! rows keep them.
 
-ghost use Rattle.std.specs.Prelude.{◌≡◌, ℕ, pos, Bool, Some, IfSome, IfOk, IfErr};
+ghost use Rattle.std.specs.Prelude.{◌≡◌, ◌≤◌, ◌^◌, ℕ, pos, Bool, Some, IfSome, IfOk, IfErr};
 ghost use Rattle.mf_base.specs.declared.fault.Fault.TheVariants.{F20};
 ghost use Rattle.mf_store_values.specs.Flat.{flag_number};
 
@@ -34,6 +34,7 @@ pub fn amount_from(number: i64) -> Option<u64>
 /// An amount in cents as rows keep it. One that 63 bits don't hold is F20.
 pub fn to_signed(amount: u64) -> Result<i64, Fault>
     ensures amount { IfOk result (λ n. n ≡ pos amount) }
+    ensures too_great { IfErr result (λ _. 2 ^ 63 ≤ amount) }
     ensures gives_up { IfErr result (λ fault. fault ≡ F20) }
 {
     match i64::try_from(amount) {

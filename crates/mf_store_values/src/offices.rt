@@ -1,6 +1,7 @@
 //! What the rows of offices stand for.
 
-ghost use Rattle.std.specs.Prelude.{◌≡◌, ℕ, List, Option, map, IfOk, IfErr};
+ghost use Rattle.std.specs.Prelude.{◌≡◌, ℕ, List, Option, map, IfSome, IfOk, IfErr};
+ghost use Rattle.mf_office.specs.Numbers.{IsNumberUpTo};
 ghost use Rattle.mf_base.specs.declared.fault.Fault.TheVariants.{F20};
 ghost use Rattle.mf_model.specs.Institution.{Office};
 ghost use Rattle.mf_model.specs.Desk.{office_shown};
@@ -17,6 +18,7 @@ use std::alloc::Global;
 /// The number of an office that a row keeps. F20 where it is none, which no number in the tables is.
 pub(crate) fn office_number(number: u32) -> Result<OfficeNo, Fault>
     ensures number { IfOk result (λ n. n ≡ number) }
+    ensures none { IfErr result (λ _. ¬ IsNumberUpTo 9999 number) }
     ensures gives_up { IfErr result (λ fault. fault ≡ F20) }
 {
     match OfficeNo::new(number) {
@@ -28,6 +30,7 @@ pub(crate) fn office_number(number: u32) -> Result<OfficeNo, Fault>
 /// The number of the office above, where there is one.
 fn parent_number(number: Option<u32>) -> Result<Option<OfficeNo>, Fault>
     ensures number { IfOk result (λ n. n ≡ number) }
+    ensures none { IfErr result (λ _. IfSome number (λ n. ¬ IsNumberUpTo 9999 n)) }
     ensures gives_up { IfErr result (λ fault. fault ≡ F20) }
 {
     match number {

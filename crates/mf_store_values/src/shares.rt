@@ -1,6 +1,6 @@
 //! The rows of shares, made of what an account's entries settle.
 
-ghost use Rattle.std.specs.Prelude.{◌≡◌, ◌++◌, ℕ, length, map, OnOk, IfOk, IfErr};
+ghost use Rattle.std.specs.Prelude.{◌≡◌, ◌≤◌, ◌^◌, ◌++◌, ℕ, length, map, OnOk, IfOk, IfErr};
 ghost use Rattle.std.specs.List.Sorted.{IsSortedByKey, IsPermutation};
 ghost use Rattle.std.specs.Ordering.{nat_cmp};
 ghost use Rattle.mf_base.specs.declared.fault.Fault.TheVariants.{F20};
@@ -24,6 +24,7 @@ pub fn share_row(
     part: &SettledPart,
 ) -> Result<ShareRow, Fault>
     ensures row { IfOk result (λ made. made ≡ share_in office loan (seq, (place, part.now))) }
+    ensures too_great { IfErr result (λ _. 2 ^ 63 ≤ part.now.amount) }
     ensures gives_up { IfErr result (λ fault. fault ≡ F20) }
 {
     let amount = to_signed(part.amount)?;

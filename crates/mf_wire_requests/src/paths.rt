@@ -1,6 +1,6 @@
 //! What the parameters of a path name: accounts, and the numbers that they write.
 
-ghost use Rattle.std.specs.Prelude.{◌≤◌, IfOk};
+ghost use Rattle.std.specs.Prelude.{◌≡◌, ◌≤◌, IfOk, IfErr};
 ghost use Rattle.matchit.specs.Params.{AllText};
 ghost use Rattle.mf_office.specs.Texts.{IsAccount};
 ghost use Rattle.mf_wire_requests.specs.Bodies.{Gives};
@@ -14,6 +14,7 @@ use mf_office::Account;
 pub fn account(params: &Params<'_, '_>, name: &str) -> Result<Account, Fault>
     requires { AllText (parts_of_params params.now) }
     ensures value { Gives (account_number_in name.now (parts_of_params params.now)) result }
+    ensures refuses { IfErr result (λ fault. fault ≡ Fault.F1) }
     ensures in_range { IfOk result IsAccount }
 {
     let text = params.get(name).ok_or(Fault::F1)?;
@@ -24,6 +25,7 @@ pub fn account(params: &Params<'_, '_>, name: &str) -> Result<Account, Fault>
 pub fn number(params: &Params<'_, '_>, name: &str) -> Result<u32, Fault>
     requires { AllText (parts_of_params params.now) }
     ensures value { Gives (number_in name.now (parts_of_params params.now)) result }
+    ensures refuses { IfErr result (λ fault. fault ≡ Fault.F1) }
     ensures in_range { IfOk result (λ n. n ≤ 999999999) }
 {
     let text = params.get(name).ok_or(Fault::F1)?;

@@ -1,6 +1,6 @@
 //! What is asked of loans.
 
-ghost use Rattle.std.specs.Prelude.{◌≡◌, ◌≤◌, option_and_then, IfOk, IfSome};
+ghost use Rattle.std.specs.Prelude.{◌≡◌, ◌≤◌, option_and_then, IfOk, IfErr, IfSome};
 ghost use Rattle.serde_json.specs.View.{view};
 ghost use Rattle.matchit.specs.Params.{AllText};
 ghost use Rattle.mf_model.specs.Sound.{IsInRange, IsLoanInRange};
@@ -164,6 +164,7 @@ pub fn on_loan(
 pub fn list_loans(params: &Params<'_, '_>) -> Result<Request, Fault>
     requires { AllText (parts_of_params params.now) }
     ensures value { Gives (loans_request (parts_of_params params.now)) result }
+    ensures refuses { IfErr result (λ fault. fault ≡ Fault.F1) }
     ensures in_range { IfOk result IsInRange }
 {
     let office = number_in_path(params, "office")?;

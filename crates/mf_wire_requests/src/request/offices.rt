@@ -1,6 +1,6 @@
 //! What is asked of offices, staff and clients.
 
-ghost use Rattle.std.specs.Prelude.{option_and_then, IfOk};
+ghost use Rattle.std.specs.Prelude.{◌≡◌, option_and_then, IfOk, IfErr};
 ghost use Rattle.matchit.specs.Params.{AllText};
 ghost use Rattle.mf_model.specs.Sound.{IsInRange};
 ghost use Rattle.mf_wire_requests.specs.Bodies.{json_of, Gives};
@@ -62,6 +62,7 @@ pub fn new_client(alloc: Global, body: &[u8]) -> Result<Request, Fault>
 pub fn show_client(params: &Params<'_, '_>) -> Result<Request, Fault>
     requires { AllText (parts_of_params params.now) }
     ensures value { Gives (client_request (parts_of_params params.now)) result }
+    ensures refuses { IfErr result (λ fault. fault ≡ Fault.F1) }
     ensures in_range { IfOk result IsInRange }
 {
     let client = account(params, "client")?;
