@@ -1,5 +1,5 @@
 -- The books of one loan: what it has on all accounts comes to nothing, and the catalogue's growing moves nothing of it.
-use Rattle.std.proofs.Common.{◌≡◌, ◌+◌, ◌<◌, ◌^◌, ℕ, Bool, true, false, List, [], ◌∷◌, Option, Some, None, refl, sym, ap, ◌∙◌}
+use Rattle.std.proofs.Common.{◌≡◌, ◌+◌, ◌<◌, ◌^◌, ℕ, Bool, List, [], Option, Some, None, refl, sym, ap, ◌∙◌}
 use Rattle.std.proofs.Common.{subst, arith, sum}
 use Rattle.std.specs.Prelude.{ℤ, pos, ◌+ℤ◌, ◌-ℤ◌, neg_ℤ, slice_index}
 use Rattle.std.proofs.lemmas.Int.{ints}
@@ -10,7 +10,7 @@ use Rattle.mf_account.specs.Loan.{DisbursedLoan, IsSoundDisbursed}
 use Rattle.mf_account.proofs.ConserveLemmas.{sum-four, balances-repaid}
 use Rattle.mf_account.proofs.StatusLemmas.{repaid-room}
 use Rattle.mf_model.specs.Accounts.{account_in, of_account, no_balances, balances_in, running_from, terms_in}
-use Rattle.mf_model.specs.Institution.{Institution, Catalogue, Ledger}
+use Rattle.mf_model.specs.Institution.{Catalogue, Ledger}
 use Rattle.mf_model.specs.Sound.{IsSoundCatalogue, IsSoundLoan, AreEntriesBy}
 use Rattle.mf_model.specs.Stages.{disbursed_on}
 use Rattle.mf_model.proofs.AccountLemmas.{IsRunning, account_is, account_sound, account_there}

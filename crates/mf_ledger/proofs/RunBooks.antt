@@ -25,7 +25,7 @@ use Rattle.mf_ledger.specs.declared.books.Title.{Title}
 use Rattle.mf_ledger.specs.declared.books.Transaction.{Transaction}
 use Rattle.mf_ledger.specs.Books.{signed_sum, titles, sums_in, amount_on, postings_between}
 use Rattle.mf_ledger.specs.Runs.{Selection, where_meant, loan_balance, office_balance, balance, sums_of}
-use Rattle.mf_ledger.specs.Runs.{product_of_loan, loan_postings, transactions_of, transactions, posted_by, posted}
+use Rattle.mf_ledger.specs.Runs.{product_of_loan, transactions_of, transactions, posted_by, posted}
 use Rattle.mf_ledger.specs.Runs.{posted_in_all, between, at_end_of}
 use Rattle.mf_ledger.proofs.SignedSums.{sum-append, sum-difference, sum-plus, sum-same, sum-filter}
 use Rattle.mf_ledger.proofs.LoanBooks.{on_all, comes_to_nothing}
@@ -253,7 +253,8 @@ spans_meet title meant first middle last ts low high =
 
 -- ---- the end of a business day
 
-filter-both : {X : Type 0} (test : X → Bool) (xs ys : List X) → filter test (xs ++ ys) ≡ filter test xs ++ filter test ys
+filter-both : {X : Type 0} (test : X → Bool) (xs ys : List X)
+    → filter test (xs ++ ys) ≡ filter test xs ++ filter test ys
 filter-both test [] ys = refl
 filter-both {X = X} test (x ∷ xs) ys = go (test x) (filter-both test xs ys)
   where

@@ -1,8 +1,7 @@
 -- What one accepted request moves of an institution's books.
-use Rattle.std.proofs.Common.{◌≡◌, ◌+◌, ℕ, Bool, true, false, cond, List, [], ◌∷◌, ◌++◌, length, Option, Some, None}
+use Rattle.std.proofs.Common.{◌≡◌, ℕ, Bool, true, false, cond, List, [], ◌∷◌, ◌++◌, length, Option, Some, None}
 use Rattle.std.proofs.Common.{Result, Ok, Err, refl, sym, ap, ◌∙◌, subst, arith}
 use Rattle.std.specs.Prelude.{◌==◌, option_map, ℤ, pos, ◌+ℤ◌, ◌-ℤ◌}
-use Rattle.std.specs.List.{AllByRecursion}
 use Rattle.std.proofs.lemmas.Bool.Decides.{nat_tests}
 use Rattle.std.proofs.lemmas.Int.{ints}
 use Rattle.mf_base.specs.declared.fault.Fault.{Fault}
@@ -33,7 +32,7 @@ use Rattle.mf_model.specs.Calls.{Call}
 use Rattle.mf_model.specs.Catalogue.{on_catalogue}
 use Rattle.mf_model.specs.Desk.{plan, on_office, of_office, in_office, change_in, outcome, sender_effect}
 use Rattle.mf_model.specs.Institution.{Institution, Catalogue, Office, Rows, Ledger, Noted, office_at, item_numbered}
-use Rattle.mf_model.specs.Institution.{with_rows, with_office, new_office, Change, Catalogue_becomes, Rows_become}
+use Rattle.mf_model.specs.Institution.{with_rows, new_office, Change, Catalogue_becomes, Rows_become}
 use Rattle.mf_model.specs.Institution.{Office_added, after, after_noted, charge_in, product_in}
 use Rattle.mf_model.specs.Loans.{LedgerChange, on_loan, loan_changed, loan_added, new_loan, lend, with_stage}
 use Rattle.mf_model.specs.Loans.{with_new_entry, with_reversal, none_first, fee_first, enter, repayment, fee, posting}
@@ -53,8 +52,7 @@ use Rattle.mf_guarantees.proofs.LoanSteps.{IsPermitted, permitted, loan_changes,
 use Rattle.mf_guarantees.proofs.MoveLemmas.{numbered_same}
 use Rattle.mf_ledger.specs.declared.books.LoanSums.{LoanSums}
 use Rattle.mf_ledger.specs.declared.books.Title.{Title}
-use Rattle.mf_ledger.specs.declared.books.Transaction.{Transaction}
-use Rattle.mf_ledger.specs.Books.{signed_sum, sums_in, amount_on, postings_between}
+use Rattle.mf_ledger.specs.Books.{signed_sum, sums_in, amount_on}
 use Rattle.mf_ledger.specs.Runs.{Selection, where_meant, loan_balance, office_balance, balance, sums_of}
 use Rattle.mf_ledger.specs.Runs.{product_of_loan, loan_postings, transactions_of, posted_by, posted}
 use Rattle.mf_ledger.proofs.SignedSums.{sum-same, numbered_changed, rows_changed, office_put_in}
@@ -252,7 +250,8 @@ module _ (title : Title) (meant : Selection) where
       (sums_of k (ledger_at loan j)) in
       let read = ap (λ (o : Option Ledger). where_meant (meant x (product_of_loan o))
       (amount_on title (sums_of k (ledger_at loan j)) -ℤ amount_on title (sums_of k o))) at.before
-      ∙ ap (λ (o : Option Ledger). where_meant b (amount_on title (sums_of k o) -ℤ amount_on title (sums_in k l))) at.now
+      ∙ ap (λ (o : Option Ledger). where_meant b (amount_on title (sums_of k o) -ℤ amount_on title (sums_in k l)))
+      at.now
       in
       let one = meant_sum b (amount_on title (sums_in k l)) (amount_on title (sums_in k m)) in
       loan_sums (balance title meant j) (balance title meant i) (office_balance title meant k f)
@@ -335,7 +334,8 @@ module _ (title : Title) (meant : Selection) where
       made.becomes made.ledger
       (product_kept asked made.caller i.catalogue made.office.rows loan.number made.ledger) made.becomes_is in
       subst (λ (x : Change). Moves (request.Loan loan asked) n i (after_noted noted x i)) made.change_is
-      (loan_moves asked loan n i made.office made.ledger made.becomes noted s.tree made.office_is made.ledger_is product)
+      (loan_moves asked loan n i made.office made.ledger made.becomes noted s.tree made.office_is made.ledger_is
+      product)
   request_moves call c request.SeenOffices n i change noted s sound is h e = absurd (cc)
   request_moves call c request.SeenArrears n i change noted s sound is h e = absurd (cc)
   request_moves call c (request.NewOffice number parent name) n i change noted s sound is h e =

@@ -1,15 +1,14 @@
 -- The balances of an office's loans, as sums of whole numbers.
 use Rattle.std.proofs.Common.{◌≡◌, ◌+◌, ℕ, List, [], ◌∷◌, Option, Some, None, refl, arith, sum}
-use Rattle.std.specs.Prelude.{ℤ, pos, ◌+ℤ◌, ◌-ℤ◌, neg_ℤ, sum_by, slice_index}
+use Rattle.std.specs.Prelude.{pos, ◌+ℤ◌, ◌-ℤ◌, neg_ℤ, sum_by, slice_index}
 use Rattle.std.proofs.lemmas.Int.{ints}
 use Rattle.std.proofs.lemmas.List.Sums.{sum_by-cons}
-use Rattle.mf_account.specs.declared.balances.Balances.{Balances}
-use Rattle.mf_account.specs.Balance.{balances_of, sum_repaid}
+use Rattle.mf_account.specs.Balance.{balances_of}
 use Rattle.mf_account.specs.Loan.{DisbursedLoan}
 use Rattle.mf_account.proofs.ConserveLemmas.{sum-four}
 use Rattle.mf_model.specs.Accounts.{account_in, of_account, no_balances, balances_in}
 use Rattle.mf_model.specs.Institution.{Catalogue, Ledger}
-use Rattle.mf_ledger.specs.Books.{signed_sum, lent_on}
+use Rattle.mf_ledger.specs.Books.{signed_sum}
 
 pub sum-pos : {X : Type 0} (read : X → ℕ) (xs : List X) → signed_sum (λ x. pos (read x)) xs ≡ pos (sum_by read xs)
 sum-pos read [] = refl

@@ -43,9 +43,9 @@ lent_on k l = of_account {A = ℕ} 0 (λ (a : DisbursedLoan). a.principal) (acco
 abbrev pub sums_in : Catalogue → Ledger → LoanSums
 sums_in k l = record { lent = lent_on k l; repaid = sum_repaid l.entries; balances = balances_in k l }
 
--- Cash: what was repaid, and the fee that was kept when the loan was paid out, less what was lent and what was refunded.
--- So a loan is paid out less its fee, an overpayment comes in whole, and a refund goes out. A write-off, a waiver and
--- their reversals move no cash.
+-- Cash: what was repaid, and the fee that was kept when the loan was paid out, less what was lent and refunded. So a
+-- loan is paid out less its fee, an overpayment comes in whole, and a refund goes out. A write-off, a waiver and their
+-- reversals move no cash.
 abbrev pub cash : LoanSums → ℤ
 cash s = (pos s.repaid +ℤ pos s.balances.disbursement_fee) -ℤ (pos s.lent +ℤ pos s.balances.refunded)
 

@@ -1,5 +1,5 @@
 -- The books of an institution, and the transactions of a run.
-use Rattle.std.specs.Prelude.{◌≡◌, ℕ, ◌+◌, ◌==◌, nat_le, Bool, true, cond, ◌&&◌, ℤ, pos, ◌+ℤ◌, List, [], ◌∷◌, ◌++◌, filter}
+use Rattle.std.specs.Prelude.{ℕ, ◌+◌, ◌==◌, nat_le, Bool, true, cond, ◌&&◌, ℤ, pos, List, [], ◌∷◌, ◌++◌, filter}
 use Rattle.std.specs.Prelude.{is_some, Option, Some, None}
 use Rattle.mf_office.specs.declared.account.Account.{Account}
 use Rattle.mf_model.specs.Accounts.{no_balances}

@@ -1,5 +1,5 @@
 -- The text of transactions, as a journal of hledger: https://hledger.org/hledger.html#journal
-use Rattle.std.specs.Prelude.{ℕ, ◌-◌, ◌+◌, cond, ℤ, pos, negsuc, suc, List, [], ◌∷◌, ◌++◌, length, codes, decimal}
+use Rattle.std.specs.Prelude.{ℕ, ◌-◌, ◌+◌, cond, ℤ, pos, negsuc, List, [], ◌∷◌, ◌++◌, length, codes, decimal}
 use Rattle.std.specs.List.{flat_map}
 use Rattle.mf_base.specs.DayText.{day_text}
 use Rattle.mf_base.specs.Money.{money_text}

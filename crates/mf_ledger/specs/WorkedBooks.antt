@@ -1,5 +1,5 @@
--- A loan of 1,000.00 over three months at 12 percent a year, by equal principal, with 20.00 kept when it is paid out, and
--- what the books have of it. Its instalments owe interest of 10.00, 6.67 and 3.33, and principal of 333.33, 333.33
+-- A loan of 1,000.00 over three months at 12 percent a year, by equal principal, with 20.00 kept when it is paid out,
+-- and what the books have of it. Its instalments owe interest of 10.00, 6.67 and 3.33, and principal of 333.33, 333.33
 -- and 333.34. The figures are worked out by hand from the rules of accounts.
 use Rattle.std.specs.Prelude.{ℕ, ℤ, pos, neg_ℤ, List, [], ◌∷◌, ◌++◌, codes, None, Some, Result, Ok}
 use Rattle.mf_base.specs.declared.fault.Fault.{Fault}

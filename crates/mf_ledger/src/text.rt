@@ -116,9 +116,9 @@ fn heading(alloc: Global, transaction: &Transaction) -> Result<String, Fault>
     Ok(text)
 }
 
-/// A transaction as hledger's journal has it: its date, the number of the line of the journal, the loan, and a line for
-/// each amount that isn't 0, and an empty line behind them. Nothing where no amount is moved. Its only error is F20, out
-/// of memory.
+/// A transaction as hledger's journal has it: its date, the number of the line of the journal and the loan, then a line
+/// for each amount that isn't 0, and an empty line. Nothing where no amount is moved. Its only error is F20, out of
+/// memory.
 pub fn transaction_text(alloc: Global, transaction: &Transaction) -> Result<String, Fault>
     ensures text { IfOk result (λ text. string_bytes text ≡ spec.transaction_text transaction.now) }
     ensures only { IsOkUnless result Fault.F20 }

@@ -1,6 +1,5 @@
-use Rattle.std.proofs.Common.{◌≡◌, ◌∙◌, ℕ, Option, None, Some, ap, sym, refl}
+use Rattle.std.proofs.Common.{◌≡◌, ◌∙◌, Option, None, Some, ap, sym, refl}
 use Rattle.std.specs.Option.{option_map}
-use Rattle.mf_account.specs.declared.balances.Balances.{Balances}
 use Rattle.mf_account.specs.Change.{KeptAccount, account_by_replay}
 use Rattle.mf_account.specs.Loan.{DisbursedLoan}
 use Rattle.mf_model.specs.declared.loan.Loan.{Loan}
