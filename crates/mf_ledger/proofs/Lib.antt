@@ -1,0 +1,6 @@
+pub mod SignedSums
+pub mod LoanBooks
+pub mod StepBooks
+pub mod RunBooks
+pub mod TieLemmas
+pub mod TextLemmas

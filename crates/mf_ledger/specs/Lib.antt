@@ -1,0 +1,4 @@
+pub mod Books
+pub mod Runs
+pub mod Text
+pub mod WorkedBooks

@@ -1,0 +1,104 @@
+//! What holds of the books, whatever is asked. Each function does nothing: its contract is the law that the sentence
+//! above it tells.
+
+ghost use Rattle.std.specs.Prelude.{◌≡◌, ◌≤◌, ◌+◌, ◌++◌, ℕ, pos, ◌+ℤ◌, ◌-ℤ◌, neg_ℤ, List, length, map, sum, sum_by};
+ghost use Rattle.std.specs.Prelude.{slice_index};
+ghost use Rattle.std.specs.List.{AllByRecursion};
+ghost use Rattle.mf_account.specs.Balance.{sum_repaid};
+ghost use Rattle.mf_model.specs.Accounts.{balances_in};
+ghost use Rattle.mf_model.specs.Institution.{Institution, Catalogue, Ledger, Office, newly_made};
+ghost use Rattle.mf_model.specs.Run.{Line, answers, last};
+ghost use Rattle.mf_model.specs.Sound.{IsSound, AreInRange};
+ghost use Rattle.mf_model.specs.Tree.{IsTree};
+ghost use Rattle.mf_statement.specs.WorkedRows.{january};
+ghost use Rattle.mf_journal.specs.Journal.{writes_of};
+ghost use Rattle.mf_ledger.specs.declared.books.Title.{Title};
+ghost use Rattle.mf_ledger.specs.declared.books.Title.TheVariants.{Cash, Principal, Interest, Fees, Penalties};
+ghost use Rattle.mf_ledger.specs.declared.books.Title.TheVariants.{DisbursementFees, Overpaid, WrittenOff};
+ghost use Rattle.mf_ledger.specs.declared.books.Transaction.{Transaction};
+ghost use Rattle.mf_ledger.specs.Books.{signed_sum, titles, lent_on};
+ghost use Rattle.mf_ledger.specs.Runs.{Selection, everything, balance, office_balance, transactions, posted};
+ghost use Rattle.mf_ledger.specs.Runs.{posted_in_all, between, at_end_of};
+ghost use Rattle.mf_ledger.specs.WorkedBooks.{worked_days, worked_transactions};
+
+/// Whatever requests come, the postings of each transaction come to 0: what is debited is credited.
+pub fn each_transaction_comes_to_nothing()
+    ensures { (i : Institution) (lines : List Line) (n : ℕ) → IsSound i → AreInRange lines →
+        AllByRecursion (λ (t : Transaction). posted_in_all t ≡ pos 0) (transactions n lines i) }
+{}
+
+/// Of any offices and products, what stands on all accounts of a sound institution comes to 0.
+pub fn all_accounts_come_to_nothing()
+    ensures { (i : Institution) (meant : Selection) → IsSound i →
+        signed_sum (λ title. balance title meant i) titles ≡ pos 0 }
+{}
+
+/// Whatever requests come, what an institution has on an account of the books is what it had there, and all that was
+/// posted there since: for each title, and for any offices and products. A new institution has nothing on any account,
+/// so the postings from the founding on come to its balances.
+pub fn postings_come_to_the_balances()
+    ensures since { (i : Institution) (lines : List Line) (n : ℕ) (title : Title) (meant : Selection) →
+        IsSound i → AreInRange lines →
+        balance title meant (last lines i) ≡ balance title meant i +ℤ posted title meant (transactions n lines i) }
+    ensures founding { (day : ℕ) (title : Title) (meant : Selection) → balance title meant (newly_made day) ≡ pos 0 }
+{}
+
+/// The postings of all business days up to one come to what the institution had on each account at the end of that day.
+pub fn postings_up_to_a_day_come_to_its_balances()
+    ensures { (i : Institution) (lines : List Line) (n day : ℕ) (title : Title) (meant : Selection) →
+        IsSound i → AreInRange lines →
+        balance title meant (at_end_of day lines i)
+        ≡ balance title meant i +ℤ posted title meant (between 0 day (transactions n lines i)) }
+{}
+
+/// Two spans of days that meet come to the whole.
+pub fn spans_that_meet_come_to_the_whole()
+    ensures { (transactions : List Transaction) (first middle last : ℕ) (title : Title) (meant : Selection) →
+        first ≤ middle → middle ≤ last →
+        posted title meant (between first last transactions)
+        ≡ posted title meant (between first middle transactions)
+        +ℤ posted title meant (between (middle + 1) last transactions) }
+{}
+
+/// A closed day never moves: whatever requests come later, whichever day they name and whatever they take back, each
+/// transaction stays as it was, and those that are added are dated no earlier than the business day on which they come.
+pub fn closed_days_never_move()
+    ensures kept { (i : Institution) (lines more : List Line) (n : ℕ) →
+        transactions n (lines ++ more) i
+        ≡ transactions n lines i ++ transactions (n + length (writes_of lines i)) more (last lines i) }
+    ensures dated { (i : Institution) (lines : List Line) (n : ℕ) → IsTree i.offices →
+        AllByRecursion (λ (t : Transaction). i.catalogue.day ≤ t.day) (transactions n lines i) }
+{}
+
+/// What an office has on its accounts is what an audit adds up of its loans: principal outstanding, principal written
+/// off and what is overpaid. What was paid besides principal is income. And cash with the fees that were kept at
+/// disbursement is what was repaid, less what was lent and refunded.
+pub fn books_tie_to_an_audit()
+    ensures outstanding { (k : Catalogue) (office : Office) →
+        office_balance Principal everything k office
+        ≡ pos (sum_by (λ (l : Ledger). slice_index (balances_in k l).outstanding 3) office.rows.loans) }
+    ensures written_off { (k : Catalogue) (office : Office) →
+        office_balance WrittenOff everything k office
+        ≡ pos (sum_by (λ (l : Ledger). slice_index (balances_in k l).written_off 3) office.rows.loans) }
+    ensures overpaid { (k : Catalogue) (office : Office) →
+        office_balance Overpaid everything k office
+        ≡ neg_ℤ (pos (sum_by (λ (l : Ledger). (balances_in k l).overpaid) office.rows.loans)) }
+    ensures paid { (k : Catalogue) (office : Office) →
+        (office_balance Interest everything k office +ℤ office_balance Fees everything k office)
+        +ℤ office_balance Penalties everything k office
+        ≡ pos (sum_by (λ (l : Ledger). slice_index (balances_in k l).paid 3) office.rows.loans)
+        -ℤ pos (sum_by (λ (l : Ledger). sum (balances_in k l).paid) office.rows.loans) }
+    ensures cash { (k : Catalogue) (office : Office) →
+        office_balance Cash everything k office +ℤ office_balance DisbursementFees everything k office
+        ≡ pos (sum_by (λ (l : Ledger). sum_repaid l.entries) office.rows.loans)
+        -ℤ (pos (sum_by (lent_on k) office.rows.loans)
+        +ℤ pos (sum_by (λ (l : Ledger). (balances_in k l).refunded) office.rows.loans)) }
+{}
+
+/// Worked out, line by line: a loan that is paid out with a fee kept, a waiver, a repayment that counts from an earlier
+/// day and its reversal, a write-off and its reversal, an overpayment and its refund.
+pub fn worked_books()
+    ensures answers { answers (map (λ row. row.0) worked_days) (newly_made january) ≡ map (λ row. row.1) worked_days }
+    ensures transactions { transactions 0 (map (λ row. row.0) worked_days) (newly_made january) ≡ worked_transactions }
+    ensures cash { balance Cash everything (last (map (λ row. row.0) worked_days) (newly_made january)) ≡ pos 3333 }
+{}
