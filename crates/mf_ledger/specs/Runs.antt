@@ -18,11 +18,11 @@ use Rattle.mf_ledger.specs.Books.{is_title, signed_sum, sums_in, amount_on, post
 abbrev pub Selection : Type 0
 Selection = ℕ → ℕ → Bool
 
--- one office and one product
 -- all offices and products
 abbrev pub everything : Selection
 everything = λ x p. true
 
+-- one office and one product
 abbrev pub one : ℕ → ℕ → Selection
 one office product = λ x p. (x == office) && (p == product)
 
