@@ -1,11 +1,13 @@
 """A day without a network: pages that open without one, a round taken along, what is typed on it and sent later. The
 loans are those of the tests of rounds: forty, of each 683.33 due on 2024-03-31."""
+import base64
 import contextlib
 import json
 import os
 import re
 import shutil
 import signal
+import subprocess
 import tempfile
 import time
 import unittest
@@ -26,6 +28,7 @@ CUT = {"offline": True, "latency": 0, "downloadThroughput": -1, "uploadThroughpu
 OPEN = CUT | {"offline": False}
 SLOW = OPEN | {"latency": 60}
 AMOUNTS = "return [...document.querySelectorAll('.paid-field')].map((one) => one.value)"
+FACTS = "return [...document.querySelectorAll('.sheet .fact')].map((one) => [...one.children].map((it) => it.innerText))"
 # what stands in the browser's database, as bytes: none of it may be readable
 KEPT = """
 const done = arguments[0];
@@ -64,7 +67,9 @@ class Phone(reader.Reader):
 
     # what the officer does
 
-    def take_along(self, place=PLACE):
+    def take_along(self, place=PLACE, by_itself=False):
+        """Takes a round along. What is typed is sent by a press, or by itself."""
+        self.script("localStorage.setItem('kept-by-itself', arguments[0])", "yes" if by_itself else "no")
         self.go(f"round/{place}")
         self.is_kept()
         self.open_dialog("Take this round along")
@@ -91,6 +96,27 @@ class Phone(reader.Reader):
 
     def bar(self):
         return re.sub(r"\d\d:\d\d$", "HH:MM", self.text(".unsent"))
+
+    def follow(self, words, within="main"):
+        """Presses a link or a button, and waits for another page."""
+        before = self.script("return location.hash")
+        found = self.wait(lambda: self.find(words, within), f"the link {words}")
+        self.script("arguments[0].scrollIntoView({block: 'center'})", found)
+        found.click()
+        self.wait(lambda: self.script("return location.hash") != before, "another page")
+
+    def printed(self, name):
+        """The page as it is printed on the paper that it asks for: its width and height in mm, its text and the path of
+        its first page as a picture."""
+        told = self.driver.execute_cdp_cmd("Page.printToPDF", {"preferCSSPageSize": True, "printBackground": False})
+        path = shots(name + ".pdf")
+        with open(path, "wb") as file:
+            file.write(base64.b64decode(told["data"]))
+        info = run("pdfinfo", path)
+        size = [round(float(one) / 72 * 25.4) for one in re.search(r"Page size: +([\d.]+) x ([\d.]+)", info).groups()]
+        run("pdftoppm", "-png", "-r", "200", "-singlefile", path, path.removesuffix(".pdf"))
+        pages = int(re.search(r"Pages: +(\d+)", info)[1])
+        return size, pages, run("pdftotext", "-layout", path, "-"), path.removesuffix(".pdf") + ".png"
 
     def results(self):
         found = self.script("return [...document.querySelectorAll('[data-result]')].map((one) => one.dataset.result)")
@@ -147,6 +173,22 @@ def descendants(pid):
             with open(f"/proc/{pid}/task/{thread}/children", encoding="ascii") as file:
                 children += [int(child) for child in file.read().split()]
     return [one for child in children for one in [child, *descendants(child)]]
+
+
+def shots(name):
+    """A path in the folder of screenshots."""
+    folder = os.environ.get("MICROLOAN_SHOTS") or os.path.join(running.TOP, "out", "shots")
+    os.makedirs(folder, exist_ok=True)
+    return os.path.join(folder, name)
+
+
+def run(*words):
+    return subprocess.run(words, stdout=subprocess.PIPE, stderr=subprocess.DEVNULL, text=True, check=True).stdout
+
+
+def code_in(picture):
+    """What a second program reads from the code in a picture: Debian's zbar."""
+    return run("zbarimg", "--quiet", "--raw", picture).removesuffix("\n")
 
 
 class Case(unittest.TestCase):
@@ -409,6 +451,87 @@ class Round(Case):
             self.assertIn("50.00 entered by 2/3", zoe.text("main"))
             self.assertEqual(zoe.script(AMOUNTS)[:2], ["100", ""])
             self.assertEqual(zoe.bar(), "1 not sent, 100.00, since HH:MM")
+
+
+class Receipts(Case):
+    """A receipt on the spot. Of 1,000.00 at 12 percent over three months 1,020.00 are to be paid."""
+
+    CODE = (
+        "receipt: 2-20240331-000001\ninstitution: microloan\noffice: 2 North\nloan: 0002-000001\nclient: Client 1\n"
+        "day: 2024-03-31\nbefore: 1020.00\npaid: 100.00\nleft: 920.00\nentered: no"
+    )
+
+    def test_typed_and_entered(self):
+        with loans.desk_with(FEW) as it:
+            zoe = self.phone(it, "zoe")
+            zoe.take_along()
+            zoe.network(CUT)
+            zoe.type(1, "100")
+            zoe.follow("Receipt", ".round-lines")
+            self.is_on(zoe, "Not entered yet: it is kept on this phone, and entered once it is sent.")
+            zoe.wait(lambda: zoe.all(".code"), "the code")
+            zoe.look("receipt-typed")
+            self.assertEqual(code_in(desk.screenshot(zoe.driver, "receipt-code", whole=True)), self.CODE)
+            self.share(zoe)
+            self.prints(zoe)
+            zoe.network(OPEN)
+            zoe.open_kept()
+            zoe.press("Enter 1 repayment")
+            zoe.wait(lambda: zoe.results() == {"entered": 1}, "the result")
+            zoe.follow("Receipt", ".round-lines")
+            self.is_on(zoe, "Entered at the desk.")
+            zoe.wait(lambda: zoe.all(".code"), "the code")
+            code = code_in(desk.screenshot(zoe.driver, "receipt-entered", whole=True))
+            self.assertEqual(code, self.CODE.replace("entered: no", "entered: yes"))
+            self.assertEqual(entered(it, 1), once(10000))
+
+    def is_on(self, zoe, state):
+        facts = dict(zoe.script(FACTS))
+        self.assertEqual((facts["Left to pay before"], facts["Paid"]), ("1,020.00", "100.00"))
+        self.assertEqual(facts["Left for certain: before, less paid"], "920.00")
+        self.assertEqual((facts["Office"], facts["Loan"], facts["Client"]), ("2 North", "0002-000001", "Client 1"))
+        self.assertEqual((facts["Day"], facts["Receipt number"]), ("Mar 31, 2024", "2-20240331-000001"))
+        self.assertIn(state, zoe.text(".slip"))
+        self.assertLessEqual(zoe.script("return document.documentElement.scrollWidth"), 360)
+
+    def share(self, zoe):
+        """Where the phone can share, it is handed the same in words."""
+        zoe.script("navigator.share = async (given) => { window.given = given; }")
+        zoe.script("location.hash = location.hash.replace('/receipt/', '/cash/')")
+        zoe.wait(lambda: zoe.title() == "Hand-over of cash", "another page")
+        zoe.script("history.back()")
+        zoe.press("Share")
+        given = zoe.script("return window.given.text")
+        self.assertIn("Paid: 100.00\nLeft for certain: before, less paid: 920.00\n", given)
+        self.assertIn("Not entered yet", given)
+
+    def prints(self, zoe):
+        """On a roll of 80 mm and on A6: one page each, with the same code."""
+        zoe.script("window.print = () => {}")
+        for words, size in (("Print on 80 mm", [80, 170]), ("Print on A6", [105, 148])):
+            with self.subTest(words):
+                zoe.press(words)
+                got, pages, text, picture = zoe.printed(f"receipt-{size[0]}")
+                self.assertEqual((got, pages), (size, 1))
+                self.assertIn("920.00", text)
+                self.assertNotIn("Print on", text)
+                self.assertEqual(code_in(picture), self.CODE)
+
+    def test_beyond_what_is_left(self):
+        """More than all that is left, and a name of another script."""
+        with loans.desk_with(FEW.replace(b'"Client 2"', '"Zoë Ñandú 山田"'.encode())) as it:
+            zoe = self.phone(it, "zoe")
+            zoe.take_along()
+            zoe.network(CUT)
+            zoe.type(2, "1100.50")
+            zoe.follow("Receipt", ".round-lines")
+            zoe.wait(lambda: zoe.all(".code"), "the code")
+            facts = dict(zoe.script(FACTS))
+            self.assertEqual(facts["Left for certain: before, less paid"], "0.00")
+            self.assertEqual(facts["Overpaid"], "80.50")
+            code = code_in(desk.screenshot(zoe.driver, "receipt-other-script", whole=True)).splitlines()
+            self.assertIn("client: Zoë Ñandú 山田", code)
+            self.assertEqual(code[-3:], ["left: 0.00", "overpaid: 80.50", "entered: no"])
 
 
 class Pin(Case):
