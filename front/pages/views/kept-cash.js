@@ -5,7 +5,7 @@ import {institution} from "../shared/institution.js";
 import {idOf, whenKeptChanges} from "../shared/kept.js";
 import {sum} from "../shared/money.js";
 import {facts, pageHead} from "../shared/tables.js";
-import {readMoney, say, sayCount, showCount, showDay, showMoment, showMoney} from "../shared/words.js";
+import {readMoney, say, sayCount, showCount, showDated, showDay, showMoney} from "../shared/words.js";
 import {ownPayments} from "./kept-receipt.js";
 import {changeRound, readRound} from "./kept-rounds.js";
 
@@ -128,7 +128,7 @@ function show({round, cash, sheet}) {
         sheet, element("p", {class: "h6 mb-1"}, institution.name), element("p", {class: "h5"}, say("cash.title")),
         facts([
             [say("office"), `${round.office} ${round.officeName}`], [say("round.day"), showDay(round.day)],
-            [say("cash.by"), round.by], [say("cash.at"), showMoment(Date.now())]
+            [say("cash.by"), round.by], [say("cash.at"), showDated(Date.now())]
         ]),
         facts(sizePairs(cash)), facts(figures), unread > 0 && element("p", {class: "cash-gap"}, sayCount("cash.unread", unread)),
         element(

@@ -4,7 +4,7 @@ import {institution} from "../shared/institution.js";
 import {textOfCents} from "../shared/money.js";
 import {facts, pageHead} from "../shared/tables.js";
 import {note} from "../shared/dialogs.js";
-import {say, showDay, showMoment, showMoney} from "../shared/words.js";
+import {say, showDated, showDay, showMoney} from "../shared/words.js";
 import {codeOf} from "./kept-code.js";
 
 const SENT = ["entered", "repeated"];
@@ -92,7 +92,7 @@ function stateWords({isEntered}) {
 }
 
 function knownWords({round}) {
-    return say("slip.known", {time: showMoment(round.taken)});
+    return say("slip.known", {time: showDated(round.taken)});
 }
 
 function plainWords(told) {
