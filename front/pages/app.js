@@ -178,7 +178,8 @@ function showUnsent() {
 }
 
 async function tellUnsent() {
-    const [list, kept] = await Promise.all([without === null ? offices() : null, keptWords(session.staff !== "").catch(() => null)]);
+    const words = keptWords(session.staff !== "").catch(() => null);
+    const [list, kept] = await Promise.all([without === null ? offices() : null, words]);
     const lines = [...unsentLines(list), kept].filter(Boolean);
     fill(unsent, lines.map(({href, words}) => element("div", {class: "container-xl"}, link(href, words))));
 }

@@ -28,7 +28,9 @@ CUT = {"offline": True, "latency": 0, "downloadThroughput": -1, "uploadThroughpu
 OPEN = CUT | {"offline": False}
 SLOW = OPEN | {"latency": 60}
 AMOUNTS = "return [...document.querySelectorAll('.paid-field')].map((one) => one.value)"
-FACTS = "return [...document.querySelectorAll('.sheet .fact')].map((one) => [...one.children].map((it) => it.innerText))"
+FACTS = """
+return [...document.querySelectorAll('.sheet .fact')].map((one) => [...one.children].map((part) => part.innerText))
+"""
 # what stands in the browser's database, as bytes: none of it may be readable
 KEPT = """
 const done = arguments[0];
@@ -611,6 +613,11 @@ class Sending(Case):
         """Half a minute passes, and no field has the focus."""
         who.script("const now = Date.now; Date.now = () => now() + 30_000; document.activeElement.blur()")
 
+    def finish(self, who):
+        """Waits until nothing waits, as long as something goes on."""
+        while (left := who.bar()) != "":
+            who.wait(lambda left=left: who.bar() != left, f"the end of {left}")
+
     def sent(self, it):
         """The receipts of the repayments that went to the desk, in their order."""
         ends = "/repayments"
@@ -695,8 +702,8 @@ class Sending(Case):
             zoe.driver.switch_to.window(first)
             self.rest(zoe)
             zoe.wait(lambda: zoe.results().get("entered", 0) >= 3, "the first results")
-            zoe.wait(lambda: zoe.bar() == "", "all of it")
-            self.assertEqual(zoe.results(), {"entered": rounds.COUNT})
+            self.finish(zoe)
+            zoe.wait(lambda: zoe.results() == {"entered": rounds.COUNT}, "the results")
             self.assertEqual(sorted(self.sent(it)), [f"2-20240331-{i:06}" for i in range(1, rounds.COUNT + 1)])
             zoe.driver.switch_to.window(second)
             zoe.wait(lambda: zoe.results() == {"entered": rounds.COUNT}, "the other window")
@@ -722,7 +729,7 @@ class Sending(Case):
                 time.sleep(0.3)
                 self.assertLessEqual(max(len(one) for one in entered(it, rounds.COUNT)), 1)
             zoe.network(OPEN)
-            zoe.wait(lambda: zoe.bar() == "", "all of it")
+            self.finish(zoe)
             self.assertEqual(entered(it, rounds.COUNT), once(*[68333] * rounds.COUNT))
             print(f"    {cuts} cuts", end=" ")
 
@@ -751,6 +758,14 @@ class Drafts(Case):
             if (options?.method !== "POST" || !url.endsWith(PATH)) return real(url, options);
             if (CARRIED) await real(url, options);
             throw new TypeError("lost");
+        };
+    """
+
+    HANGING = """
+        const real = window.fetch;
+        window.fetch = async (url, options) => {
+            const reply = await real(url, options);
+            return options?.method === "POST" ? new Promise(() => {}) : reply;
         };
     """
 
@@ -879,8 +894,7 @@ class Drafts(Case):
         with loans.desk_with(FEW) as it:
             zoe = self.on_phone(it)
             self.draft(zoe, "New client", Name="Bahati")
-            zoe.script("const real = window.fetch; window.fetch = async (url, options) => { const reply = await "
-                       "real(url, options); if (options?.method === 'POST') await new Promise(() => {}); return reply; }")
+            zoe.script(self.HANGING)
             self.press(zoe, "New client")
             zoe.wait(lambda: self.clients(it) == ["Bahati"], "the client")
             zoe.open_kept()
@@ -1033,6 +1047,12 @@ class Eyes(Case):
                 zoe.all("main h2 a")[0].click()
                 zoe.wait(lambda: zoe.all(".paid-field"), "the round")
                 self.look_at(zoe, f"{language} round")
+                for part, there in self.PARTS.items():
+                    zoe.script("location.hash = arguments[0]", f"#/kept/{PLACE}/{part}")
+                    zoe.wait(lambda there=there: zoe.all(there), part)
+                    self.look_at(zoe, f"{language} {part.split('/')[0]}")
+
+    PARTS = {"cash": ".handover", "drafts": ".drafts", "receipt/0002-000001/2-20240331-000001": ".code"}
 
     def look_at(self, zoe, name):
         with self.subTest(name):

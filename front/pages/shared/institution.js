@@ -1,6 +1,6 @@
 // What the institution tells of itself, in a file of the front: its name; the coin that proposed amounts are rounded up
-// to; the least that is asked for; its coins and notes, all in cents; and whether a sheet must end in its total. Without
-// the file amounts are proposed as they are due, and coins and notes are 1, 2 and 5 of each size.
+// to; the least that is asked for; its coins and notes, all in cents; and whether a sheet must end in its total.
+// Without the file amounts are proposed as they are due, and coins and notes are 1, 2 and 5 of each size.
 import {institutionFile} from "./api.js";
 
 export const institution = {

@@ -2,7 +2,7 @@
 // them. The content of a round is sealed by the phone's PIN (views/kept-pin.js). In clear stand its office and day, and
 // how much of it is not sent, since when: each page tells that without the PIN.
 import {sum} from "./money.js";
-import {sayCount, showMoment, showMoney} from "./words.js";
+import {say, sayCount, showMoment, showMoney} from "./words.js";
 
 const NAME = "microloan-kept";
 const STORES = ["pin", "rounds"];
@@ -137,7 +137,8 @@ export function waitingOf(rounds) {
 // the same in words, with where it is; rejects where the browser keeps nothing
 export async function keptWords(hasDesk) {
     const waiting = waitingOf(await keptRounds());
-    return waiting && {href: "#/kept", words: [wordsOfWaiting(waiting), phoneWords(hasDesk)].filter(Boolean).join(" · ")};
+    const words = () => [wordsOfWaiting(waiting), phoneWords(hasDesk)].filter(Boolean).join(" · ");
+    return waiting && {href: "#/kept", words: words()};
 }
 
 // what becomes of it by itself, where something does

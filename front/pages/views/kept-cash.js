@@ -130,7 +130,8 @@ function show({round, cash, sheet}) {
             [say("office"), `${round.office} ${round.officeName}`], [say("round.day"), showDay(round.day)],
             [say("cash.by"), round.by], [say("cash.at"), showDated(Date.now())]
         ]),
-        facts(sizePairs(cash)), facts(figures), unread > 0 && element("p", {class: "cash-gap"}, sayCount("cash.unread", unread)),
+        facts(sizePairs(cash)), facts(figures),
+        unread > 0 && element("p", {class: "cash-gap"}, sayCount("cash.unread", unread)),
         element(
             "div", {class: "sign"}, element("div", {}, say("cash.signed-giver")),
             element("div", {}, say("cash.signed-taker"))));

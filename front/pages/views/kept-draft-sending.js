@@ -18,8 +18,8 @@ export async function changeDraft(round, id, change) {
     await changeRound(round, (kept) => ({drafts: kept.drafts.map(changed)}));
 }
 
-// Sends a draft unless something alike stands. isSure: also then. Answers { alike }: what stands, where it was not sent;
-// or null where a sending runs already. It throws what it was refused by.
+// Sends a draft unless something alike stands. isSure: also then. Answers { alike }: what stands, where it was not
+// sent; or null where a sending runs already. It throws what it was refused by.
 export function sendDraft(round, id, isSure) {
     return withoutOther(async () => {
         const kept = await readRound(idOf(round));

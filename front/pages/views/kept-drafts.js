@@ -76,11 +76,11 @@ async function newLoan(made) {
         note(say("draft.no-product"));
         return;
     }
-    const fields = {client: choiceField({label: say("client"), choices, wide: true}), ...loanFields(made.round.products)};
+    const client = choiceField({label: say("client"), choices, wide: true});
+    const fields = {client, ...loanFields(made.round.products)};
     await ask({
         title: say("draft.loan"), text: say("draft.loan.what"), action: say("draft.keep"), fields,
-        send: ({client, product, principal, periods}) =>
-            add(made, {kind: "loan", client, product: Number(product), principal, periods})
+        send: ({product, ...values}) => add(made, {kind: "loan", ...values, product: Number(product)})
     });
 }
 
@@ -167,7 +167,8 @@ async function send(made, id, isSure = false) {
     show(made);
     try {
         const told = await sendDraft(made.round, id, isSure);
-        made.answers.set(id, told === null ? alertBox("info", say("kept.sends-already")) : alikeBox(made, id, told.alike));
+        const isBusy = told === null;
+        made.answers.set(id, isBusy ? alertBox("info", say("kept.sends-already")) : alikeBox(made, id, told.alike));
     } catch (problem) {
         made.answers.set(id, refusalBox(problem));
     } finally {

@@ -106,8 +106,8 @@ export async function unlock(pin) {
     return tried !== null;
 }
 
-// Seals all rounds by another PIN. Answers whether the one before is right; a wrong one changes nothing. Nobody else may
-// change a round meanwhile (kept-rounds.js).
+// Seals all rounds by another PIN. Answers whether the one before is right; a wrong one changes nothing. Nobody else
+// may change a round meanwhile (kept-rounds.js).
 export async function changePin(before, pin, records) {
     const record = await keptPin();
     const old = await rightKey(before, record);

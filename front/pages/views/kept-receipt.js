@@ -82,8 +82,9 @@ function print(slip, paper) {
 function pairsOf({round, line, number, cents, before, left, over}) {
     return [
         [say("office"), `${round.office} ${round.officeName}`], [say("loan"), line.loan], [say("client"), line.name],
-        [say("day"), showDay(round.day)], [say("slip.before"), showMoney(before)], [say("round.paid"), showMoney(cents)],
-        [say("slip.left"), showMoney(left)], over > 0n && [say("overpaid"), showMoney(over)], [say("slip.number"), number]
+        [say("day"), showDay(round.day)], [say("slip.before"), showMoney(before)],
+        [say("round.paid"), showMoney(cents)], [say("slip.left"), showMoney(left)],
+        over > 0n && [say("overpaid"), showMoney(over)], [say("slip.number"), number]
     ].filter(Boolean);
 }
 

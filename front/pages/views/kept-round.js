@@ -1,6 +1,6 @@
 // A round on this phone: typed into without a network, and sent where there is one. A line that was sent can't be
 // changed until its answer is known: with its receipt it is entered once, however often it is sent.
-import {alertBox, button, card, element, fill, link} from "../shared/elements.js";
+import {alertBox, button, card, element, fill, freshId, link} from "../shared/elements.js";
 import {renewDay, session} from "../shared/session.js";
 import {idOf, sendByItself, sendsByItself, waitingOf, whenKeptChanges, wordsOfWaiting} from "../shared/kept.js";
 import {sum} from "../shared/money.js";
@@ -29,7 +29,7 @@ function shownLine({office, day}, line, isRunning = false) {
 
 export function showKeptRound(page, round) {
     const lines = round.lines.map((line) => shownLine(round, line));
-    const made = {page, round, lines, changed: new Set(), keeping: Promise.resolve()};
+    const made = {page, round, lines, changed: new Set(), keeping: Promise.resolve(), version: 0};
     made.table = lineTable(made.lines, {
         isEarly: false,
         keep: (line) => typeLine(made, line),
@@ -72,13 +72,16 @@ function draftWords({drafts = []}) {
 
 // whether what waits is sent without a press
 export function byItselfChoice() {
+    const id = freshId("by-itself");
     const box = element("input", {
         type: "checkbox",
+        id,
         class: "form-check-input mt-0",
         checked: sendsByItself(),
         onchange: () => sendByItself(box.checked)
     });
-    return element("label", {class: "by-itself d-print-none"}, box, element("span", {}, say("kept.by-itself")));
+    const words = element("span", {}, say("kept.by-itself"));
+    return element("label", {class: "by-itself d-print-none", "for": id}, box, words);
 }
 
 // whether there is a desk, in whose name is sent, and whether the round's day has come
@@ -116,6 +119,7 @@ function showState(made) {
 
 // Keeps a line: one writing at a time, and the next one has all that was changed meanwhile. Answers whether it is kept.
 function keep(made, line) {
+    made.version += 1;
     made.changed.add(line);
     made.keeping = made.keeping.then(() => keepChanged(made));
     return made.keeping;
@@ -138,6 +142,7 @@ async function keepChanged(made) {
         return false;
     } finally {
         made.isWriting = false;
+        made.version += 1;
         if (made.isBehind && made.changed.size === 0) {
             takeOver(made).catch(() => {});
         }
@@ -157,22 +162,30 @@ function followOthers(made) {
         whenKeptChanges((id) => ["", idOf(made.round)].includes(id) && follow()),
         whenSendingChanges(() => follow())
     ];
-    const follow = () => {
+    let isFollowing = false;
+    let isLate = false;  // changed again while it was looked
+    const follow = async () => {
+        isLate = isFollowing;
         if (!made.table.node.isConnected) {
             ends.forEach((end) => end());
-        } else {
-            takeOver(made).catch(() => {});  // it was locked meanwhile
+        } else if (!isFollowing) {
+            isFollowing = true;
+            await takeOver(made).catch(() => {});  // it was locked meanwhile
+            isFollowing = false;
+            return isLate && follow();
         }
     };
     follow();
 }
 
-// What is being typed here isn't taken from here: then it is looked again once that is kept.
+// What was typed here while it was read is never put back by what was read: then it is read again, once that is kept.
 async function takeOver(made) {
+    const {version} = made;
     const [kept, isRunning] = await Promise.all([readRound(idOf(made.round)), isSendingAnywhere()]);
-    made.isBehind = made.isWriting || made.changed.size > 0;
+    const isTyped = made.isWriting || made.changed.size > 0;
+    made.isBehind = isTyped || made.version !== version;
     if (made.isBehind) {
-        return;
+        return isTyped ? undefined : takeOver(made);
     }
     if (kept?.taken !== made.round.taken) {
         location.hash = "#/kept";

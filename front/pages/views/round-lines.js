@@ -16,8 +16,8 @@ const ORDERS = {
     overdue: (one, other) => other.days - one.days || one.loan.localeCompare(other.loan),
 };
 
-// desk: { isEarly, keep(line), change(), further(line), receipts(line) }: what the round does where a line was changed or
-// is to be paid again, and the links to its receipts, where it has such.
+// desk: { isEarly, keep(line), change(), further(line), receipts(line) }: what the round does where a line was changed
+// or is to be paid again, and the links to its receipts, where it has such.
 export function lineTable(lines, desk) {
     const columns = [
         {words: say("loan")}, {words: say("client")}, {words: say("due-since")},
@@ -170,8 +170,8 @@ function resultNodes(line, desk) {
         button(words, () => desk.further(line), {class: "btn btn-sm btn-outline-primary", disabled: line.isLocked});
     const wrong = line.text !== "" && line.cents === null &&
         element("div", {class: "line-refusal"}, say("field.money.wrong", {example: showMoney(123456n)}));
-    const receipts = desk.receipts?.(line) ?? [];
-    return [...paid, line.isSending ? say("sending") : ofLine(line.result), wrong, further, ...receipts].filter(Boolean);
+    const result = line.isSending ? say("sending") : ofLine(line.result);
+    return [...paid, result, wrong, further, ...(desk.receipts?.(line) ?? [])].filter(Boolean);
 }
 
 function ofLine(result) {
