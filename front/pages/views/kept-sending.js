@@ -4,7 +4,8 @@ import {daysBetween} from "../shared/days.js";
 import {Problem} from "../shared/api.js";
 import {idOf, keptRounds, sendsByItself, tellPhone, tellWindows} from "../shared/kept.js";
 import {doubtsOf, OLD_DAYS} from "../shared/repayments.js";
-import {Told} from "../shared/refusals.js";
+import {note} from "../shared/dialogs.js";
+import {refusalLine, Told} from "../shared/refusals.js";
 import {renewDay, session} from "../shared/session.js";
 import {say} from "../shared/words.js";
 import {isLocked, Locked, touch} from "./kept-pin.js";
@@ -174,10 +175,17 @@ async function sendWaiting(waiting) {
             const {problem} = (await withoutOther(() => sendUnasked(round, lines))) ?? {problem: null};
             if (endsAll(problem)) {
                 putOff();
+                tellSignedOut(problem);
                 return;
             }
             losses = 0;
         }
+    }
+}
+
+function tellSignedOut(problem) {
+    if (problem.front === "password") {
+        note(refusalLine(problem));
     }
 }
 
@@ -212,10 +220,10 @@ async function sendUnasked(round, lines) {
     }
 }
 
-// What is to be asked once more waits for a person's press.
+// What is to be asked once more waits for a person's press; what was sent before was asked then.
 async function sendUnlessDoubtful(round, line) {
-    const {loan, cents, receipt, known} = line;
-    const doubt = await doubtOf({loan, amount: cents, day: round.day, receipt}, known);
+    const {loan, cents, receipt, known, isSent} = line;
+    const doubt = isSent ? null : await doubtOf({loan, amount: cents, day: round.day, receipt}, known);
     const isMeant = (kept) => kept.cents === cents;
     if (doubt !== null) {
         await changeLine(round, loan, (kept) => (isMeant(kept) && !kept.isSent ? {...kept, result: "doubt"} : null));
