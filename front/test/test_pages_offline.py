@@ -681,6 +681,20 @@ class Sending(Case):
             zoe.wait(lambda: zoe.bar() == "", "the end of the bar")
             self.assertEqual(entered(it, 2), once(10000) + [[]])
 
+    def test_the_desk_comes_back(self):
+        """Opened with the front gone, and no word of the browser that it is there again: it is looked for."""
+        with loans.desk_with(FEW) as it:
+            zoe = self.phone(it, "zoe")
+            zoe.take_along(by_itself=True)
+            it.nginx.stop()
+            zoe.open_kept()
+            zoe.type(1, "100")
+            zoe.wait(lambda: zoe.bar() == "1 not sent, 100.00, since HH:MM", "it")
+            self.rest(zoe)
+            it.nginx.start()
+            zoe.wait(lambda: zoe.results() == {"entered": 1}, "the result")
+            self.assertEqual(entered(it, 2), once(10000) + [[]])
+
     def test_two_windows(self):
         """Two windows of one browser, both open, over a slow network: each line goes to the desk once."""
         with loans.desk_with(rounds.FORTY) as it:

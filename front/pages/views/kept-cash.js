@@ -15,7 +15,7 @@ const MOST = 99_999;  // of one coin or note
 export function takenOf(lines) {
     const payments = lines.flatMap(ownPayments);
     const part = (isWanted) => {
-        const wanted = payments.filter(({isEntered}) => isEntered === isWanted);
+        const wanted = payments.filter(({state}) => (state === "entered") === isWanted);
         return {count: wanted.length, cents: sum(wanted.map(({cents}) => cents))};
     };
     return {entered: part(true), waiting: part(false), unread: lines.filter(isUnread).length};

@@ -8,14 +8,16 @@ import {say, showDated, showDay, showMoney} from "../shared/words.js";
 import {codeOf} from "./kept-code.js";
 
 const SENT = ["entered", "repeated"];
+const ENTERED = {entered: "yes", typed: "no", unknown: "unknown"};  // as the code says it
 
 // The payments of a line that were taken with this phone: each with its receipt's number, its cents, what was left to
-// pay before it, and whether it is entered.
-export function ownPayments({payments, results, receipt, cents, owed}) {
+// pay before it, and its state: entered, typed, or unknown where it was sent and no reply came.
+export function ownPayments({payments, results, receipt, cents, owed, isSent}) {
     const entered = payments.filter((one) => !one.reversed && SENT.includes(results[one.receipt])).map((one) => ({
-        number: one.receipt, cents: one.amount, before: one.before ?? null, isEntered: true
+        number: one.receipt, cents: one.amount, before: one.before ?? null, state: "entered"
     }));
-    return cents === null ? entered : [...entered, {number: receipt, cents, before: owed, isEntered: false}];
+    const state = isSent ? "unknown" : "typed";
+    return cents === null ? entered : [...entered, {number: receipt, cents, before: owed, state}];
 }
 
 // what is left for certain after a payment: what was left before it, less what is paid; and what is paid beyond that
@@ -88,8 +90,8 @@ function pairsOf({round, line, number, cents, before, left, over}) {
     ].filter(Boolean);
 }
 
-function stateWords({isEntered}) {
-    return say(isEntered ? "slip.entered" : "slip.typed");
+function stateWords({state}) {
+    return say(`slip.${state}`);
 }
 
 function knownWords({round}) {
@@ -103,11 +105,11 @@ function plainWords(told) {
 
 // What the code carries: a name and a value a line, the same in each language; amounts as in a sheet, the day as
 // 2024-03-31.
-function codeText({round, line, number, cents, before, left, over, isEntered}) {
+function codeText({round, line, number, cents, before, left, over, state}) {
     const pairs = {
         receipt: number, institution: institution.name, office: `${round.office} ${round.officeName}`, loan: line.loan,
         client: line.name, day: round.day, before: textOfCents(before), paid: textOfCents(cents),
-        left: textOfCents(left), ...(over > 0n ? {overpaid: textOfCents(over)} : {}), entered: isEntered ? "yes" : "no"
+        left: textOfCents(left), ...(over > 0n ? {overpaid: textOfCents(over)} : {}), entered: ENTERED[state]
     };
     return Object.entries(pairs).map(([name, value]) => `${name}: ${value}`).join("\n");
 }
@@ -118,7 +120,7 @@ function slipNode(told) {
     return element(
         "article", {class: "sheet slip", "data-paper": "a6"}, element("p", {class: "h6 mb-1"}, institution.name),
         element("p", {class: "h5"}, say("receipt")), facts(pairs),
-        element("p", {class: told.isEntered ? "slip-state" : "slip-state slip-waits"}, stateWords(told)),
+        element("p", {class: told.state === "entered" ? "slip-state" : "slip-state slip-waits"}, stateWords(told)),
         element("p", {class: "slip-known"}, knownWords(told)), element("div", {class: "slip-code"}));
 }
 

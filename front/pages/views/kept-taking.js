@@ -13,8 +13,8 @@ export async function takeAlong(made) {
         return;
     }
     navigator.storage?.persist?.();  // so that no browser clears it away where its room gets short
+    const open = may(OFFICER) ? (await products(true)).filter(({retired}) => !retired) : [];
     try {
-        const open = may(OFFICER) ? (await products(true)).filter(({retired}) => !retired) : [];
         const round = await takeRound({...roundOf(made, Date.now()), products: open, mayEnter: may(OFFICER)});
         endDrafts(made.lines, round.lines);
     } catch (problem) {

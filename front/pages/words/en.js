@@ -337,6 +337,7 @@ export default {
     "slip.left": "Left for certain: before, less paid",
     "slip.number": "Receipt number",
     "slip.typed": "Not entered yet: it is kept on this phone, and entered once it is sent.",
+    "slip.unknown": "Sent, and no reply came yet: it may be entered.",
     "slip.entered": "Entered at the desk.",
     "slip.known": "What was left before is as this phone knows it since {time}. Fees, and what others entered " +
         "since, are not in it.",

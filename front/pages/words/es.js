@@ -340,6 +340,7 @@ export default {
     "slip.left": "Pendiente seguro: antes, menos pagado",
     "slip.number": "Número del recibo",
     "slip.typed": "Aún sin registrar: está en este teléfono, y se registra al enviarlo.",
+    "slip.unknown": "Enviado, aún sin respuesta: puede estar registrado.",
     "slip.entered": "Registrado en la oficina.",
     "slip.known": "Lo pendiente antes es lo que este teléfono sabe desde {time}. No incluye cargos ni lo que otros " +
         "registraron después.",

@@ -341,6 +341,7 @@ export default {
     "slip.left": "Reste certain : avant, moins payé",
     "slip.number": "Numéro du reçu",
     "slip.typed": "Pas encore saisi : gardé sur ce téléphone, et saisi une fois envoyé.",
+    "slip.unknown": "Envoyé, sans réponse encore : il est peut-être saisi.",
     "slip.entered": "Saisi au bureau.",
     "slip.known": "Ce qui restait avant est ce que ce téléphone sait depuis {time}. Les frais et ce que d’autres " +
         "ont saisi depuis n’y sont pas.",

@@ -336,6 +336,7 @@ export default {
     "slip.left": "Iliyobaki kwa hakika: kabla, toa iliyolipwa",
     "slip.number": "Namba ya risiti",
     "slip.typed": "Bado haijaingizwa: iko kwenye simu hii, na itaingizwa ikitumwa.",
+    "slip.unknown": "Imetumwa, bado hakuna jibu: huenda imeingizwa.",
     "slip.entered": "Imeingizwa ofisini.",
     "slip.known": "Iliyobaki kabla ni kama simu hii inavyojua tangu {time}. Ada, na walichoingiza wengine tangu " +
         "hapo, hazimo.",
