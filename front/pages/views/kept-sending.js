@@ -14,7 +14,7 @@ import {sendLine} from "./round-sheet.js";
 import {renewLine, settleLine} from "./round-state.js";
 
 const LOCK = "kept sending";
-const UNKNOWN = ["lost", "F20"];   // what comes of a line that may have been entered all the same
+const UNKNOWN = ["lost", "F20"];  // what comes of a line that may have been entered all the same
 const LOOK_MILLISECONDS = 3000;
 const REST_MILLISECONDS = 20_000;  // since a line was typed last, before it is sent by itself
 const PAUSES = [5000, 15_000, 60_000];  // milliseconds after a loss, and the next ones
@@ -132,11 +132,11 @@ async function renew(place, loan) {
 
 let isLooking = false;
 let losses = 0;
-let waitUntil = 0;
-let lookedForDesk = 0;
+let waitUntil = 0;  // these by the time since the page began: the clock may be set
+let lookedForDesk = -LOOK_FOR_DESK;
 
 async function look() {
-    if (isLooking || isLocked() || !sendsByItself() || !navigator.onLine || Date.now() < waitUntil) {
+    if (isLooking || isLocked() || !sendsByItself() || !navigator.onLine || performance.now() < waitUntil) {
         return;
     }
     isLooking = true;
@@ -156,14 +156,14 @@ async function look() {
 }
 
 function lookForDesk() {
-    if (Math.abs(Date.now() - lookedForDesk) > LOOK_FOR_DESK) {
-        lookedForDesk = Date.now();
+    if (performance.now() > lookedForDesk + LOOK_FOR_DESK) {
+        lookedForDesk = performance.now();
         window.dispatchEvent(new Event("desk-look"));
     }
 }
 
 function putOff() {
-    waitUntil = Date.now() + PAUSES[Math.min(losses, PAUSES.length - 1)];
+    waitUntil = performance.now() + PAUSES[Math.min(losses, PAUSES.length - 1)];
     losses += 1;
 }
 
