@@ -79,6 +79,7 @@ class Phone(reader.Reader):
         self.fill("The PIN once more", PIN)
         self.send("Choose a PIN")
         self.wait(lambda: "Taken along" in self.text("main"), "the round on the phone")
+        self.script("document.querySelector('.toast')?.remove()")  # it lies over what is at the top
 
     def unlock(self, pin=PIN):
         self.wait(lambda: self.all("main form input"), "the question for the PIN")
