@@ -390,12 +390,14 @@ class Round(Case):
             zoe.type(2, "20")
             tom.type(2, "30")
             tom.type(3, "40")
-            for who, count in ((zoe, 2), (tom, 3)):
+            for who, count, results in (
+                (zoe, 2, {"entered": 2}),  # the first to send: else it depends on who is faster
+                (tom, 3, {"repeated": 1, "standing": 1, "F15": 1, "entered": 1}),
+            ):
                 who.wait(lambda who=who, count=count: who.bar().startswith(f"{count} not sent"), "what is kept")
                 who.network(OPEN)
                 who.press(f"Enter {count} repayments")
-            zoe.wait(lambda: zoe.results() == {"entered": 2}, "the results")
-            tom.wait(lambda: tom.results() == {"repeated": 1, "standing": 1, "F15": 1, "entered": 1}, "the results")
+                who.wait(lambda who=who, results=results: who.results() == results, "the results")
             tom.wait(lambda: "20.00 entered by 2/2" in tom.text("main"), "what stands")
             self.assertEqual(entered(it, 4), once(10000, 2000, 4000) + [[]])
             self.assertEqual(tom.bar(), "1 not sent, 30.00, since HH:MM")
