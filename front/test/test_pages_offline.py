@@ -100,12 +100,16 @@ class Phone(reader.Reader):
     def bar(self):
         return re.sub(r"\d\d:\d\d$", "HH:MM", self.text(".unsent"))
 
+    def press(self, words, within="main"):
+        """Presses a button where a person has it: not below the sum that stays at the foot, nor below a note."""
+        found = self.wait(lambda: self.find(words, within), f"the button {words}")
+        self.script("arguments[0].scrollIntoView({block: 'center'})", found)
+        found.click()
+
     def follow(self, words, within="main"):
         """Presses a link or a button, and waits for another page."""
         before = self.script("return location.hash")
-        found = self.wait(lambda: self.find(words, within), f"the link {words}")
-        self.script("arguments[0].scrollIntoView({block: 'center'})", found)
-        found.click()
+        self.press(words, within)
         self.wait(lambda: self.script("return location.hash") != before, "another page")
 
     def printed(self, name):
