@@ -27,6 +27,7 @@ NEEDED = {
     "/usr/share/javascript/bootstrap5/css/bootstrap.min.css": "libjs-bootstrap5",
     "/usr/share/javascript/chart.js/chart.min.js": "libjs-chart.js",
     "/usr/share/nodejs/d3-dsv/dist/d3-dsv.min.js": "node-d3-dsv",
+    "/usr/share/javascript/qrcode-generator/qrcode.js": "node-qrcode-generator",
 }
 
 

@@ -1,6 +1,6 @@
 // The frame of all pages: who is signed in, the way to each page, and which page the address names.
 import {alertBox, button, element, fill, link, spinner} from "./shared/elements.js";
-import {leavePage, Problem} from "./shared/api.js";
+import {leavePage, Problem, whoAmI} from "./shared/api.js";
 import {beginSession, endSession, session, HEAD_OFFICE, MANAGER, OFFICER, TELLER} from "./shared/session.js";
 import {followHistory, leaveDialog, note} from "./shared/dialogs.js";
 import {adoptOlder, unsentLines, whenDraftsChange} from "./shared/drafts.js";
@@ -178,7 +178,8 @@ function showUnsent() {
 }
 
 async function tellUnsent() {
-    const [list, kept] = await Promise.all([without === null ? offices() : null, keptWords().catch(() => null)]);
+    const words = keptWords(session.staff !== "").catch(() => null);
+    const [list, kept] = await Promise.all([without === null ? offices() : null, words]);
     const lines = [...unsentLines(list), kept].filter(Boolean);
     fill(unsent, lines.map(({href, words}) => element("div", {class: "container-xl"}, link(href, words))));
 }
@@ -212,11 +213,13 @@ async function showFrame(bar) {
     adoptOlder();
     whenDraftsChange(showUnsent);
     whenKeptChanges(showUnsent);
+    window.addEventListener("kept-phone", showUnsent);
     await showUnsent();
     followHistory();
     window.addEventListener("desk-day", showNewDay);
     window.addEventListener("desk-begin", begin);
     window.addEventListener("online", beginUnasked);
+    window.addEventListener("desk-look", lookForDesk);
     window.addEventListener("unhandledrejection", tellProblem);
     await showPage();
 }
@@ -228,8 +231,9 @@ async function begin() {
     const own = attempt;
     const desk = document.getElementById("desk");
     document.documentElement.lang = language;
-    fill(desk, element("div", {class: "container py-5"}, spinner(say("loading"))));
-    const offer = () => desk.firstChild.append(button(say("without.go"), () => beginWithout(new Problem({}))));
+    const waiting = element("div", {class: "container py-5"}, spinner(say("loading")));
+    fill(desk, waiting);
+    const offer = () => waiting.append(button(say("without.go"), () => beginWithout(new Problem({}))));
     const clock = setTimeout(offer, SLOW);
     try {
         await Promise.all([learnInstitution(), beginSession(), load(place().name)]);
@@ -267,10 +271,17 @@ async function beginWithout(problem) {
     await showFrame(topBar(say(problem.hasNoReply ? "without.network" : "without.desk"), null));
 }
 
-// The network is back: the desk is begun with, unless something is being typed.
+// The network is back: the desk is begun with, unless something is being typed or asked.
 function beginUnasked() {
-    if (without !== null && !document.activeElement.matches("input, select")) {
+    if (without !== null && !document.activeElement.matches("input, select, textarea, .modal, .modal *")) {
         begin();
+    }
+}
+
+// Looks whether the desk answers again, without a word where it doesn't.
+async function lookForDesk() {
+    if (without !== null && await whoAmI().then(() => true, () => false)) {
+        beginUnasked();
     }
 }
 

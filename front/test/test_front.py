@@ -227,7 +227,8 @@ class Files(unittest.TestCase):
     def test_libraries_are_there_without_password(self):
         kinds = {"css/bootstrap.min.css": "text/css", "js/bootstrap.bundle.min.js": "application/javascript"}
         paths = {f"/lib/bootstrap/{path}": kind for path, kind in kinds.items()}
-        paths |= dict.fromkeys(("/lib/chart/chart.min.js", "/lib/dsv/d3-dsv.min.js"), "application/javascript")
+        scripts = ("/lib/chart/chart.min.js", "/lib/dsv/d3-dsv.min.js", "/lib/qrcode/qrcode.js")
+        paths |= dict.fromkeys(scripts, "application/javascript")
         for path, kind in paths.items():
             with self.subTest(path):
                 status, fields, data = DESK.exchange(None, "GET", path)
@@ -240,10 +241,11 @@ class Files(unittest.TestCase):
             document.createElement("script"); script.src = path; script.onload = ready; script.onerror = failed;
             document.head.append(script) });
             add("/lib/bootstrap/js/bootstrap.bundle.min.js").then(() => add("/lib/chart/chart.min.js"))
-            .then(() => add("/lib/dsv/d3-dsv.min.js"))
-            .then(() => done([typeof bootstrap.Modal, typeof Chart, d3.csvParseRows('1,"2,3"\\n')[0][1]]))
+            .then(() => add("/lib/dsv/d3-dsv.min.js")).then(() => add("/lib/qrcode/qrcode.js"))
+            .then(() => done([typeof bootstrap.Modal, typeof Chart, d3.csvParseRows('1,"2,3"\\n')[0][1],
+            typeof qrcode]))
             .catch(fault => done(String(fault)))"""
-        self.assertEqual(browser.execute_async_script(script), ["function", "function", "2,3"])
+        self.assertEqual(browser.execute_async_script(script), ["function", "function", "2,3", "function"])
 
     def test_nothing_else_is_served(self):
         paths = ("/lib/", "/lib/dsv../package.json", "/lib/dsv/../package.json", "/lib/chart/../jquery/jquery.min.js")

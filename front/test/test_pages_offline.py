@@ -1,11 +1,13 @@
 """A day without a network: pages that open without one, a round taken along, what is typed on it and sent later. The
 loans are those of the tests of rounds: forty, of each 683.33 due on 2024-03-31."""
+import base64
 import contextlib
 import json
 import os
 import re
 import shutil
 import signal
+import subprocess
 import tempfile
 import time
 import unittest
@@ -26,6 +28,9 @@ CUT = {"offline": True, "latency": 0, "downloadThroughput": -1, "uploadThroughpu
 OPEN = CUT | {"offline": False}
 SLOW = OPEN | {"latency": 60}
 AMOUNTS = "return [...document.querySelectorAll('.paid-field')].map((one) => one.value)"
+FACTS = """
+return [...document.querySelectorAll('.sheet .fact')].map((one) => [...one.children].map((part) => part.innerText))
+"""
 # what stands in the browser's database, as bytes: none of it may be readable
 KEPT = """
 const done = arguments[0];
@@ -64,7 +69,9 @@ class Phone(reader.Reader):
 
     # what the officer does
 
-    def take_along(self, place=PLACE):
+    def take_along(self, place=PLACE, by_itself=False):
+        """Takes a round along. What is typed is sent by a press, or by itself."""
+        self.script("localStorage.setItem('kept-by-itself', arguments[0])", "yes" if by_itself else "no")
         self.go(f"round/{place}")
         self.is_kept()
         self.open_dialog("Take this round along")
@@ -72,6 +79,7 @@ class Phone(reader.Reader):
         self.fill("The PIN once more", PIN)
         self.send("Choose a PIN")
         self.wait(lambda: "Taken along" in self.text("main"), "the round on the phone")
+        self.script("document.querySelector('.toast')?.remove()")  # it lies over what is at the top
 
     def unlock(self, pin=PIN):
         self.wait(lambda: self.all("main form input"), "the question for the PIN")
@@ -91,6 +99,31 @@ class Phone(reader.Reader):
 
     def bar(self):
         return re.sub(r"\d\d:\d\d$", "HH:MM", self.text(".unsent"))
+
+    def press(self, words, within="main"):
+        """Presses a button where a person has it: not below the sum that stays at the foot, nor below a note."""
+        found = self.wait(lambda: self.find(words, within), f"the button {words}")
+        self.script("arguments[0].scrollIntoView({block: 'center'})", found)
+        found.click()
+
+    def follow(self, words, within="main"):
+        """Presses a link or a button, and waits for another page."""
+        before = self.script("return location.hash")
+        self.press(words, within)
+        self.wait(lambda: self.script("return location.hash") != before, "another page")
+
+    def printed(self, name):
+        """The page as it is printed on the paper that it asks for: its width and height in mm, its text and the path of
+        its first page as a picture."""
+        told = self.driver.execute_cdp_cmd("Page.printToPDF", {"preferCSSPageSize": True, "printBackground": False})
+        path = shots(name + ".pdf")
+        with open(path, "wb") as file:
+            file.write(base64.b64decode(told["data"]))
+        info = run("pdfinfo", path)
+        size = [round(float(one) / 72 * 25.4) for one in re.search(r"Page size: +([\d.]+) x ([\d.]+)", info).groups()]
+        run("pdftoppm", "-png", "-r", "200", "-singlefile", path, path.removesuffix(".pdf"))
+        pages = int(re.search(r"Pages: +(\d+)", info)[1])
+        return size, pages, run("pdftotext", "-layout", path, "-"), path.removesuffix(".pdf") + ".png"
 
     def results(self):
         found = self.script("return [...document.querySelectorAll('[data-result]')].map((one) => one.dataset.result)")
@@ -147,6 +180,22 @@ def descendants(pid):
             with open(f"/proc/{pid}/task/{thread}/children", encoding="ascii") as file:
                 children += [int(child) for child in file.read().split()]
     return [one for child in children for one in [child, *descendants(child)]]
+
+
+def shots(name):
+    """A path in the folder of screenshots."""
+    folder = os.environ.get("MICROLOAN_SHOTS") or os.path.join(running.TOP, "out", "shots")
+    os.makedirs(folder, exist_ok=True)
+    return os.path.join(folder, name)
+
+
+def run(*words):
+    return subprocess.run(words, stdout=subprocess.PIPE, stderr=subprocess.DEVNULL, text=True, check=True).stdout
+
+
+def code_in(picture):
+    """What a second program reads from the code in a picture: Debian's zbar."""
+    return run("zbarimg", "--quiet", "--raw", picture).removesuffix("\n")
 
 
 class Case(unittest.TestCase):
@@ -345,12 +394,14 @@ class Round(Case):
             zoe.type(2, "20")
             tom.type(2, "30")
             tom.type(3, "40")
-            for who, count in ((zoe, 2), (tom, 3)):
+            for who, count, results in (
+                (zoe, 2, {"entered": 2}),  # the first to send: else it depends on who is faster
+                (tom, 3, {"repeated": 1, "standing": 1, "F15": 1, "entered": 1}),
+            ):
                 who.wait(lambda who=who, count=count: who.bar().startswith(f"{count} not sent"), "what is kept")
                 who.network(OPEN)
                 who.press(f"Enter {count} repayments")
-            zoe.wait(lambda: zoe.results() == {"entered": 2}, "the results")
-            tom.wait(lambda: tom.results() == {"repeated": 1, "standing": 1, "F15": 1, "entered": 1}, "the results")
+                who.wait(lambda who=who, results=results: who.results() == results, "the results")
             tom.wait(lambda: "20.00 entered by 2/2" in tom.text("main"), "what stands")
             self.assertEqual(entered(it, 4), once(10000, 2000, 4000) + [[]])
             self.assertEqual(tom.bar(), "1 not sent, 30.00, since HH:MM")
@@ -411,6 +462,469 @@ class Round(Case):
             self.assertEqual(zoe.bar(), "1 not sent, 100.00, since HH:MM")
 
 
+class Receipts(Case):
+    """A receipt on the spot. Of 1,000.00 at 12 percent over three months 1,020.00 are to be paid."""
+
+    CODE = (
+        "receipt: 2-20240331-000001\ninstitution: microloan\noffice: 2 North\nloan: 0002-000001\nclient: Client 1\n"
+        "day: 2024-03-31\nbefore: 1020.00\npaid: 100.00\nleft: 920.00\nentered: no"
+    )
+
+    def test_typed_and_entered(self):
+        with loans.desk_with(FEW) as it:
+            zoe = self.phone(it, "zoe")
+            zoe.take_along()
+            zoe.network(CUT)
+            zoe.type(1, "100")
+            zoe.follow("Receipt", ".round-lines")
+            self.is_on(zoe, "Not entered yet: it is kept on this phone, and entered once it is sent.")
+            zoe.wait(lambda: zoe.all(".code"), "the code")
+            zoe.look("receipt-typed")
+            self.assertEqual(code_in(desk.screenshot(zoe.driver, "receipt-code", whole=True)), self.CODE)
+            self.share(zoe)
+            self.prints(zoe)
+            zoe.network(OPEN)
+            zoe.open_kept()
+            zoe.press("Enter 1 repayment")
+            zoe.wait(lambda: zoe.results() == {"entered": 1}, "the result")
+            zoe.follow("Receipt", ".round-lines")
+            self.is_on(zoe, "Entered at the desk.")
+            zoe.wait(lambda: zoe.all(".code"), "the code")
+            code = code_in(desk.screenshot(zoe.driver, "receipt-entered", whole=True))
+            self.assertEqual(code, self.CODE.replace("entered: no", "entered: yes"))
+            self.assertEqual(entered(it, 1), once(10000))
+
+    def is_on(self, zoe, state):
+        zoe.wait(lambda: zoe.all(".slip .fact"), "the receipt")
+        facts = dict(zoe.script(FACTS))
+        self.assertEqual((facts["Left to pay before"], facts["Paid"]), ("1,020.00", "100.00"))
+        self.assertEqual(facts["Left for certain: before, less paid"], "920.00")
+        self.assertEqual((facts["Office"], facts["Loan"], facts["Client"]), ("2 North", "0002-000001", "Client 1"))
+        self.assertEqual((facts["Day"], facts["Receipt number"]), ("Mar 31, 2024", "2-20240331-000001"))
+        self.assertIn(state, zoe.text(".slip"))
+        self.assertLessEqual(zoe.script("return document.documentElement.scrollWidth"), 360)
+
+    def share(self, zoe):
+        """Where the phone can share, it is handed the same in words."""
+        zoe.script("navigator.share = async (given) => { window.given = given; }")
+        zoe.script("location.hash = location.hash.replace('/receipt/', '/cash/')")
+        zoe.wait(lambda: zoe.title() == "Hand-over of cash", "another page")
+        zoe.script("history.back()")
+        zoe.press("Share")
+        given = zoe.script("return window.given.text")
+        self.assertIn("Paid: 100.00\nLeft for certain: before, less paid: 920.00\n", given)
+        self.assertIn("Not entered yet", given)
+
+    def prints(self, zoe):
+        """On a roll of 80 mm and on A6: one page each, with the same code."""
+        zoe.script("window.print = () => {}")
+        for words, size in (("Print on 80 mm", [80, 170]), ("Print on A6", [105, 148])):
+            with self.subTest(words):
+                zoe.press(words)
+                got, pages, text, picture = zoe.printed(f"receipt-{size[0]}")
+                self.assertEqual((got, pages), (size, 1))
+                self.assertIn("920.00", text)
+                self.assertNotIn("Print on", text)
+                self.assertEqual(code_in(picture), self.CODE)
+
+    def test_beyond_what_is_left(self):
+        """More than all that is left, and a name of another script."""
+        with loans.desk_with(FEW.replace(b'"Client 2"', '"Zoë Ñandú 山田"'.encode())) as it:
+            zoe = self.phone(it, "zoe")
+            zoe.take_along()
+            zoe.network(CUT)
+            zoe.type(2, "1100.50")
+            zoe.follow("Receipt", ".round-lines")
+            zoe.wait(lambda: zoe.all(".code"), "the code")
+            facts = dict(zoe.script(FACTS))
+            self.assertEqual(facts["Left for certain: before, less paid"], "0.00")
+            self.assertEqual(facts["Overpaid"], "80.50")
+            code = code_in(desk.screenshot(zoe.driver, "receipt-other-script", whole=True)).splitlines()
+            self.assertIn("client: Zoë Ñandú 山田", code)
+            self.assertEqual(code[-3:], ["left: 0.00", "overpaid: 80.50", "entered: no"])
+
+
+class HandOver(Case):
+    """The evening's cash, by note and coin, against what was taken with this phone."""
+
+    def count(self, zoe, size, number):
+        field = next(one for one in zoe.all(".cash-line") if one.text.strip() == size)
+        field.find_element("tag name", "input").send_keys(number)
+
+    def figures(self, zoe):
+        zoe.wait(lambda: zoe.all(".handover .fact"), "the sheet")
+        facts = dict(zoe.script(FACTS))
+        return [facts[name] for name in ("Entered at the desk", "Taken and not sent yet", "Counted", "Difference")]
+
+    def test_counted_and_signed(self):
+        with loans.desk_with(FEW) as it:
+            zoe = self.phone(it, "zoe")
+            zoe.take_along()
+            zoe.network(CUT)
+            zoe.type(1, "100")
+            zoe.type(2, "50")
+            paid = {"amount": 7000, "day": "2024-03-31", "receipt": "2-20240331-000003"}
+            it.send("tom", "POST", "/api/loans/0002-000003/repayments", paid)  # in another's hands
+            zoe.follow("Hand-over of cash")
+            zoe.wait(lambda: zoe.all(".cash-line"), "the page")
+            for size, number in (("100.00", "1"), ("20.00", "2")):
+                self.count(zoe, size, number)
+            none = "0.00 (0 payments)"
+            self.assertEqual(self.figures(zoe), [none, "150.00 (2 payments)", "140.00", "10.00 too little"])
+            self.count(zoe, "5.00", "2")
+            self.count(zoe, "Other, as an amount", "0.03")
+            self.assertEqual(self.figures(zoe)[2:], ["150.03", "0.03 too much"])
+            zoe.wait(lambda: "0.03" in zoe.text(".handover"), "the sheet")
+            zoe.look("hand-over")
+            self.prints(zoe)
+            zoe.driver.get("about:blank")
+            zoe.driver.get(f"{it.url}/#/kept/{PLACE}/cash")  # without a network, and what was counted stays
+            zoe.unlock()
+            zoe.wait(lambda: zoe.all(".cash-line"), "the page")
+            self.assertEqual(self.figures(zoe)[1:], ["150.00 (2 payments)", "150.03", "0.03 too much"])
+            zoe.network(OPEN)
+            zoe.open_kept()
+            zoe.press("Enter 2 repayments")
+            zoe.wait(lambda: zoe.results() == {"entered": 2}, "the results")
+            zoe.follow("Hand-over of cash")
+            self.assertEqual(self.figures(zoe)[:2], ["150.00 (2 payments)", none])
+
+    def prints(self, zoe):
+        zoe.script("window.print = () => {}")
+        for words, size in (("Print on A4", [210, 297]), ("Print on A6", [105, 148])):
+            with self.subTest(words):
+                zoe.press(words)
+                got, pages, text, _ = zoe.printed(f"hand-over-{size[0]}")
+                self.assertEqual((got, pages), (size, 1))
+                for wanted in ("2 × 20.00", "150.03", "Handed over by", "Received by"):
+                    self.assertIn(wanted, text)
+                self.assertNotIn("Type how many", text)
+
+    def test_the_institutions_own_cash(self):
+        with loans.desk_with(FEW) as it:
+            with open(os.path.join(it.nginx.people, "institution.json"), "w", encoding="utf-8") as file:
+                json.dump({"name": "Umoja", "cash": [100, 250000]}, file)
+            os.chmod(file.name, 0o644)
+            zoe = self.phone(it, "zoe")
+            zoe.take_along()
+            zoe.follow("Hand-over of cash")
+            zoe.wait(lambda: zoe.all(".cash-line"), "the page")
+            sizes = [one.text.strip() for one in zoe.all(".cash-line")]
+            self.assertEqual(sizes, ["2,500.00", "1.00", "Other, as an amount"])
+
+
+class Sending(Case):
+    """What waits is sent by itself: where there is a desk, unlocked, at rest, by whose round it is, one at a time."""
+
+    def rest(self, who):
+        """Half a minute passes, and no field has the focus."""
+        who.script("const now = Date.now; Date.now = () => now() + 30_000; document.activeElement.blur()")
+
+    def finish(self, who):
+        """Waits until nothing waits, as long as something goes on."""
+        while (left := who.bar()) != "":
+            who.wait(lambda left=left: who.bar() != left, f"the end of {left}")
+
+    def sent(self, it):
+        """The receipts of the repayments that went to the desk, in their order."""
+        ends = "/repayments"
+        return [json.loads(one["body"])["receipt"] for one in it.log if one["path"].endswith(ends)]
+
+    def test_by_itself(self):
+        """What is to be asked once more waits for a press."""
+        with loans.desk_with(FEW) as it:
+            zoe = self.phone(it, "zoe")
+            zoe.take_along(by_itself=True)
+            zoe.network(CUT)
+            for line, amount in enumerate(("100", "1100.50", "41.20"), 1):
+                zoe.type(line, amount)
+            zoe.wait(lambda: zoe.bar().startswith("3 not sent"), "it")
+            self.rest(zoe)
+            zoe.network(OPEN)
+            zoe.wait(lambda: zoe.results() == {"entered": 2, "doubt": 1}, "the results")
+            zoe.wait(lambda: zoe.bar() == "1 not sent, 1,100.50, since HH:MM", "the bar")
+            zoe.look("sent-by-itself")
+            self.assertEqual(entered(it, 3), [once(10000)[0], [], once(0, 0, 4120)[2]])
+            zoe.open_dialog("Enter 1 repayment")
+            self.assertIn("1,100.50", zoe.text(".modal"))
+            zoe.press("Enter 1 repayment all the same", ".modal.show")
+            zoe.wait(lambda: zoe.bar() == "", "all of it")
+            self.assertEqual(entered(it, 3), once(10000, 110050, 4120))
+
+    def test_not_what_is_being_typed(self):
+        """Not a line that has the focus, nor one that was changed a moment ago."""
+        with loans.desk_with(FEW) as it:
+            zoe = self.phone(it, "zoe")
+            zoe.take_along(by_itself=True)
+            zoe.type(1, "100")
+            zoe.type(2, "20")
+            time.sleep(7)
+            self.assertEqual(self.sent(it), [])
+            zoe.script("const now = Date.now; Date.now = () => now() + 30_000")
+            zoe.wait(lambda: zoe.results() == {"entered": 1}, "the first")
+            self.assertEqual(entered(it, 2), [once(10000)[0], []])
+            zoe.script("document.activeElement.blur()")
+            zoe.wait(lambda: zoe.results() == {"entered": 2}, "the second")
+
+    def test_not_while_it_is_locked(self):
+        with loans.desk_with(FEW) as it:
+            zoe = self.phone(it, "zoe")
+            zoe.take_along(by_itself=True)
+            zoe.network(CUT)
+            zoe.type(1, "100")
+            zoe.wait(lambda: zoe.bar().startswith("1 not sent"), "it")
+            zoe.network(OPEN)
+            zoe.driver.get("about:blank")
+            zoe.driver.get(f"{it.url}/#/today")
+            words = r"1 not sent, 100.00, since \d\d:\d\d · locked: open it to send"
+            zoe.wait(lambda: re.fullmatch(words, zoe.text(".unsent")), "the bar")
+            zoe.look("locked-bar")
+            time.sleep(7)
+            self.assertEqual(self.sent(it), [])
+            zoe.all(".unsent a")[0].click()
+            zoe.wait(lambda: zoe.all("main form input"), "the question for the PIN")
+            zoe.script("const now = Date.now; Date.now = () => now() + 30_000")
+            zoe.unlock()
+            zoe.wait(lambda: zoe.bar() == "", "the end of the bar")
+            self.assertEqual(entered(it, 2), once(10000) + [[]])
+
+    def test_the_desk_comes_back(self):
+        """Opened with the front gone, and no word of the browser that it is there again: it is looked for."""
+        with loans.desk_with(FEW) as it:
+            zoe = self.phone(it, "zoe")
+            zoe.take_along(by_itself=True)
+            it.nginx.stop()
+            zoe.open_kept()
+            zoe.type(1, "100")
+            zoe.wait(lambda: zoe.bar() == "1 not sent, 100.00, since HH:MM", "it")
+            self.rest(zoe)
+            it.nginx.start()
+            zoe.wait(lambda: zoe.results() == {"entered": 1}, "the result")
+            self.assertEqual(entered(it, 2), once(10000) + [[]])
+
+    def test_two_windows(self):
+        """Two windows of one browser, both open, over a slow network: each line goes to the desk once."""
+        with loans.desk_with(rounds.FORTY) as it:
+            zoe = self.phone(it, "zoe")
+            zoe.take_along(by_itself=True)
+            zoe.network(CUT)
+            zoe.press("Fill in what is due")
+            zoe.wait(lambda: zoe.bar().startswith("40 not sent"), "it")
+            first = zoe.driver.current_window_handle
+            zoe.network(SLOW)
+            zoe.driver.switch_to.new_window("tab")
+            zoe.driver.execute_cdp_cmd("Network.enable", {})
+            zoe.network(SLOW)
+            zoe.driver.get(f"{it.url}/#/kept/{PLACE}")
+            zoe.unlock()
+            zoe.wait(lambda: zoe.all(".paid-field"), "the round")
+            self.rest(zoe)
+            second = zoe.driver.current_window_handle
+            zoe.driver.switch_to.window(first)
+            self.rest(zoe)
+            zoe.wait(lambda: zoe.results().get("entered", 0) >= 3, "the first results")
+            self.finish(zoe)
+            zoe.wait(lambda: zoe.results() == {"entered": rounds.COUNT}, "the results")
+            self.assertEqual(sorted(self.sent(it)), [f"2-20240331-{i:06}" for i in range(1, rounds.COUNT + 1)])
+            zoe.driver.switch_to.window(second)
+            zoe.wait(lambda: zoe.results() == {"entered": rounds.COUNT}, "the other window")
+            zoe.driver.close()
+            zoe.driver.switch_to.window(first)
+            self.assertEqual(entered(it, rounds.COUNT), once(*[68333] * rounds.COUNT))
+
+    def test_a_flapping_network(self):
+        """The network comes and goes twenty times while forty lines are sent by itself: each is entered once."""
+        with loans.desk_with(rounds.FORTY) as it:
+            zoe = self.phone(it, "zoe")
+            zoe.take_along(by_itself=True)
+            zoe.network(CUT)
+            zoe.press("Fill in what is due")
+            zoe.wait(lambda: zoe.bar().startswith("40 not sent"), "it")
+            self.rest(zoe)
+            cuts = 0
+            while cuts < 20 and zoe.results() != {"entered": rounds.COUNT}:
+                zoe.network(SLOW | {"latency": 250})
+                time.sleep(0.4 + 0.23 * (cuts % 7))
+                zoe.network(CUT)
+                cuts += 1
+                time.sleep(0.3)
+                self.assertLessEqual(max(len(one) for one in entered(it, rounds.COUNT)), 1)
+            zoe.network(OPEN)
+            self.finish(zoe)
+            self.assertEqual(entered(it, rounds.COUNT), once(*[68333] * rounds.COUNT))
+            print(f"    {cuts} cuts", end=" ")
+
+    def test_not_for_another_person(self):
+        with desk.Desk(lines=FEW, people=loans.PEOPLE, sessions=True) as it:
+            phone = self.phone(it, "zoe")
+            phone.take_along(by_itself=True)
+            phone.network(CUT)
+            phone.type(1, "100")
+            phone.wait(lambda: phone.bar().startswith("1 not sent"), "it")
+            phone.network(OPEN)
+            it.let_in(phone.driver, "tom")
+            phone.open_kept()
+            self.rest(phone)
+            self.assertIn("entered in your name: tom 2/3. Nothing of it is sent by itself.", phone.text("main"))
+            time.sleep(7)
+            self.assertEqual((self.sent(it), phone.results()), ([], {}))
+
+
+class Drafts(Case):
+    """A new client, an application, a note of a visit: kept on the phone, and requests once they are sent."""
+
+    LOSING = """
+        const real = window.fetch;
+        window.fetch = async (url, options) => {
+            if (options?.method !== "POST" || !url.endsWith(PATH)) return real(url, options);
+            if (CARRIED) await real(url, options);
+            throw new TypeError("lost");
+        };
+    """
+
+    HANGING = """
+        const real = window.fetch;
+        window.fetch = async (url, options) => {
+            const reply = await real(url, options);
+            return options?.method === "POST" ? new Promise(() => {}) : reply;
+        };
+    """
+
+    def lose(self, zoe, path, carried):
+        """The reply to what is posted there is lost, and the request with it or not."""
+        zoe.script(self.LOSING.replace("PATH", json.dumps(path)).replace("CARRIED", json.dumps(carried)))
+
+    def on_phone(self, it):
+        zoe = self.phone(it, "zoe")
+        zoe.take_along()
+        zoe.follow("Drafts")
+        return zoe
+
+    def draft(self, zoe, kind, **values):
+        zoe.open_dialog(kind)
+        for label, value in values.items():
+            zoe.fill(label, value)
+        zoe.send("Keep on this phone")
+
+    def card(self, zoe, kind):
+        """The newest draft of a kind."""
+        return zoe.wait(lambda: next((one for one in zoe.all(".draft") if one.text.startswith(kind)), None), kind)
+
+    def press(self, zoe, kind, words="Send"):
+        zoe.wait(lambda: self.button(zoe, kind, words), words).click()
+
+    def button(self, zoe, kind, words):
+        found = self.card(zoe, kind).find_elements("tag name", "button")
+        return next((one for one in found if one.text == words and one.is_enabled()), None)
+
+    def told(self, zoe, kind, words):
+        zoe.wait(lambda: words in self.card(zoe, kind).text, words)
+
+    def clients(self, it):
+        """The names of the office's clients past those of the round."""
+        names = []
+        while (reply := it.send("head", "GET", f"/api/clients/0002-{COUNT + 1 + len(names):06}"))[0] == 200:
+            names.append(reply[1]["name"])
+        return names
+
+    def applications(self, it):
+        listed = it.send("head", "GET", f"/api/offices/2/loans/{COUNT}")[1]["loans"]
+        told = [it.send("head", "GET", f"/api/loans/{one['loan']}")[1] for one in listed]
+        return [(one["client"], one["principal"], one["periods"], one["status"]) for one in told]
+
+    def test_kept_and_sent(self):
+        """Written without a network; sent once there is one; what is alike is asked about."""
+        with loans.desk_with(FEW) as it:
+            zoe = self.on_phone(it)
+            zoe.network(CUT)
+            self.draft(zoe, "New client", Name="Bahati Mrema")
+            self.draft(zoe, "Application", Client="Bahati Mrema", Principal="500", Instalments="3")
+            self.draft(zoe, "Note of a visit", Client="Client 2 · 0002-000002", Note="the roof leaks")
+            self.assertEqual(zoe.bar(), "2 not sent, 0.00, since HH:MM")
+            zoe.driver.get("about:blank")
+            zoe.driver.get(f"{it.url}/#/kept/{PLACE}/drafts")
+            zoe.unlock()
+            zoe.wait(lambda: len(zoe.all(".draft")) == 3, "the drafts")
+            self.assertIn("the roof leaks", self.card(zoe, "Note of a visit").text)
+            zoe.look("drafts")
+            self.sealed(zoe)
+            zoe.network(OPEN)
+            it.let_in(zoe.driver, "zoe")
+            zoe.open_kept()
+            zoe.follow("Drafts (2)")
+            self.press(zoe, "Application")
+            self.told(zoe, "Application", "Send the draft of Bahati Mrema first.")
+            self.press(zoe, "New client")
+            self.told(zoe, "New client", "Client 0002-000006 is entered.")
+            self.press(zoe, "Application")
+            self.told(zoe, "Application", "Loan 0002-000006 is submitted and waits for approval.")
+            self.assertEqual(self.clients(it), ["Bahati Mrema"])
+            self.assertEqual(self.applications(it), [("0002-000006", 50000, 3, 100)])
+            zoe.wait(lambda: zoe.bar() == "", "the end of the bar")
+            self.alike(it, zoe)
+
+    def sealed(self, zoe):
+        (text,) = zoe.driver.execute_async_script(KEPT)
+        for secret in ("Bahati", "roof", "50000"):
+            self.assertNotIn(secret, text)
+
+    def alike(self, it, zoe):
+        """The same name in other letters, and the same sum for the same client."""
+        self.draft(zoe, "New client", Name="bahati  mrema".replace("  ", " "))
+        self.press(zoe, "New client")
+        self.told(zoe, "New client", "0002-000006 Bahati Mrema")
+        zoe.look("draft-alike")
+        self.press(zoe, "New client", "It is the same")
+        self.told(zoe, "New client", "Client 0002-000006 is entered.")
+        self.assertEqual(self.clients(it), ["Bahati Mrema"])
+        self.draft(zoe, "Application", Client="bahati mrema", Principal="500", Instalments="6")
+        self.press(zoe, "Application")
+        self.told(zoe, "Application", "0002-000006 · 500.00 · Waits for approval")
+        self.press(zoe, "Application", "It is another one: send it")
+        self.told(zoe, "Application", "Loan 0002-000007 is submitted and waits for approval.")
+        self.assertEqual(self.applications(it), [("0002-000006", 50000, 3, 100), ("0002-000006", 50000, 6, 100)])
+
+    def test_a_lost_reply(self):
+        """What was carried out is found, also after the page was left; what wasn't is sent again once it can't come."""
+        with loans.desk_with(FEW) as it:
+            zoe = self.on_phone(it)
+            self.draft(zoe, "New client", Name="Bahati")
+            self.lose(zoe, "/clients", True)
+            self.press(zoe, "New client")
+            self.told(zoe, "New client", "Client 0002-000006 is entered.")
+            zoe.open_kept()
+            zoe.follow("Drafts")
+            self.draft(zoe, "Application", Client="Bahati", Principal="500", Instalments="3")
+            self.lose(zoe, "/loans", False)
+            for _ in range(2):
+                self.press(zoe, "Application")
+                self.told(zoe, "Application", "It may still be on its way.")
+            self.assertEqual(self.applications(it), [])
+            zoe.open_kept()  # and nothing is lost on the way any more
+            zoe.follow("Drafts (1)")
+            self.told(zoe, "Application", "Sent, and no reply came.")
+            self.press(zoe, "Application")
+            self.told(zoe, "Application", "It may still be on its way.")
+            zoe.script("const now = Date.now; Date.now = () => now() + 200_000")
+            self.press(zoe, "Application")
+            self.told(zoe, "Application", "Loan 0002-000006 is submitted")
+            self.assertEqual((self.clients(it), len(self.applications(it))), (["Bahati"], 1))
+
+    def test_a_phone_that_dies(self):
+        """The request is carried out and the page is gone: it is found when it is sent again, by whatever page."""
+        with loans.desk_with(FEW) as it:
+            zoe = self.on_phone(it)
+            self.draft(zoe, "New client", Name="Bahati")
+            zoe.script(self.HANGING)
+            self.press(zoe, "New client")
+            zoe.wait(lambda: self.clients(it) == ["Bahati"], "the client")
+            zoe.open_kept()
+            zoe.follow("Drafts (1)")
+            self.press(zoe, "New client")
+            self.told(zoe, "New client", "Client 0002-000006 is entered.")
+            self.assertEqual(self.clients(it), ["Bahati"])
+
+
 class Pin(Case):
     """What is on the phone is locked by a PIN: a wrong one loses nothing, and a forgotten one has a way."""
 
@@ -458,6 +972,39 @@ class Pin(Case):
                 zoe.wait(lambda: zoe.script(AMOUNTS)[:1] == ["100"], "what was typed")
             zoe.press("Lock the rounds")
             zoe.wait(lambda: zoe.all("main form input"), "the lock")
+
+    def test_changed(self):
+        """By the PIN until now alone. Another window has the key of the PIN before, and can write nothing with it."""
+        with loans.desk_with(FEW) as it:
+            zoe = self.taken(it)
+            first = zoe.driver.current_window_handle
+            zoe.driver.switch_to.new_window("tab")
+            zoe.driver.get(f"{it.url}/#/kept/{PLACE}")
+            zoe.unlock()
+            zoe.wait(lambda: zoe.all(".paid-field"), "the round")
+            second = zoe.driver.current_window_handle
+            zoe.driver.switch_to.window(first)
+            zoe.press("Rounds on this phone", ".breadcrumb")
+            zoe.open_dialog("Change the PIN")
+            for before, again, told in (("25 bees", "12 wasps", "The PIN is wrong."), (PIN, "12 wasp", "differ")):
+                for label, value in (("PIN until now", before), ("New PIN", "12 wasps"), ("The PIN once more", again)):
+                    zoe.fill(label, value)
+                self.assertIn(told, zoe.refused("Change the PIN"))
+            zoe.fill("The PIN once more", "12 wasps")
+            zoe.look("change-pin")
+            zoe.send("Change the PIN")
+            self.assertEqual(zoe.note(), "The PIN is changed.")
+            zoe.driver.switch_to.window(second)
+            zoe.wait(lambda: zoe.all("main form input") and not zoe.all(".paid-field"), "the lock of the other window")
+            zoe.unlock()
+            zoe.wait(lambda: "The PIN is wrong." in zoe.text("main"), "that the PIN before is wrong")
+            zoe.all("main form input")[0].clear()
+            zoe.unlock("12 wasps")
+            zoe.wait(lambda: zoe.script(AMOUNTS)[:1] == ["100"], "what was typed")
+            zoe.type(2, "20")
+            zoe.wait(lambda: zoe.bar() == "2 not sent, 120.00, since HH:MM", "it")
+            zoe.driver.close()
+            zoe.driver.switch_to.window(first)
 
     def test_forgotten(self):
         """What is lost is told first; afterwards a round can be taken along with another PIN."""
@@ -521,6 +1068,12 @@ class Eyes(Case):
                 zoe.all("main h2 a")[0].click()
                 zoe.wait(lambda: zoe.all(".paid-field"), "the round")
                 self.look_at(zoe, f"{language} round")
+                for part, there in self.PARTS.items():
+                    zoe.script("location.hash = arguments[0]", f"#/kept/{PLACE}/{part}")
+                    zoe.wait(lambda there=there: zoe.all(there), part)
+                    self.look_at(zoe, f"{language} {part.split('/')[0]}")
+
+    PARTS = {"cash": ".handover", "drafts": ".drafts", "receipt/0002-000001/2-20240331-000001": ".code"}
 
     def look_at(self, zoe, name):
         with self.subTest(name):

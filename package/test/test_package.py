@@ -155,7 +155,8 @@ class Installed(unittest.TestCase):
         self.wait_until(lambda: self.ask("zoe", "a password of zoe's", "GET", "/api/offices")[0] == 200)
         self.assertEqual(self.ask("zoe", "a password of zoe's", "POST", "/api/clients", client)[0], 201)
         script = "import urllib.request as r\nprint(r.urlopen('http://127.0.0.1:8190{}').headers['Content-Type'])"
-        for path in ("/lib/bootstrap/css/bootstrap.min.css", "/lib/chart/chart.min.js", "/lib/dsv/d3-dsv.min.js"):
+        scripts = ("/lib/chart/chart.min.js", "/lib/dsv/d3-dsv.min.js", "/lib/qrcode/qrcode.js")
+        for path in ("/lib/bootstrap/css/bootstrap.min.css", *scripts):
             kind = "text/css" if path.endswith(".css") else "application/javascript"
             self.assertEqual(self.root.run("python3 -", given=script.format(path)).strip(), kind)
         words = " ".join(map(shlex.quote, ("zoe", "a password of zoe's", "GET", "/", "")))

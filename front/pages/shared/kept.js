@@ -2,7 +2,7 @@
 // them. The content of a round is sealed by the phone's PIN (views/kept-pin.js). In clear stand its office and day, and
 // how much of it is not sent, since when: each page tells that without the PIN.
 import {sum} from "./money.js";
-import {sayCount, showMoment, showMoney} from "./words.js";
+import {say, sayCount, showMoment, showMoney} from "./words.js";
 
 const NAME = "microloan-kept";
 const STORES = ["pin", "rounds"];
@@ -28,7 +28,7 @@ async function within(mode, work) {
     const asked = work(stores);
     return new Promise((done, refuse) => {
         transaction.oncomplete = () => done(asked.result);
-        transaction.onabort = () => refuse(transaction.error);
+        transaction.onabort = () => refuse(transaction.error ?? new Error("not kept"));
     });
 }
 
@@ -44,6 +44,11 @@ export function whenKeptChanges(tell) {
 
 async function changeAndTell(id, work) {
     await within("readwrite", work);
+    tellWindows(id);
+}
+
+// id: the round that was changed; "" where it may be any
+export function tellWindows(id = "") {
     windows.postMessage(id);
     tellers.forEach((tell) => tell(id));
 }
@@ -69,8 +74,22 @@ export function keptRound(id) {
     return within("readonly", ({rounds}) => rounds.get(id));
 }
 
+// What was sealed by another PIN than the one that holds by now isn't kept: nobody could open it.
 export function keepRound(record) {
-    return changeAndTell(record.id, ({rounds}) => rounds.put(record, record.id));
+    return changeAndTell(record.id, ({pin, rounds}) => {
+        const asked = pin.get(ONLY);
+        asked.onsuccess = () =>
+            asked.result?.mark === record.sealed.mark ? rounds.put(record, record.id) : asked.transaction.abort();
+        return asked;
+    });
+}
+
+// another PIN, and all rounds as it seals them: all of it or nothing
+export function keepAnew(record, records) {
+    return changeAndTell("", ({pin, rounds}) => {
+        records.forEach((one) => rounds.put(one, one.id));
+        return pin.put(record, ONLY);
+    });
 }
 
 export function dropRound(id) {
@@ -85,6 +104,26 @@ export function dropAll() {
     });
 }
 
+// What this window does with what is kept: the bar of each page tells it.
+const phone = {isLocked: true, isSending: false};
+
+export function tellPhone(change) {
+    Object.assign(phone, change);
+    window.dispatchEvent(new Event("kept-phone"));
+}
+
+const BY_ITSELF = "kept-by-itself";
+
+// whether what waits is sent without a press, once there is a network
+export function sendsByItself() {
+    return localStorage.getItem(BY_ITSELF) !== "no";
+}
+
+export function sendByItself(isWished) {
+    localStorage.setItem(BY_ITSELF, isWished ? "yes" : "no");
+    window.dispatchEvent(new Event("kept-phone"));
+}
+
 // How much of rounds is not sent, and since when; null where all of it is.
 export function waitingOf(rounds) {
     const waiting = rounds.filter(({count}) => count > 0);
@@ -96,9 +135,18 @@ export function waitingOf(rounds) {
 }
 
 // the same in words, with where it is; rejects where the browser keeps nothing
-export async function keptWords() {
+export async function keptWords(hasDesk) {
     const waiting = waitingOf(await keptRounds());
-    return waiting && {href: "#/kept", words: wordsOfWaiting(waiting)};
+    const words = () => [wordsOfWaiting(waiting), phoneWords(hasDesk)].filter(Boolean).join(" · ");
+    return waiting && {href: "#/kept", words: words()};
+}
+
+// what becomes of it by itself, where something does
+function phoneWords(hasDesk) {
+    if (phone.isSending) {
+        return say("sending");
+    }
+    return hasDesk && phone.isLocked && sendsByItself() ? say("kept.locked") : null;
 }
 
 export function wordsOfWaiting({count, cents, since}) {

@@ -78,10 +78,16 @@ const clock = new Intl.DateTimeFormat(locale, {
 // a moment by this machine's clock: its time, and its day where that isn't today's
 export function showMoment(milliseconds) {
     const moment = new Date(milliseconds);
+    const isToday = moment.toDateString() === new Date().toDateString();
+    return isToday ? clock.format(moment) : showDated(milliseconds);
+}
+
+// the same with its day always, as for paper
+export function showDated(milliseconds) {
+    const moment = new Date(milliseconds);
     const date = [moment.getFullYear(), moment.getMonth() + 1, moment.getDate()];
     const day = date.map((part) => String(part).padStart(2, "0")).join("-");
-    const isToday = moment.toDateString() === new Date().toDateString();
-    return isToday ? clock.format(moment) : `${showDay(day)} ${clock.format(moment)}`;
+    return `${showDay(day)} ${clock.format(moment)}`;
 }
 
 const ago = new Intl.RelativeTimeFormat(locale, {numberingSystem: "latn"});

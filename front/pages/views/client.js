@@ -62,8 +62,15 @@ async function newLoan(account, name) {
     }
 }
 
-// The ranges of amount and periods are those of the chosen product, and are shown anew where another is chosen.
 function loanForm(open, account) {
+    const send = keptWriting(
+        ({product, principal, periods}) =>
+            loanWriting({client: account, product: Number(product), principal, periods}));
+    return {fields: loanFields(open), send};
+}
+
+// The ranges of amount and periods are those of the chosen product, and are shown anew where another is chosen.
+export function loanFields(open) {
     const chosen = () => open.find((one) => String(one.product) === fields.product.input.value);
     const amounts = () => [chosen().min_principal, chosen().max_principal];
     const lengths = () => [chosen().min_periods, chosen().max_periods];
@@ -80,13 +87,10 @@ function loanForm(open, account) {
         periods: numberField({label: say("periods"), hint: " ", range: lengths}),
     };
     showLimits();
-    const send = keptWriting(
-        ({product, principal, periods}) =>
-            loanWriting({client: account, product: Number(product), principal, periods}));
-    return {fields, send};
+    return fields;
 }
 
-function loanWriting(asked) {
+export function loanWriting(asked) {
     const office = officeOf(asked.client);
     return new Writing({
         before: async () => numberOf((await loansOf(office)).at(-1)?.loan ?? "0000-000000"),

@@ -107,7 +107,7 @@ async function newClient(office, officeName) {
 }
 
 // What tells later that the client was entered is one of this name with a number past those that were there before.
-function clientWriting(office, name) {
+export function clientWriting(office, name) {
     return new Writing({
         before: async () => (await clientsOf(office)).length,
         send: async () => (await change("POST", "/clients", {office, name})).body,

@@ -7,6 +7,7 @@ import {refusalBox, Told} from "../shared/refusals.js";
 import {say, sayCount, showDay} from "../shared/words.js";
 import {pageHead} from "../shared/tables.js";
 import {choosePin, isLocked, LEAST_LETTERS, lock, MOST_LETTERS, unlock} from "./kept-pin.js";
+import {sealAnew} from "./kept-rounds.js";
 
 function pinField(label, hint) {
     return passwordField({label, hint, least: LEAST_LETTERS, most: MOST_LETTERS});
@@ -23,6 +24,28 @@ async function makePin({pin, again}) {
         throw new Told(say("pin.differ"), say("pin.differ.do"));
     }
     await choosePin(pin);
+}
+
+async function changeTo({before, pin, again}) {
+    if (pin !== again) {
+        throw new Told(say("pin.differ"), say("pin.differ.do"));
+    }
+    if (!(await sealAnew(before, pin))) {
+        throw new Told(say("pin.wrong"), say("pin.wrong.do"));
+    }
+}
+
+// another PIN in place of the one that was chosen
+export async function askNewPin() {
+    const fields = {
+        before: pinField(say("pin.before")),
+        pin: pinField(say("pin.new"), say("pin.hint", {least: LEAST_LETTERS})),
+        again: pinField(say("pin.again"))
+    };
+    const text = [say("pin.change.what"), say("pin.forgotten.what")];
+    if ((await ask({title: say("pin.change"), text, fields, action: say("pin.change"), send: changeTo})) !== null) {
+        note(say("pin.changed"));
+    }
 }
 
 // Answers whether what is kept can be read, once the PIN was asked for where it has to be.

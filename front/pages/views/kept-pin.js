@@ -1,7 +1,7 @@
 // The PIN of this phone, and what it seals. A key is made of the PIN by PBKDF2 over SHA-256, and seals by AES-256 in
 // GCM, each text under its own name. The key is in memory alone and no script can read it; it is gone once the page is,
 // and after some minutes without a touch.
-import {keepPin, keptPin} from "../shared/kept.js";
+import {keepAnew, keepPin, keptPin, tellPhone} from "../shared/kept.js";
 
 const ROUNDS = 600_000;  // of PBKDF2, for each try of a PIN
 const SALT_BYTES = 16;
@@ -15,6 +15,7 @@ export const MOST_LETTERS = 64;
 
 const lockers = new Set();
 let key = null;
+let mark = undefined;  // which PIN the key is of: each has another one
 let touched = 0;
 
 // whether this browser can seal: only at an address that is safe, by https or on the same machine
@@ -49,16 +50,21 @@ function keyInUse() {
     if (key === null) {
         throw new Locked("locked");
     }
-    touch();
     return key;
 }
 
 export async function seal(name, text) {
-    return sealBy(keyInUse(), name, text);
+    return {...(await sealBy(keyInUse(), name, text)), mark};
 }
 
+// Locks where the PIN was changed in another window: this one has the key of the PIN before.
 export async function unseal(name, sealed) {
-    return unsealBy(keyInUse(), name, sealed);
+    const own = keyInUse();
+    if (sealed.mark !== mark) {
+        lock();
+        throw new Locked("another PIN");
+    }
+    return unsealBy(own, name, sealed);
 }
 
 export function isLocked() {
@@ -66,33 +72,68 @@ export function isLocked() {
     return key === null;
 }
 
+// a new PIN as it is kept, and its key
+async function made(pin) {
+    const way = {salt: crypto.getRandomValues(new Uint8Array(SALT_BYTES)), rounds: ROUNDS, mark: crypto.randomUUID()};
+    const fresh = await keyOf(pin, way);
+    return {record: {...way, check: await sealBy(fresh, CHECK, "")}, fresh};
+}
+
 export async function choosePin(pin) {
-    const made = {salt: crypto.getRandomValues(new Uint8Array(SALT_BYTES)), rounds: ROUNDS};
-    const fresh = await keyOf(pin, made);
-    await keepPin({...made, check: await sealBy(fresh, CHECK, "")});
-    use(fresh);
+    const {record, fresh} = await made(pin);
+    await keepPin(record);
+    use(fresh, record);
+}
+
+// the key of a PIN, or null where it is wrong
+async function rightKey(pin, record) {
+    const tried = await keyOf(pin, record);
+    try {
+        await unsealBy(tried, CHECK, record.check);
+        return tried;
+    } catch {
+        return null;
+    }
 }
 
 // Answers whether the PIN is right. A wrong one changes nothing.
 export async function unlock(pin) {
-    const made = await keptPin();
-    const tried = await keyOf(pin, made);
-    try {
-        await unsealBy(tried, CHECK, made.check);
-    } catch {
+    const record = await keptPin();
+    const tried = await rightKey(pin, record);
+    if (tried !== null) {
+        use(tried, record);
+    }
+    return tried !== null;
+}
+
+// Seals all rounds by another PIN. Answers whether the one before is right; a wrong one changes nothing. Nobody else
+// may change a round meanwhile (kept-rounds.js).
+export async function changePin(before, pin, records) {
+    const record = await keptPin();
+    const old = await rightKey(before, record);
+    if (old === null) {
         return false;
     }
-    use(tried);
+    const next = await made(pin);
+    const anew = async (one) => {
+        const text = await unsealBy(old, one.id, one.sealed);
+        return {...one, sealed: {...(await sealBy(next.fresh, one.id, text)), mark: next.record.mark}};
+    };
+    await keepAnew(next.record, await Promise.all(records.map(anew)));
+    use(next.fresh, next.record);
     return true;
 }
 
-function use(fresh) {
+function use(fresh, record) {
     key = fresh;
+    mark = record.mark;
     touch();
+    tellPhone({isLocked: false});
 }
 
 export function lock() {
     key = null;
+    tellPhone({isLocked: true});
     lockers.forEach((tell) => tell());
 }
 
@@ -102,7 +143,8 @@ export function whenLocked(tell) {
     return () => lockers.delete(tell);
 }
 
-function touch() {
+// A line that was sent and answered counts as a touch too: a round isn't locked in the middle of its sending.
+export function touch() {
     touched = Date.now();
 }
 

@@ -1,38 +1,41 @@
 // A round on this phone: typed into without a network, and sent where there is one. A line that was sent can't be
 // changed until its answer is known: with its receipt it is entered once, however often it is sent.
-import {alertBox, button, card, element, fill} from "../shared/elements.js";
+import {alertBox, button, card, element, fill, freshId, link} from "../shared/elements.js";
 import {renewDay, session} from "../shared/session.js";
-import {idOf, whenKeptChanges, waitingOf, wordsOfWaiting} from "../shared/kept.js";
+import {idOf, sendByItself, sendsByItself, waitingOf, whenKeptChanges, wordsOfWaiting} from "../shared/kept.js";
 import {sum} from "../shared/money.js";
 import {ask} from "../shared/dialogs.js";
-import {refusalBox, Told} from "../shared/refusals.js";
+import {refusalBox} from "../shared/refusals.js";
 import {textField} from "../shared/forms.js";
 import {pageHead} from "../shared/tables.js";
 import {say, sayCount, showDay, showMoney} from "../shared/words.js";
 import {ageOf, nameOf} from "./kept.js";
 import {lock as lockPhone} from "./kept-pin.js";
-import {countsOf, forgetRound, keepLines, readRound} from "./kept-rounds.js";
+import {receiptLinks} from "./kept-receipt.js";
+import {changeLine, countsOf, forgetRound, keepTyped, readRound} from "./kept-rounds.js";
+import {isBeingSent, isSendingAnywhere, sendAsked, whenSendingChanges} from "./kept-sending.js";
 import {arrangement, moreWords} from "./round.js";
 import {lineTable} from "./round-lines.js";
-import {askBefore, sendLines} from "./round-sheet.js";
-import {beginFurther, renewLine, settleLine} from "./round-state.js";
+import {askBefore} from "./round-sheet.js";
+import {beginFurther} from "./round-state.js";
 
-const UNKNOWN = ["lost", "F20"];  // what comes of a line that may have been entered all the same
-
-// the line as it is shown: what was sent and has no answer says so, whatever ended the page that sent it
-function shownLine({office, day}, line) {
-    const result = line.isSent ? line.result ?? "lost" : line.result;
-    return {...line, office, day, result, isLocked: line.isSent, isSending: false};
+// The line as it is shown: what was sent and has no answer says so, whatever ended the page that sent it, unless it is
+// on its way still.
+function shownLine({office, day}, line, isRunning = false) {
+    const isSending = line.isSent && line.result === null && (isRunning || isBeingSent({office, day}, line.loan));
+    const result = line.isSent && !isSending ? line.result ?? "lost" : line.result;
+    return {...line, office, day, result, isLocked: line.isSent, isSending};
 }
 
 export function showKeptRound(page, round) {
     const lines = round.lines.map((line) => shownLine(round, line));
-    const made = {page, round, lines, changed: new Set(), keeping: Promise.resolve()};
+    const made = {page, round, lines, changed: new Set(), keeping: Promise.resolve(), version: 0};
     made.table = lineTable(made.lines, {
         isEarly: false,
-        keep: (line) => keepTyped(made, line),
+        keep: (line) => typeLine(made, line),
         change: () => showState(made),
-        further: (line) => payFurther(made, line)
+        further: (line) => payFurther(made, line),
+        receipts: (line) => receiptLinks(round, line, () => made.keeping)
     });
     made.collector = textField({label: say("round.collector"), hint: say("round.collector.hint")});
     made.parts = {
@@ -41,8 +44,10 @@ export function showKeptRound(page, round) {
         propose: button(say("round.propose"), () => made.table.propose()),
         enter: button("", () => enterLines(made), {class: "btn btn-primary round-enter"}),
     };
+    const way = `#/kept/${round.office}/${round.day}`;
     const quiet = {class: "btn btn-outline-secondary"};
     const actions = [
+        link(`${way}/cash`, say("cash.title"), quiet), link(`${way}/drafts`, draftWords(round), quiet),
         button(say("pin.lock"), lockPhone, quiet),
         button(say("kept.remove"), () => remove(made), {class: "btn btn-outline-danger"})
     ];
@@ -54,9 +59,29 @@ export function showKeptRound(page, round) {
     fill(
         page, pageHead({title, trail: [[say("kept.title"), "#/kept"]], actions}),
         element("p", {class: "mb-1 fw-semibold"}, nameOf(round)), element("p", {class: "kept-age"}, ageOf(round)),
-        senderNote(made), arrangement(made), card(null, made.table.node), trouble, end);
+        senderNote(made), byItselfChoice(), arrangement(made), card(null, made.table.node), trouble, end);
     followOthers(made);
     showState(made);
+}
+
+// how many drafts wait, beside the word
+function draftWords({drafts = []}) {
+    const waiting = drafts.filter(({kind, account}) => kind !== "note" && account === null).length;
+    return waiting === 0 ? say("drafts.title") : `${say("drafts.title")} (${waiting})`;
+}
+
+// whether what waits is sent without a press
+export function byItselfChoice() {
+    const id = freshId("by-itself");
+    const box = element("input", {
+        type: "checkbox",
+        id,
+        class: "form-check-input mt-0",
+        checked: sendsByItself(),
+        onchange: () => sendByItself(box.checked)
+    });
+    const words = element("span", {}, say("kept.by-itself"));
+    return element("label", {class: "by-itself d-print-none", "for": id}, box, words);
 }
 
 // whether there is a desk, in whose name is sent, and whether the round's day has come
@@ -94,6 +119,7 @@ function showState(made) {
 
 // Keeps a line: one writing at a time, and the next one has all that was changed meanwhile. Answers whether it is kept.
 function keep(made, line) {
+    made.version += 1;
     made.changed.add(line);
     made.keeping = made.keeping.then(() => keepChanged(made));
     return made.keeping;
@@ -107,7 +133,7 @@ async function keepChanged(made) {
     made.changed.clear();
     made.isWriting = true;
     try {
-        await keepLines(made.round, lines);
+        await keepTyped(made.round, lines);
         return true;
     } catch (problem) {
         console.error(problem);
@@ -116,39 +142,60 @@ async function keepChanged(made) {
         return false;
     } finally {
         made.isWriting = false;
+        made.version += 1;
+        if (made.isBehind && made.changed.size === 0) {
+            takeOver(made).catch(() => {});
+        }
     }
 }
 
-function keepTyped(made, line) {
+function typeLine(made, line) {
     line.collector = line.text === "" ? "" : made.collector.input.value.trim();
     line.typed = line.text === "" ? null : line.typed ?? Date.now();
+    line.touched = Date.now();
     return keep(made, line);
 }
 
-// What another window of this browser has changed is shown in this one.
+// What was changed by a sending, or in another window of this browser, is shown here.
 function followOthers(made) {
-    const end = whenKeptChanges((id) => {
+    const ends = [
+        whenKeptChanges((id) => ["", idOf(made.round)].includes(id) && follow()),
+        whenSendingChanges(() => follow())
+    ];
+    let isFollowing = false;
+    let isLate = false;  // changed again while it was looked
+    const follow = async () => {
+        isLate = isFollowing;
         if (!made.table.node.isConnected) {
-            end();
-        } else if (!made.isWriting && !made.isSending && ["", idOf(made.round)].includes(id)) {
-            takeOver(made).catch(() => {});  // it was locked meanwhile
+            ends.forEach((end) => end());
+        } else if (!isFollowing) {
+            isFollowing = true;
+            await takeOver(made).catch(() => {});  // it was locked meanwhile
+            isFollowing = false;
+            return isLate && follow();
         }
-    });
+    };
+    follow();
 }
 
+// What was typed here while it was read is never put back by what was read: then it is read again, once that is kept.
 async function takeOver(made) {
-    const kept = await readRound(idOf(made.round));
-    if (made.isWriting || made.changed.size > 0) {
-        return;  // something was typed here meanwhile
+    const {version} = made;
+    const [kept, isRunning] = await Promise.all([readRound(idOf(made.round)), isSendingAnywhere()]);
+    const isTyped = made.isWriting || made.changed.size > 0;
+    made.isBehind = isTyped || made.version !== version;
+    if (made.isBehind) {
+        return isTyped ? undefined : takeOver(made);
     }
     if (kept?.taken !== made.round.taken) {
         location.hash = "#/kept";
         return;
     }
     for (const line of made.lines) {
-        Object.assign(line, shownLine(kept, kept.lines.find(({loan}) => loan === line.loan)));
+        Object.assign(line, shownLine(kept, kept.lines.find(({loan}) => loan === line.loan), isRunning));
         made.table.show(line);
     }
+    made.isSending = isRunning;
     showState(made);
 }
 
@@ -158,19 +205,30 @@ async function enterLines(made) {
     fill(trouble);
     hold(made, lines, true);
     try {
+        await made.keeping;
         await renewDay();
         window.dispatchEvent(new Event("desk-day"));
         const reason = await askBefore(lines);
-        const problem = reason === null ? null : await sendLines(lines, reason, (line) => tell(made, line));
-        fill(trouble, problem && [alertBox("warning", say("round.stopped")), refusalBox(problem)]);
+        const sent = reason === null ? {problem: null} : await sendAsked(made.round, lines, reason);
+        fill(trouble, wordsAfter(sent));
     } catch (problem) {
         fill(trouble, refusalBox(problem));
     } finally {
         hold(made, lines, false);
+        await takeOver(made).catch(() => {});
     }
 }
 
-// What is being sent can't be typed over, nor what has no answer yet.
+function wordsAfter(sent) {
+    if (sent === null) {
+        return alertBox("info", say("kept.sends-already"));
+    }
+    return sent.problem?.isLost || sent.problem?.front === "password" ?
+        [alertBox("warning", say("round.stopped")), refusalBox(sent.problem)] :
+        [];
+}
+
+// What is about to be sent can't be typed over, nor what has no answer yet.
 function hold(made, lines, isSending) {
     made.isSending = isSending;
     for (const line of lines) {
@@ -180,48 +238,20 @@ function hold(made, lines, isSending) {
     showState(made);
 }
 
-// A line is marked as sent before it goes, so that no stop leaves one that was sent and looks as if it weren't.
-async function tell(made, line) {
-    if (line.isSending) {
-        line.isSent = true;
-        made.table.show(line);
-        if (!(await keep(made, line))) {
-            Object.assign(line, {isSending: false, isSent: false});
-            throw new Told(say("kept.not-kept"), say("kept.not-kept.do"));
-        }
-        return;
-    }
-    line.isSent = UNKNOWN.includes(line.result);
-    if (["entered", "repeated"].includes(line.result)) {
-        settleLine(line);
-        line.typed = null;
-    }
-    await keep(made, line);
-    if (["repeated", "F15"].includes(line.result ?? line.results[line.receipt])) {
-        renew(made, line).catch(() => {});  // what stands was entered by somebody else, or before
-    }
-    made.table.show(line);
-    showState(made);
-}
-
-async function renew(made, line) {
-    await renewLine(line);
-    await keep(made, line);
-    made.table.show(line);
-    showState(made);
-}
-
 async function payFurther(made, line) {
-    beginFurther(line);
-    await keep(made, line);
-    made.table.show(line);
+    await made.keeping;
+    await changeLine(made.round, line.loan, (kept) => {
+        const further = {...kept, touched: Date.now()};
+        beginFurther(further);
+        return further;
+    });
+    await takeOver(made);
     made.table.focus(line);
-    showState(made);
 }
 
 // What is lost is told first.
 async function remove({round, lines}) {
-    const waiting = waitingOf([countsOf({lines})]);
+    const waiting = waitingOf([countsOf(await readRound(idOf(round)) ?? {lines})]);
     const lost = waiting && alertBox("danger", say("pin.lost", {lost: wordsOfWaiting(waiting)}));
     const removed = await ask({
         title: say("kept.remove"),

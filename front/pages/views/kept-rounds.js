@@ -2,15 +2,16 @@
 // whichever window makes it.
 import {dropRound, idOf, keepRound, keptRound, keptRounds} from "../shared/kept.js";
 import {sum} from "../shared/money.js";
-import {seal, unseal} from "./kept-pin.js";
+import {changePin, seal, unseal} from "./kept-pin.js";
+import {withBefore} from "./round-state.js";
 
-const CENTS = ["due", "owed", "cents", "overpaid", "amount"];  // the members that are whole cents
-const PAYMENT = ["receipt", "amount", "staff", "reversed", "number"];
+const CENTS = ["due", "owed", "cents", "overpaid", "amount", "before"];  // the members that are whole cents
+const PAYMENT = ["receipt", "amount", "staff", "reversed", "number", "before"];
 const LINE = [
-    "loan", "name", "since", "days", "due", "owed", "known", "payments", "results", "text", "cents", "typed", "receipt",
-    "collector", "why", "result", "isFurther", "isSent"
+    "loan", "client", "name", "since", "days", "due", "owed", "known", "payments", "results", "text", "cents", "typed",
+    "touched", "receipt", "collector", "why", "result", "isFurther", "isSent"
 ];
-const TYPED = ["text", "cents", "typed", "receipt", "collector", "why", "result", "isFurther", "isSent"];
+const TYPED = ["text", "cents", "typed", "touched", "receipt", "collector", "why", "result", "isFurther", "isSent"];
 
 function only(names, thing) {
     return Object.fromEntries(names.filter((name) => name in thing).map((name) => [name, thing[name]]));
@@ -37,17 +38,22 @@ function isSaid({text, why}) {
     return text !== "" || why !== "";
 }
 
+function isSent({results}) {
+    return Object.keys(results).length > 0;
+}
+
 async function open(record) {
     return record && roundOf(await unseal(record.id, record.sealed));
 }
 
-// how much of a round is not sent
-export function countsOf({lines}) {
+// how much of a round is not sent: its lines, and its drafts that are to become requests
+export function countsOf({lines, drafts = []}) {
     const waiting = lines.filter(isTyped);
+    const open = drafts.filter(({kind, account}) => kind !== "note" && account === null);
     return {
-        count: waiting.length,
+        count: waiting.length + open.length,
         cents: sum(waiting.map(({cents}) => cents ?? 0n)),
-        since: Math.min(...waiting.map(({typed}) => typed))
+        since: Math.min(...waiting.map(({typed}) => typed), ...open.map(({made}) => made))
     };
 }
 
@@ -56,11 +62,14 @@ async function close(round) {
     return {id, ...countsOf(round), sealed: await seal(id, textOf(round))};
 }
 
-// change: is handed the round, or undefined where none is kept, and answers what it becomes
+// change: is handed the round, or undefined where none is kept, and answers what it becomes, or undefined where nothing
+// is to be kept
 function changed(id, change) {
     return navigator.locks.request(`kept ${id}`, async () => {
         const round = change(await open(await keptRound(id)));
-        await keepRound(await close(round));
+        if (round !== undefined) {
+            await keepRound(await close(round));
+        }
         return round;
     });
 }
@@ -72,20 +81,47 @@ export function takeRound(round) {
         line.payments.some((one) => !one.reversed && one.receipt === receipt && BigInt(one.amount) === cents);
     const withTyped = (line, before) => {
         const isKept = before !== undefined && isSaid(before) && !isEntered(line, before);
-        return bareLine(isKept ? {...line, ...only(TYPED, before)} : line);
+        return isKept ? {...line, ...only(TYPED, before)} : line;
     };
+    const withSent = (line, before) =>
+        before === undefined ? line :
+                               {...line, results: before.results, payments: withBefore(line.payments, before.payments)};
+    const taken = (line, before) => bareLine(withSent(withTyped(line, before), before));
     return changed(idOf(round), (before) => {
         const old = new Map(before?.lines.map((line) => [line.loan, line]));
-        const lines = round.lines.map((line) => withTyped(line, old.get(line.loan)));
-        const gone = [...old.values()].filter((line) => !lines.some(({loan}) => loan === line.loan) && isSaid(line));
-        return {...round, lines: [...lines, ...gone]};
+        const lines = round.lines.map((line) => taken(line, old.get(line.loan)));
+        const isMissing = ({loan}) => !lines.some((line) => line.loan === loan);
+        const gone = [...old.values()].filter((line) => isMissing(line) && (isSaid(line) || isSent(line)));
+        return {...round, drafts: before?.drafts ?? [], cash: before?.cash ?? {}, lines: [...lines, ...gone]};
     });
 }
 
-export function keepLines(round, lines) {
+// Keeps what was typed into lines. What is sent meanwhile, or was entered, isn't typed over.
+export function keepTyped(round, lines) {
     const fresh = new Map(lines.map((line) => [line.loan, line]));
-    const now = (line) => (fresh.has(line.loan) ? bareLine(fresh.get(line.loan)) : line);
-    return changed(idOf(round), (kept) => ({...kept, lines: kept.lines.map(now)}));
+    const now = (line) => {
+        const typed = fresh.get(line.loan);
+        return typed === undefined || line.isSent || typed.receipt !== line.receipt ? line :
+                                                                                     {...line, ...only(TYPED, typed)};
+    };
+    return changed(idOf(round), (kept) => kept && {...kept, lines: kept.lines.map(now)});
+}
+
+// Changes one line as it is kept by now. change: is handed it with its round's office and day, and answers what it
+// becomes, or null where it stays. Answers that; undefined where there is no such line any more.
+export async function changeLine({office, day}, loan, change) {
+    let made = undefined;
+    await changed(idOf({office, day}), (kept) => {
+        const line = kept?.lines.find((one) => one.loan === loan);
+        made = line && change({...line, office, day});
+        return made ? {...kept, lines: kept.lines.map((one) => (one === line ? bareLine(made) : one))} : undefined;
+    });
+    return made;
+}
+
+// what is kept of a round beside its lines
+export function changeRound(round, change) {
+    return changed(idOf(round), (kept) => kept && {...kept, ...change(kept)});
 }
 
 export async function readRound(id) {
@@ -95,6 +131,15 @@ export async function readRound(id) {
 export async function readRounds() {
     const records = await keptRounds();
     return Promise.all(records.map(async (record) => ({...record, ...(await open(record))})));
+}
+
+// Seals all rounds by another PIN while nobody changes one. Answers whether the PIN before is right.
+export async function sealAnew(before, pin) {
+    const ids = (await keptRounds()).map(({id}) => id);
+    const within = async (left) => (left.length === 0 ?
+        changePin(before, pin, await keptRounds()) :
+        navigator.locks.request(`kept ${left[0]}`, () => within(left.slice(1))));
+    return within(ids);
 }
 
 export function forgetRound(id) {

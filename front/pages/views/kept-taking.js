@@ -2,7 +2,8 @@
 import {alertBox, fill} from "../shared/elements.js";
 import {endDraft} from "../shared/drafts.js";
 import {note} from "../shared/dialogs.js";
-import {session} from "../shared/session.js";
+import {products} from "../shared/desk.js";
+import {may, OFFICER, session} from "../shared/session.js";
 import {say} from "../shared/words.js";
 import {openByPin} from "./kept-asking.js";
 import {takeRound} from "./kept-rounds.js";
@@ -12,8 +13,9 @@ export async function takeAlong(made) {
         return;
     }
     navigator.storage?.persist?.();  // so that no browser clears it away where its room gets short
+    const open = may(OFFICER) ? (await products(true)).filter(({retired}) => !retired) : [];
     try {
-        const round = await takeRound(roundOf(made, Date.now()));
+        const round = await takeRound({...roundOf(made, Date.now()), products: open, mayEnter: may(OFFICER)});
         endDrafts(made.lines, round.lines);
     } catch (problem) {
         console.error(problem);

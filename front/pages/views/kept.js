@@ -4,15 +4,22 @@ import {idOf, keptRounds, waitingOf, whenKeptChanges, wordsOfWaiting} from "../s
 import {showRefusal} from "../shared/refusals.js";
 import {say, sayCount, showAge, showDay, showMoment} from "../shared/words.js";
 import {pageHead} from "../shared/tables.js";
-import {showLocked} from "./kept-asking.js";
+import {askNewPin, showLocked} from "./kept-asking.js";
+import {showCash} from "./kept-cash.js";
+import {showDrafts} from "./kept-drafts.js";
 import {isLocked, lock, Locked, whenLocked} from "./kept-pin.js";
 import {readRound, readRounds} from "./kept-rounds.js";
-import {showKeptRound} from "./kept-round.js";
+import {showReceipt} from "./kept-receipt.js";
+import {byItselfChoice, showKeptRound} from "./kept-round.js";
 
-export async function kept(page, office, day) {
+// what is shown of a round, by a word of the address: #/kept/2/2024-03-31/cash
+const PARTS = {receipt: showReceipt, cash: showCash, drafts: showDrafts};
+
+export async function kept(page, office, day, name, ...rest) {
+    const part = Object.hasOwn(PARTS, name) ? PARTS[name] : showKeptRound;
     const show = async () => {
         try {
-            await showKept(page, idOf({office, day}), show);
+            await showKept(page, idOf({office, day}), show, (round) => part(page, round, ...rest));
         } catch (problem) {
             if (!(problem instanceof Locked)) {
                 showRefusal(page, problem, show);
@@ -23,14 +30,15 @@ export async function kept(page, office, day) {
     await show();
 }
 
-async function showKept(page, id, show) {
+async function showKept(page, id, show, showRound) {
     const records = await keptRounds();
     if (records.length === 0) {
         fill(page, pageHead({title: say("kept.title")}), card(null, emptyState(say("kept.none"))));
     } else if (isLocked()) {
         showLocked(page, records, show);
     } else if (records.some((record) => record.id === id)) {
-        showKeptRound(page, await readRound(id));
+        page.classList.remove("page-round");
+        await showRound(await readRound(id));
     } else {
         await showList(page, show);
     }
@@ -38,8 +46,9 @@ async function showKept(page, id, show) {
 
 async function showList(page, show) {
     const rounds = await readRounds();
-    const actions = [button(say("pin.lock"), lock, {class: "btn btn-outline-secondary"})];
-    fill(page, pageHead({title: say("kept.title"), actions}), rounds.map(roundCard));
+    const quiet = {class: "btn btn-outline-secondary"};
+    const actions = [button(say("pin.change"), askNewPin, quiet), button(say("pin.lock"), lock, quiet)];
+    fill(page, pageHead({title: say("kept.title"), actions}), byItselfChoice(), rounds.map(roundCard));
     const end = whenKeptChanges(() => {
         end();
         return page.isConnected && page.querySelector(".kept-list") !== null && show();

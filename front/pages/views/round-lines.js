@@ -16,8 +16,8 @@ const ORDERS = {
     overdue: (one, other) => other.days - one.days || one.loan.localeCompare(other.loan),
 };
 
-// desk: { isEarly, keep(line), change(), further(line) }: what the round does where a line was changed or is to be paid
-// again.
+// desk: { isEarly, keep(line), change(), further(line), receipts(line) }: what the round does where a line was changed
+// or is to be paid again, and the links to its receipts, where it has such.
 export function lineTable(lines, desk) {
     const columns = [
         {words: say("loan")}, {words: say("client")}, {words: say("due-since")},
@@ -84,6 +84,7 @@ function paidField(line) {
         autocomplete: "off",
         enterkeyhint: "next",
         id: freshId("paid"),
+        "data-loan": line.loan,
         "aria-label": say("round.paid.by", {client: line.name, loan: line.loan}),
     });
     selectOnFocus(input);
@@ -169,7 +170,8 @@ function resultNodes(line, desk) {
         button(words, () => desk.further(line), {class: "btn btn-sm btn-outline-primary", disabled: line.isLocked});
     const wrong = line.text !== "" && line.cents === null &&
         element("div", {class: "line-refusal"}, say("field.money.wrong", {example: showMoney(123456n)}));
-    return [...paid, line.isSending ? say("sending") : ofLine(line.result), wrong, further].filter(Boolean);
+    const result = line.isSending ? say("sending") : ofLine(line.result);
+    return [...paid, result, wrong, further, ...(desk.receipts?.(line) ?? [])].filter(Boolean);
 }
 
 function ofLine(result) {

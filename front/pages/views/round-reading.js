@@ -52,6 +52,7 @@ async function readLine(place, instalments, draft) {
     const kept = isEntered || draft === undefined ? NO_DRAFT : draft;
     return {
         ...place,
+        client: told.client,
         name: await clientName(told.client),
         since,
         days: since === null ? 0 : Math.max(0, daysBetween(since, place.day)),

@@ -76,7 +76,7 @@ export async function sendLines(lines, reason, tell) {
 }
 
 // The core ignores who collected, and why; the log of the front keeps both.
-async function sendLine(line, reason) {
+export async function sendLine(line, reason) {
     const repayment = {amount: Number(line.cents), day: line.day, receipt: line.receipt};
     const more = Object.entries({collector: line.collector ?? "", reason}).filter(([, words]) => words !== "");
     try {
@@ -103,8 +103,8 @@ export function resultNode(result) {
     if (result === FORMULA) {
         return element("span", {class: "line-refusal", "data-result": result}, say("sheet.formula"));
     }
-    if (result === "lost") {
-        return element("span", {class: "badge status-waiting", "data-result": result}, say("result.lost"));
+    if (result === "lost" || result === "doubt") {
+        return element("span", {class: "badge status-waiting", "data-result": result}, say(`result.${result}`));
     }
     const isFault = /^F\d/.test(result);
     const {what, todo} = inWords(new Problem(isFault ? {fault: result} : {front: result}));
@@ -116,9 +116,9 @@ export function resultNode(result) {
 // how often lines came to what, in words
 export function tally(results) {
     const count = (name) => results.filter((result) => result === name).length;
-    const known = {entered: count("entered"), repeated: count("repeated"), lost: count("lost")};
-    const refused = results.filter(Boolean).length - known.entered - known.repeated - known.lost;
-    const counts = {entered: known.entered, repeated: known.repeated, refused, lost: known.lost};
+    const known = {entered: count("entered"), repeated: count("repeated"), lost: count("lost"), doubt: count("doubt")};
+    const refused = results.filter(Boolean).length - known.entered - known.repeated - known.lost - known.doubt;
+    const counts = {entered: known.entered, repeated: known.repeated, refused, lost: known.lost, doubt: known.doubt};
     return Object.entries(counts)
         .filter(([, number]) => number > 0)
         .map(([name, number]) => say(`tally.${name}`, {count: showCount(number)}))

@@ -9,17 +9,24 @@ export function settleLine(line) {
     const {receipt, cents, result, known} = line;
     const over = cents > line.owed ? cents - line.owed : 0n;
     line.results[receipt] = result;
-    line.payments.push(...paymentsOf(line, [{receipt, amount: cents, staff: session.staff, reversed: false}]));
+    const payment = {receipt, amount: cents, staff: session.staff, reversed: false, before: line.owed};
+    line.payments.push(...paymentsOf(line, [payment]));
     line.owed -= cents - over;
     line.due = line.due > cents ? line.due - cents : 0n;
     line.known = {...known, entries: known.entries + 1, owed: line.owed, overpaid: known.overpaid + over};
     Object.assign(line, {isFurther: false, text: "", cents: null, result: null});
 }
 
+// The desk doesn't tell what was left to pay before a payment: what this page knew of it stays.
+export function withBefore(payments, known) {
+    const before = new Map(known.map((one) => [one.receipt, one.before]));
+    return payments.map((one) => ({...one, before: before.get(one.receipt)}));
+}
+
 // reads again what the round has of a loan
 export async function renewLine(line) {
     const [told, entries] = await Promise.all([readLoan(line.loan), readEntries(line.loan)]);
-    line.payments = paymentsOf(line, entries);
+    line.payments = withBefore(paymentsOf(line, entries), line.payments);
     line.known = knownOf(told, entries);
     const paid = line.owed - line.known.owed;
     line.owed = line.known.owed;

@@ -1,0 +1,194 @@
+// Drafts of a round: a new client, an application, a note of a visit. They are kept on this phone, and the first two
+// become requests once a person sends them.
+import {alertBox, button, card, element, emptyState, fill, link} from "../shared/elements.js";
+import {ask, note} from "../shared/dialogs.js";
+import {choiceField, nameField, textField} from "../shared/forms.js";
+import {idOf, whenKeptChanges} from "../shared/kept.js";
+import {refusalBox} from "../shared/refusals.js";
+import {session} from "../shared/session.js";
+import {facts, pageHead} from "../shared/tables.js";
+import {say, showCount, showDay, showMoment, showMoney} from "../shared/words.js";
+import {loanFields} from "./client.js";
+import {changeDraft, sendDraft} from "./kept-draft-sending.js";
+import {changeRound, readRound} from "./kept-rounds.js";
+
+export function showDrafts(page, round) {
+    const place = element("div", {class: "drafts"});
+    const made = {round, place, answers: new Map()};
+    const mayEnter = round.mayEnter !== false;
+    const actions = [
+        mayEnter && button(say("client.new"), () => newClient(made)),
+        mayEnter && button(say("draft.loan"), () => newLoan(made)), button(say("draft.note"), () => newNote(made))
+    ];
+    const trail = [
+        [say("kept.title"), "#/kept"],
+        [say("kept.round", {day: showDay(round.day)}), `#/kept/${round.office}/${round.day}`]
+    ];
+    fill(page, pageHead({title: say("drafts.title"), trail, actions}), element("p", {}, say("drafts.what")), place);
+    const end = whenKeptChanges(() => (place.isConnected ? renew(made).catch(() => {}) : end()));
+    show(made);
+}
+
+async function renew(made) {
+    made.round = await readRound(idOf(made.round)) ?? made.round;
+    show(made);
+}
+
+function show(made) {
+    const drafts = made.round.drafts ?? [];
+    const cards = [...drafts].reverse().map((draft) => draftCard(made, draft));
+    fill(made.place, cards.length === 0 ? card(null, emptyState(say("drafts.none"))) : cards);
+}
+
+// clients
+
+// Whom a draft may be about: the clients of the round, and those that are drafts themselves.
+function clientChoices({round}) {
+    const known = round.lines.filter(({client}) => client).map(({client, name}) => [client, `${name} · ${client}`]);
+    const fresh = (round.drafts ?? []).filter(({kind}) => kind === "client").map(({id, name}) => [id, name]);
+    return [...new Map([...fresh, ...known])].sort(([, one], [, other]) => one.localeCompare(other));
+}
+
+function clientWords({round}, client) {
+    const line = round.lines.find((one) => one.client === client);
+    const draft = (round.drafts ?? []).find(({id}) => id === client);
+    return line ? `${line.name} · ${client}` : draft?.name ?? (client === "none" ? "–" : client);
+}
+
+// making them
+
+async function add(made, draft) {
+    const fresh = {id: crypto.randomUUID(), made: Date.now(), account: null, isSent: false, ...draft};
+    await changeRound(made.round, (kept) => ({drafts: [...(kept.drafts ?? []), fresh]}));
+}
+
+function newClient(made) {
+    const text = say("draft.client.what", {office: `${made.round.office} ${made.round.officeName}`});
+    return ask({
+        title: say("client.new"), text, action: say("draft.keep"), fields: {name: nameField({label: say("name")})},
+        send: ({name}) => add(made, {kind: "client", name})
+    });
+}
+
+async function newLoan(made) {
+    const choices = clientChoices(made);
+    if ((made.round.products ?? []).length === 0 || choices.length === 0) {
+        note(say("draft.no-product"));
+        return;
+    }
+    const client = choiceField({label: say("client"), choices, wide: true});
+    const fields = {client, ...loanFields(made.round.products)};
+    await ask({
+        title: say("draft.loan"), text: say("draft.loan.what"), action: say("draft.keep"), fields,
+        send: ({product, ...values}) => add(made, {kind: "loan", ...values, product: Number(product)})
+    });
+}
+
+function newNote(made) {
+    const fields = {
+        client: choiceField({label: say("client"), choices: [["none", "–"], ...clientChoices(made)], wide: true}),
+        words: textField({label: say("draft.words"), hint: say("draft.words.hint")})
+    };
+    return ask({
+        title: say("draft.note"), text: say("draft.note.what"), action: say("draft.keep"), fields,
+        send: ({client, words}) => add(made, {kind: "note", client, words})
+    });
+}
+
+// showing them
+
+function titleOf({kind}) {
+    return say(kind === "client" ? "client.new" : `draft.${kind}`);
+}
+
+function pairsOf(made, draft) {
+    const product = (made.round.products ?? []).find((one) => one.product === draft.product);
+    const pairs = {
+        client: () => [[say("name"), draft.name]],
+        loan: () => [
+            [say("client"), clientWords(made, draft.client)],
+            [say("product"), `${draft.product} ${product?.name ?? ""}`], [say("principal"), showMoney(draft.principal)],
+            [say("periods"), showCount(draft.periods)]
+        ],
+        note: () => [[say("client"), clientWords(made, draft.client)], [say("draft.words"), draft.words]]
+    };
+    return [...pairs[draft.kind](), [say("draft.made"), showMoment(draft.made)]];
+}
+
+function draftCard(made, draft) {
+    const answer = element("div", {"aria-live": "polite"}, made.answers.get(draft.id) ?? []);
+    const isOpen = draft.kind !== "note" && draft.account === null;
+    const actions = [
+        isOpen && button(say("draft.send"), () => send(made, draft.id), {
+            class: "btn btn-primary", disabled: session.staff === "" || made.isSending
+        }),
+        draft.kind === "note" && navigator.share && button(say("slip.share"), () => share(made, draft)),
+        button(say("round.drop"), () => drop(made, draft), {class: "btn btn-outline-danger", disabled: made.isSending})
+    ];
+    const node = card(
+        titleOf(draft), facts(pairsOf(made, draft)), element("p", {class: "fw-semibold mb-2"}, stateOf(draft)), answer,
+        element("div", {class: "page-actions"}, actions));
+    node.classList.add("mb-3", "draft");
+    return node;
+}
+
+// what became of a draft
+function stateOf({kind, account, isSent}) {
+    if (kind === "note") {
+        return say("draft.stays");
+    }
+    if (account !== null) {
+        const [key, place] = kind === "client" ? ["client.entered", "client"] : ["loan.submitted", "loan"];
+        return link(`#/${place}/${account}`, say(key, {[place]: account}));
+    }
+    return say(isSent ? "draft.unknown" : "draft.waits");
+}
+
+function share(made, draft) {
+    const text = pairsOf(made, draft).map(([words, value]) => `${words}: ${value}`).join("\n");
+    navigator.share({title: titleOf(draft), text}).catch(() => {});
+}
+
+async function drop(made, draft) {
+    await ask({
+        title: say("round.drop"), text: [say("draft.drop.what"), facts(pairsOf(made, draft))],
+        action: say("round.drop"), isGrave: true,
+        send: () => changeRound(
+            made.round, (kept) => ({drafts: kept.drafts.filter(({id}) => id !== draft.id)}))
+    });
+}
+
+// sending them
+
+// isSure: whether a person said that it is another one than those that stand
+async function send(made, id, isSure = false) {
+    made.isSending = true;
+    made.answers.delete(id);
+    show(made);
+    try {
+        const told = await sendDraft(made.round, id, isSure);
+        const isBusy = told === null;
+        made.answers.set(id, isBusy ? alertBox("info", say("kept.sends-already")) : alikeBox(made, id, told.alike));
+    } catch (problem) {
+        made.answers.set(id, refusalBox(problem));
+    } finally {
+        made.isSending = false;
+        await renew(made);
+    }
+}
+
+// What stands already and is alike: it may be the same, or another one.
+function alikeBox(made, id, alike) {
+    if (alike.length === 0) {
+        return null;
+    }
+    const isSame = async (account) => {
+        made.answers.delete(id);
+        await changeDraft(made.round, id, () => ({account}));
+    };
+    const lines = alike.map(({account, words}) => element(
+        "div", {class: "page-actions mb-2 align-items-center"}, element("span", {}, words),
+        button(say("draft.same"), () => isSame(account), {class: "btn btn-outline-primary"})));
+    const sure = button(say("draft.sure"), () => send(made, id, true), {class: "btn btn-danger"});
+    return alertBox("warning", element("p", {class: "fw-semibold"}, say("draft.alike")), lines, sure);
+}
