@@ -6,7 +6,7 @@ ghost use Rattle.sqlite.specs.State.{HasCleanDisk, KeepsCommit, Survives};
 ghost use Rattle.sqlite.specs.Held.{state};
 ghost use Rattle.mf_store_sql.specs.Numbered.{create_numbered, append_text};
 ghost use Rattle.mf_store_journal.specs.Table.{journal};
-ghost use Rattle.mf_store_journal.specs.Rows.{filed_kept};
+ghost use Rattle.mf_store_journal.specs.Rows.{filed_kept, filed_beginning};
 ghost use Rattle.mf_store_journal.specs.Adding.{MakesJournal, PutsLine, LeavesJournal, AddsLine};
 
 use crate::numbers::numbers_of;
@@ -40,6 +40,28 @@ pub fn make_journal<S: Alter>(tx: &mut Transaction<'_, S>) -> Result<(), Error>
     ensures survives { Survives (state S.Store tx.old.conn.now) (state S.Store tx.new.conn.now) (λ _. ⊥) }
 {
     make_numbered(tx, create_text())
+}
+
+/// The first row of a journal that begins here: it has the day and nothing else.
+pub fn beginning_row<'a>(head: Head) -> KeptRow<'a>
+    ensures { filed_kept result ≡ filed_beginning head }
+{
+    let chain = head.chain;
+    KeptRow {
+        number: head.number,
+        row: JournalRow {
+            day: head.day,
+            office: 0,
+            staff: 0,
+            told: b"",
+            method: b"",
+            path: b"",
+            body: b"",
+            named_office: 0,
+            named_loan: 0,
+        },
+        chain,
+    }
 }
 
 /// Puts a row at the end of the table, as a part of the transaction. It fails where a row has its number or one above

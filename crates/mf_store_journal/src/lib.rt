@@ -9,7 +9,7 @@ mod numbers;
 mod reading;
 mod rows;
 
-pub use adding::{add_line, make_journal, put_line};
+pub use adding::{add_line, beginning_row, make_journal, put_line};
 pub use checking::{Flaw, Found, check_journal};
 pub use reading::{Standing, read_head, rows_after};
 pub use rows::kept_row;
