@@ -1,0 +1,8 @@
+pub mod CallLemmas
+pub mod CheckLemmas
+pub mod FirstLemmas
+pub mod GoingLemmas
+pub mod RowsLemmas
+pub mod StandingLemmas
+pub mod TextsLemmas
+pub mod ThirdLemmas

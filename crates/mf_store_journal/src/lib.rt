@@ -1,0 +1,15 @@
+//! The journal's table: the lines of an institution's journal as rows, and the calls that make the table, put lines at
+//! its end, read them back and check that each follows on those before it, over any store that `sqlite` can change.
+#![tactic(auto)]
+
+mod adding;
+mod checking;
+pub mod laws;
+mod numbers;
+mod reading;
+mod rows;
+
+pub use adding::{add_line, beginning_row, make_journal, put_line};
+pub use checking::{Flaw, Found, check_journal};
+pub use reading::{Standing, read_head, rows_after};
+pub use rows::kept_row;
