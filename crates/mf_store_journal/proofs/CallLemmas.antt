@@ -1,6 +1,6 @@
 -- What the calls of numbered tables come to for the journal's.
-use Rattle.std.proofs.Common.{◌≡◌, ◌∙◌, ℕ, suc, pos, List, [], ◌∷◌, ◌++◌, map, take, filter, Option, Some, None}
-use Rattle.std.proofs.Common.{Result, Ok, Err, IfOk, OnOk, OnErr, IsTrue, inl, inr, refl, sym, ap, subst}
+use Rattle.std.proofs.Common.{◌≡◌, ◌∙◌, ℕ, suc, List, [], ◌∷◌, ◌++◌, Option, Some, None}
+use Rattle.std.proofs.Common.{Result, Ok, Err, IfOk, OnOk, IsTrue, inl, inr, refl, sym, ap, subst}
 use Rattle.std.specs.Prelude.{option_map}
 use Rattle.std.specs.List.{last_or}
 use Rattle.sqlite.specs.Effect.{Database}
@@ -11,10 +11,9 @@ use Rattle.sqlite.specs.Schema.{Schema}
 use Rattle.sqlite.specs.State.{State}
 use Rattle.sqlite.specs.Table.{Table}
 use Rattle.sqlite_keyed.proofs.ListLemmas.{all_of}
-use Rattle.mf_store_sql.specs.Numbered.{Filed, id_of, values_in, is_above, shown_filed, KeepsLines, create_numbered}
+use Rattle.mf_store_sql.specs.Numbered.{Filed, shown_filed, KeepsLines, create_numbered}
 use Rattle.mf_store_sql.specs.Numbered.{append_text, above_text, last_text}
 use Rattle.mf_store_sql.specs.NumberedMeanings.{MakesNumbered, AppendsLine, LeavesLines, ShowsAbove, ShowsLast}
-use Rattle.mf_store_sql.specs.Rows.{AreKeepable}
 use Rattle.mf_store_schema.specs.Tables.{schema}
 use Rattle.mf_model.specs.Institution.{JournalLine}
 use Rattle.mf_journal.specs.Chain.{line_of_row, link}
@@ -23,8 +22,7 @@ use Rattle.mf_journal.specs.declared.chain.JournalRow.{JournalRow}
 use Rattle.mf_journal.specs.declared.following.Head.{Head}
 use Rattle.mf_journal.specs.declared.following.KeptRow.{KeptRow}
 use Rattle.mf_store_journal.specs.Table.{journal, third_schema}
-use Rattle.mf_store_journal.specs.Texts.{first_text}
-use Rattle.mf_store_journal.specs.Rows.{values_of, filed_line, filed_kept, filed_at, head_with, head_with_all}
+use Rattle.mf_store_journal.specs.Rows.{filed_kept, filed_at, head_with, head_with_all}
 use Rattle.mf_store_journal.specs.Rows.{filed_beginning, journal_rows_in}
 use Rattle.mf_store_journal.specs.Adding.{KeepsJournal, MakesJournal, PutsLine, LeavesJournal, AddsLine}
 use Rattle.mf_store_journal.specs.Reading.{IsThird, IsKeeping, page_above}

@@ -1,13 +1,14 @@
 -- Rows that follow on one another, page by page.
-use Rattle.std.proofs.Common.{◌≡◌, ◌<ℤ◌, ◌≤◌, ℕ, ℤ, pos, zero, suc, ◌+◌, Bool, true, false, List, [], ◌∷◌, ◌++◌, map, filter, take}
-use Rattle.std.proofs.Common.{drop, length, slice_get, Option, Some, None, cond, refl, sym, ap, ap₂, ◌∙◌, subst, arith}
+use Rattle.std.proofs.Common.{◌≡◌, ◌<ℤ◌, ◌≤◌, ℕ, ℤ, pos, zero, suc, ◌+◌, true, false, List, [], ◌∷◌, ◌++◌}
+use Rattle.std.proofs.Common.{map, filter, take}
+use Rattle.std.proofs.Common.{drop, length, slice_get, Some, refl, sym, ap, ap₂, ◌∙◌, subst, arith}
 use Rattle.std.proofs.Common.{append-nil, append_assoc, int_cmp, is_lt}
 use Rattle.std.specs.List.{AllByRecursion}
 use Rattle.std.proofs.lemmas.Int.{ints}
 use Rattle.std.proofs.lemmas.List.{length-map, take_all, take-append-drop}
 use Rattle.sqlite.specs.Order.{Row}
 use Rattle.sqlite_keyed.specs.Keyed.{IsKeyedBy}
-use Rattle.mf_store_sql.specs.Numbered.{Filed, id_of, values_in, is_above, shown_filed}
+use Rattle.mf_store_sql.specs.Numbered.{Filed, id_of, is_above, shown_filed}
 use Rattle.mf_journal.specs.Following.{Follows, FollowOn, BreaksFirst, head_of, head_after}
 use Rattle.mf_journal.specs.declared.following.Break.{Break}
 use Rattle.mf_journal.specs.declared.following.Head.{Head}
@@ -124,7 +125,8 @@ so_far_more h rows place row now k next there shown follows is far =
         let at = at_place lines place row (ap (λ rs. slice_get rs place) (sym are) ∙ there) in
         let line_is : filed_kept k ≡ at.line = shown_once (filed_kept k) at.line (shown ∙ sym at.shown) in
         subst (λ l. AreFollowing h l next) (ap (λ l. take place lines ++ l ∷ []) line_is ∙ sym at.more)
-        (follow_both h now next (take place lines) (filed_kept k ∷ []) (far lines are) (follow_one now k next follows is))
+        (follow_both h now next (take place lines) (filed_kept k ∷ []) (far lines are)
+        (follow_one now k next follows is))
 
 pub so_far_all : (h : Head) (rows : List Row) (place : ℕ) (now : Head) → length rows ≤ place → SoFar h rows place now
     → (lines : List Filed) → rows ≡ map shown_filed lines → AreFollowing h lines now

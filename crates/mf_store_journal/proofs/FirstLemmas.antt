@@ -1,5 +1,5 @@
 -- What the query for the first row shows of the lines that the table keeps.
-use Rattle.std.proofs.Common.{◌≡◌, ℕ, ℤ, ◌<ℤ◌, ◌≤◌, true, List, [], ◌∷◌, map, filter, take, length, slice_get}
+use Rattle.std.proofs.Common.{◌≡◌, ℕ, ◌<ℤ◌, ◌≤◌, true, List, [], ◌∷◌, map, take, length, slice_get}
 use Rattle.std.proofs.Common.{Option, option_map, refl, sym, ap, ap₂, ◌∙◌, arith, subst, Less, IsPermutation}
 use Rattle.std.specs.List.{AllByRecursion}
 use Rattle.std.proofs.lemmas.List.Sorted.{IsPermutation-refl}
@@ -8,7 +8,7 @@ use Rattle.sqlite.specs.Effect.{Database, Reads}
 use Rattle.sqlite.specs.Listing.{understood, reads_listing}
 use Rattle.sqlite.specs.Order.{Row}
 use Rattle.sqlite.specs.Program.{overlay}
-use Rattle.sqlite.specs.Query.{Query, output_cmp, IsAnswerAs}
+use Rattle.sqlite.specs.Query.{output_cmp, IsAnswerAs}
 use Rattle.sqlite.specs.Term.{col, eval_all}
 use Rattle.sqlite.proofs.Callers.{IsPlain, command_of}
 use Rattle.sqlite_value.proofs.OrderLemmas.{then-Equal}
@@ -23,7 +23,7 @@ use Rattle.mf_store_sql.proofs.ColumnLemmas.{columns_at, columns_later, all_colu
 use Rattle.mf_store_sql.proofs.NumberedLemmas.{below_int, out, shows_lines}
 use Rattle.mf_store_journal.specs.Adding.{KeepsJournal}
 use Rattle.mf_store_journal.specs.Table.{journal}
-use Rattle.mf_store_journal.specs.Texts.{first_text, row_with_lowest}
+use Rattle.mf_store_journal.specs.Texts.{first_text}
 use Rattle.mf_store_journal.proofs.TextsLemmas.{is_journal}
 
 map_on : {A B : Type 0} (P : A → Type 0) (f g : A → B) → ((x : A) → P x → f x ≡ g x) → (xs : List A)

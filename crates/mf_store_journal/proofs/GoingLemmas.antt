@@ -1,5 +1,5 @@
 -- Calls that read the journal one after another, and what they find.
-use Rattle.std.proofs.Common.{◌≡◌, ℕ, arith, List, [], ◌∷◌, map, take, filter, pos, Option, Some, None, slice_get, IsTrue}
+use Rattle.std.proofs.Common.{◌≡◌, ℕ, arith, List, [], ◌∷◌, map, pos, Option, Some, None, slice_get, IsTrue}
 use Rattle.std.proofs.Common.{refl, sym, ap, ◌∙◌, subst}
 use Rattle.std.specs.Prelude.{◌<◌, ◌^◌, option_map, IfNone}
 use Rattle.sqlite.specs.declared.types.Value.TheVariants.{Int, Blob}
@@ -8,14 +8,13 @@ use Rattle.mf_store_schema.specs.Fields.{IsNumber, CanHold}
 use Rattle.sqlite.specs.Effect.{Database}
 use Rattle.sqlite.specs.Order.{Row}
 use Rattle.sqlite.specs.State.{State, HasCleanDisk}
-use Rattle.sqlite_keyed.specs.Keyed.{IsKeyedBy}
-use Rattle.mf_store_sql.specs.Numbered.{Filed, id_of, is_above, shown_filed}
+use Rattle.mf_store_sql.specs.Numbered.{Filed, shown_filed}
 use Rattle.mf_store_schema.specs.Schemas.{IsUnchangedUnder}
 use Rattle.mf_store_schema.proofs.ReadLemmas.{unchanged_then}
 use Rattle.mf_journal.specs.declared.following.Head.{Head}
 use Rattle.mf_store_journal.specs.Adding.{KeepsJournal}
 use Rattle.mf_store_journal.specs.Rows.{filed_beginning, IsLineRow}
-use Rattle.mf_store_journal.specs.Reading.{IsThird, IsKeeping, page_above, page_size}
+use Rattle.mf_store_journal.specs.Reading.{IsThird, IsKeeping, page_above}
 use Rattle.mf_store_journal.specs.Checking.{AreFollowing, StopsAt, CanBegin, IsFound}
 use Rattle.mf_store_journal.specs.declared.checking.Flaw.{Flaw}
 use Rattle.mf_store_journal.specs.declared.checking.Found.TheVariants.{Nothing, NoBeginning, Whole, Flawed}
@@ -83,7 +82,8 @@ module _ (beginning head : Head) (old now new : State) (rows : List Row) (going 
 
   -- none is left
   pub going_whole : rows ≡ [] → (HasCleanDisk new → IsTrue old.is_open) → HasCleanDisk new → (lines : List Filed)
-      → IsKeeping old lines → (rest : List Filed) → lines ≡ filed_beginning beginning ∷ rest → IsFound lines (Whole head)
+      → IsKeeping old lines → (rest : List Filed) → lines ≡ filed_beginning beginning ∷ rest
+      → IsFound lines (Whole head)
   going_whole none live clean lines keeps rest are =
       let k = keeps (live clean) in
       let all = passed_all beginning lines head (going.passed (kept.premise clean) lines k rest are)

@@ -1,6 +1,6 @@
 -- The rows of a journal: they tell it, each follows on those before it, and their numbers rise.
-use Rattle.std.proofs.Common.{◌≡◌, ◌≤◌, ◌<ℤ◌, ℕ, ℤ, pos, negsuc, suc, List, [], ◌∷◌, ◌++◌, map, Option, Some, None}
-use Rattle.std.proofs.Common.{refl, sym, ap, ap₂, ◌∙◌, subst, arith}
+use Rattle.std.proofs.Common.{◌≡◌, ◌≤◌, ◌<ℤ◌, ℕ, pos, suc, List, [], ◌∷◌, ◌++◌, map, Option, Some, None}
+use Rattle.std.proofs.Common.{refl, sym, ap, ap₂, ◌∙◌, arith}
 use Rattle.std.specs.Prelude.{IsSome}
 use Rattle.std.specs.List.{AllByRecursion}
 use Rattle.std.proofs.lemmas.Int.{ints}
@@ -16,7 +16,7 @@ use Rattle.mf_journal.specs.Following.{FollowOn, head_of, head_after, line_of}
 use Rattle.mf_journal.specs.declared.following.Head.{Head}
 use Rattle.mf_journal.specs.declared.following.KeptRow.{KeptRow}
 use Rattle.mf_store_journal.specs.Table.{journal}
-use Rattle.mf_store_journal.specs.Rows.{values_of, filed_line, filed_kept, filed_beginning, filed_at, head_with}
+use Rattle.mf_store_journal.specs.Rows.{values_of, filed_line, filed_kept, filed_at, head_with}
 use Rattle.mf_store_journal.specs.Rows.{head_with_all, filed_after, journal_rows_in}
 
 -- ---- what a row tells

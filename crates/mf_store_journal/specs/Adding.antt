@@ -1,7 +1,6 @@
 -- What the calls that add to the table come to.
-use Rattle.std.specs.Prelude.{◌≡◌, ◌⊎◌, ◌≤◌, ℕ, true, List, [], ◌∷◌, ◌++◌, Some, IsTrue}
+use Rattle.std.specs.Prelude.{◌≡◌, ◌⊎◌, ◌≤◌, true, List, [], ◌∷◌, ◌++◌, Some, IsTrue}
 use Rattle.sqlite.specs.Effect.{Database}
-use Rattle.sqlite.specs.Schema.{Schema}
 use Rattle.sqlite.specs.State.{State, IsRolledBack}
 use Rattle.mf_store_sql.specs.Numbered.{Filed, KeepsLines}
 use Rattle.mf_store_sql.specs.NumberedMeanings.{IsMade, IsAppended, IsLeft}

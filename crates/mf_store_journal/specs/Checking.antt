@@ -1,5 +1,5 @@
 -- What a check of the table's rows finds.
-use Rattle.std.specs.Prelude.{◌≡◌, ◌<◌, ◌^◌, ℕ, List, [], ◌∷◌, ◌++◌, map, length}
+use Rattle.std.specs.Prelude.{◌≡◌, ◌<◌, ◌^◌, List, [], ◌∷◌, ◌++◌, map, length}
 use Rattle.mf_store_sql.specs.Numbered.{Filed, shown_filed}
 use Rattle.mf_journal.specs.Following.{FollowOn, BreaksFirst, head_after}
 use Rattle.mf_journal.specs.declared.following.Head.{Head}

@@ -1,11 +1,10 @@
 -- What the calls that read the table show.
-use Rattle.std.specs.Prelude.{◌≡◌, ℕ, pos, List, [], ◌∷◌, ◌++◌, map, take, filter, IsTrue, Option, option_map, slice_get}
+use Rattle.std.specs.Prelude.{◌≡◌, ℕ, pos, List, [], ◌∷◌, ◌++◌, map, take, filter, IsTrue}
 use Rattle.sqlite.specs.Order.{Row}
 use Rattle.sqlite.specs.Schema.{Schema}
 use Rattle.sqlite.specs.State.{State}
 use Rattle.mf_store_sql.specs.Numbered.{Filed, id_of, is_above, shown_filed}
 use Rattle.mf_model.specs.Institution.{JournalLine}
-use Rattle.mf_journal.specs.declared.following.Head.{Head}
 use Rattle.mf_store_journal.specs.Table.{third_schema}
 use Rattle.mf_store_journal.specs.Rows.{filed_at, IsLineRow}
 use Rattle.mf_store_journal.specs.Adding.{KeepsJournal}

@@ -1,7 +1,7 @@
 -- A day's journal worked out, row by row.
 use Rattle.std.specs.Prelude.{◌≡◌, ℕ, List, [], ◌∷◌, map, pos, codes, Some, None}
 use Rattle.sqlite.specs.declared.types.Value.TheVariants.{Int, Blob}
-use Rattle.mf_store_sql.specs.Numbered.{Filed, shown_filed}
+use Rattle.mf_store_sql.specs.Numbered.{shown_filed}
 use Rattle.mf_model.specs.Institution.{JournalLine}
 use Rattle.mf_journal.specs.Chain.{link}
 use Rattle.mf_journal.specs.declared.following.Head.{Head}

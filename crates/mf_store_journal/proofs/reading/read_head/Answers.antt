@@ -1,4 +1,3 @@
-use Rattle.std.proofs.Common.{sym, subst}
 use Rattle.mf_store_journal.proofs.StandingLemmas.{nowhere}
 use Rattle.mf_store_journal.proofs.reading.read_head.Goals as goal
 

@@ -1,4 +1,4 @@
-use Rattle.std.proofs.Common.{ap, sym, subst}
+use Rattle.std.proofs.Common.{sym, subst}
 use Rattle.mf_store_journal.specs.Reading.{IsStanding}
 use Rattle.mf_store_journal.specs.declared.reading.Standing.TheVariants.{At}
 use Rattle.mf_store_journal.proofs.StandingLemmas.{at_line, unreadable}
