@@ -2,7 +2,7 @@
 import secrets
 
 from desk import Place, Refused, sum_of, sum_of_rows
-from etcd import INSTITUTION, LAST, LOG, WRITER, key_of
+from etcd import INSTITUTION, LAST, LOG, WRITER, Full, key_of
 
 GROUP = 100  # lines of one transaction: etcd takes 128 puts
 NEW = "new"  # what an institution begins with that was brought from nowhere
@@ -80,10 +80,16 @@ class Log:
         puts = [(key_of(number), value) for number, value in enumerate(values, first)]
         asked = [(WRITER, revision), (INSTITUTION, self.revision), (key_of(first), 0)]
         there = [key_of(first - 1)] if first > 1 else []
-        if self.etcd.put_where(asked, puts, there=there, within=self.patience):
-            return True
+        is_full = None
+        try:
+            if self.etcd.put_where(asked, puts, there=there, within=self.patience):
+                return True
+        except Full as why:
+            is_full = why  # of the put that fills it etcd says so too, and carries it out
         # an earlier try of the call may have put them; the transaction of another never carries this lease
         found = self.etcd.found(key_of(first), LOG + LAST, len(values), self.patience)
+        if is_full and not found:
+            raise is_full
         return [(key, value) for key, value, _ in found] == puts
 
 
