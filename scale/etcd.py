@@ -5,7 +5,7 @@ import json
 import ssl
 import time
 
-PATIENCE = 1  # seconds that one node is waited for
+PATIENCE, PASSWORD_PATIENCE = 1, 5  # seconds that one node is waited for; a password takes it longer
 WRITER, LOG, KEPT, LAST = "microloan/writer", "microloan/log/", "microloan/kept/", "~"
 INSTITUTION = "microloan/institution"
 
@@ -81,7 +81,8 @@ class Etcd:
             try:
                 if self.access.user and not self.token:
                     name, password = self.access.user
-                    self.token = self.exchange("/auth/authenticate", {"name": name, "password": password})[1]["token"]
+                    asked = {"name": name, "password": password}
+                    self.token = self.exchange("/auth/authenticate", asked, PASSWORD_PATIENCE)[1]["token"]
                 status, told = self.exchange(path, body)
                 if status in (200, 404):  # 404: it has no such lease
                     return told
@@ -95,9 +96,12 @@ class Etcd:
             time.sleep(0.05)
         raise Lost("told to end")
 
-    def exchange(self, path, body):
+    def exchange(self, path, body, patience=PATIENCE):
         """The status and the reply of the first node to a call."""
         self.connection = self.connection or self.access.connection(self.nodes[0])
+        if not self.connection.sock:
+            self.connection.connect()
+        self.connection.sock.settimeout(patience)
         fields = {"Authorization": self.token} if self.token else {}
         self.connection.request("POST", "/v3" + path, json.dumps(body), fields)
         reply = self.connection.getresponse()
