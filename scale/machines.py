@@ -1,8 +1,8 @@
 """Three machines as network namespaces with the addresses of docs/scale.md, for the trials beside this file.
 
-Machines a, b and c have 10.0.0.1 to 10.0.0.3; the front, in which a trial runs, has 10.0.0.9. A bridge of the front joins
-them. Each machine has a folder, a node of etcd and a replica, which is started again when it ends, as by systemd. It
-takes root, and etcd-server and iproute2 of Debian.
+Machines a, b and c have 10.0.0.1 to 10.0.0.3; the front, in which a trial runs, has 10.0.0.9. A bridge of the front
+joins them. Each machine has a folder, a node of etcd and a replica, which is started again when it ends, as by systemd.
+It takes root, and etcd-server and iproute2 of Debian.
 """
 import contextlib
 import os
@@ -72,7 +72,8 @@ class Machine:
     def etcd_words(self, state="new"):
         at = f"http://{self.address}"
         words = ["etcd", "--name", self.name, "--data-dir", os.path.join(self.folder, "etcd"), "--pre-vote"]
-        words += ["--log-level", "error", "--listen-client-urls", f"{at}:2379,http://127.0.0.1:2379", "--advertise-client-urls", f"{at}:2379"]
+        words += ["--log-level", "error", "--advertise-client-urls", f"{at}:2379"]
+        words += ["--listen-client-urls", f"{at}:2379,http://127.0.0.1:2379"]
         words += ["--listen-peer-urls", f"{at}:2380", "--initial-advertise-peer-urls", f"{at}:2380"]
         members = ",".join(f"{name}=http://{address}:2380" for name, address in NAMES.items())
         return [*words, "--initial-cluster", members, "--initial-cluster-state", state]
