@@ -4,6 +4,7 @@ folder that keeps copies of the file.
 Of the folder only what this module made is ever deleted: `kept-NUMBER` (a copy), `part` (a copy that was not finished)
 and `run-XXXXXXXX` (the file of a process), and of these only such as hold a desk's files and nothing else.
 """
+import contextlib
 import fcntl
 import hashlib
 import json
@@ -22,6 +23,7 @@ PROGRAM = os.environ.get("MICROLOAN", os.path.join(TOP, "microloan"))
 FILE, PLACE = "desk.db", "place.json"
 FILES = {FILE, FILE + "-wal", PLACE, PLACE + ".new"}
 NOTE_EVERY = 1  # seconds between two notes of a run's place
+READING = b"1/1 GET /business-day"
 MADE = re.compile("kept-[0-9]+|part|run-[a-z0-9_]{8}")
 
 
@@ -35,10 +37,11 @@ class Refused(Exception):
 
 class Place:
     """Where a copy stands: of which institution it is, how many lines of the log it holds, and the sum of the last of
-    them (None at 0). It lies beside the copy, so that it goes wherever the copy is taken."""
+    them (None at 0). `term` tells the last writer that it followed, by the revision of its key, and `wrote` whether it
+    was that writer's. It lies beside the copy, so that it goes wherever the copy is taken."""
 
-    def __init__(self, institution, number=0, line=None):
-        self.institution, self.number, self.line = institution, number, line
+    def __init__(self, institution, number=0, line=None, term=0, wrote=False):
+        self.institution, self.number, self.line, self.term, self.wrote = institution, number, line, term, wrote
 
     @staticmethod
     def beside(folder):
@@ -46,7 +49,8 @@ class Place:
         try:
             with open(os.path.join(folder, PLACE), encoding="utf-8") as file:
                 told = json.load(file)
-            return Place(told["institution"], told["number"], told["line"])
+            more = [told.get("term", 0), told.get("wrote", False)]
+            return Place(told["institution"], told["number"], told["line"], *more)
         except FileNotFoundError:
             return None
         except (ValueError, KeyError, TypeError):
@@ -127,10 +131,24 @@ class Folder:
                 shutil.rmtree(self.path_of(name), ignore_errors=True)
 
     def take(self, run, place):
-        """Makes a run's file, whose process has ended, the newest copy, whole or not at all."""
+        """Makes a run's file, whose process has ended, the newest copy."""
+        os.rename(run, self.path_of("part"))
+        self.settle(place)
+
+    def take_copy(self, run, place):
+        """Makes a copy of a run's file, whose process waits for its next line, the newest copy."""
+        part = self.path_of("part")
+        if "part" in self.made():
+            shutil.rmtree(part)
+        os.mkdir(part)
+        files = [os.path.join(run, name) for name in os.listdir(run) if name in (FILE, FILE + "-wal")]
+        subprocess.run(["cp", "--reflink=auto", *files, part], check=True)
+        self.settle(place)
+
+    def settle(self, place):
+        """Makes what stands in `part` the newest copy, whole or not at all."""
         part, before = self.path_of("part"), self.copy()
-        place.write(run)
-        os.rename(run, part)
+        place.write(part)
         for path in [os.path.join(part, name) for name in os.listdir(part)] + [part]:
             with_file(path, os.fsync)
         os.rename(part, self.path_of(f"kept-{place.number}"))
@@ -156,8 +174,9 @@ class Desk:
         self.earlier = set(folder.runs())  # to be kept until a newer copy stands
         copy = folder.copy()
         place = (copy and Place.beside(copy)) or Place(institution)
-        self.number, self.line = place.number, place.line
-        self.asked_at = None  # since when it owes an answer
+        self.number, self.line, self.term, self.wrote = place.number, place.line, place.term, False
+        self.busy_since = None  # since when it, or its disk, is waited for
+        self.answered_at = time.monotonic()
         folder.sweep(runs=set())
         self.start()
 
@@ -171,47 +190,68 @@ class Desk:
             shutil.copytree(copy, self.run, dirs_exist_ok=True, ignore=shutil.ignore_patterns(PLACE))
             words.append("--existing")
         self.process = subprocess.Popen(words, stdin=subprocess.PIPE, stdout=subprocess.PIPE, start_new_session=True)
-        self.answer(b"1/1 GET /business-day")
+        self.exchange(READING)
 
-    def answer(self, line):
-        """The reply to a reading, or to a line that `feed` counts."""
-        self.asked_at = time.monotonic()
+    def exchange(self, line):
         try:
             self.process.stdin.write(line + b"\n")
             self.process.stdin.flush()
         except OSError:
             raise DeskFailed("it ended") from None
         reply = self.process.stdout.readline()
-        self.asked_at = None
         if not reply.endswith(b"\n") or reply.startswith(GIVEN_UP):
             raise DeskFailed(f"it answered {reply[:40]}")
+        self.answered_at = time.monotonic()
         return reply[:-1]
 
-    def feed(self, value, line):
-        """The reply to the next line of the log, which stands there as `value`."""
-        reply = self.answer(line)
+    @contextlib.contextmanager
+    def waited_for(self):
+        self.busy_since = time.monotonic()
+        try:
+            yield
+        finally:
+            self.busy_since = None
+
+    def answer(self, line):
+        """The reply to a reading, or to a line that is counted by `count` where it changes something."""
+        with self.waited_for():
+            return self.exchange(line)
+
+    def count(self, value):
+        """Takes note that the line just answered is the next one of the log, where it stands as `value`."""
         self.number, self.line = self.number + 1, sum_of(value)
-        return reply
 
     def is_silent(self, seconds):
-        """Whether it has owed an answer for longer than so many seconds."""
-        asked_at = self.asked_at
-        return asked_at is not None and time.monotonic() - asked_at > seconds
+        """Whether it, or its disk, has been waited for longer than so many seconds."""
+        busy_since = self.busy_since
+        return busy_since is not None and time.monotonic() - busy_since > seconds
 
-    def note(self):
+    def place(self):
+        return Place(self.institution, self.number, self.line, self.term, self.wrote)
+
+    def note(self, now=False):
         """Notes now and then how far the file is at least. It is called first where the desk has followed the log to
         its end, and from then on the file is worth keeping (`Folder.runs`)."""
-        if self.noted_at is None or time.monotonic() - self.noted_at > NOTE_EVERY:
-            Place(self.institution, self.number, self.line).write(self.run)
+        if now or self.noted_at is None or time.monotonic() - self.noted_at > NOTE_EVERY:
+            with self.waited_for():
+                self.place().write(self.run)
             self.noted_at = time.monotonic()
 
     def keep(self):
-        """Ends the process and keeps a copy of its file. Files of earlier processes are older than that."""
+        """Keeps a copy of the file. (The process owes no answer, and does nothing but wait for its next line: each
+        change was written and synced before its reply.) Files of earlier processes are older than that."""
+        if self.number > self.folder.kept:
+            self.folder.take_copy(self.run, self.place())
+        if self.noted_at is not None:
+            self.folder.sweep(runs=self.earlier)
+            self.earlier = set()
+
+    def end(self):
+        """Ends the process and keeps its file."""
         self.process.stdin.close()
         if self.process.wait() != 0:
             raise DeskFailed(f"it ended with status {self.process.returncode}")
         if self.number > self.folder.kept:
-            self.folder.take(self.run, Place(self.institution, self.number, self.line))
+            self.folder.take(self.run, self.place())
         if self.noted_at is not None:
             self.folder.sweep(runs=self.earlier | {os.path.basename(self.run)})
-            self.earlier = set()

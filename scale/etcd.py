@@ -5,13 +5,21 @@ import json
 import ssl
 import time
 
-PATIENCE = 2  # seconds that one node is waited for
+PATIENCE, PASSWORD_PATIENCE = 1, 5  # seconds that one node is waited for; a password takes it longer
 WRITER, LOG, KEPT, LAST = "microloan/writer", "microloan/log/", "microloan/kept/", "~"
 INSTITUTION = "microloan/institution"
 
 
 class Lost(Exception):
     """This process can't go on: it was told to end, or another is the writer."""
+
+
+class Full(Lost):
+    """etcd has no room: it answers readings alone."""
+
+
+class NoAnswer(Exception):
+    """No node gave an answer in time. What was asked for may be carried out all the same."""
 
 
 def encoded(text):
@@ -63,18 +71,23 @@ class Etcd:
         self.access, self.nodes, self.stopping = access, list(access.nodes), stopping
         self.connection = self.token = None
 
-    def call(self, path, body):
-        """Asks one node after the other until one answers. So a call may be carried out more than once."""
+    def call(self, path, body, within=None):
+        """Asks one node after the other until one answers, for so many seconds where they are given. So a call may be
+        carried out more than once."""
+        end = within and time.monotonic() + within
         while not self.stopping.is_set():
+            if end and time.monotonic() > end:
+                raise NoAnswer
             try:
                 if self.access.user and not self.token:
                     name, password = self.access.user
-                    self.token = self.exchange("/auth/authenticate", {"name": name, "password": password})[1]["token"]
+                    asked = {"name": name, "password": password}
+                    self.token = self.exchange("/auth/authenticate", asked, PASSWORD_PATIENCE)[1]["token"]
                 status, told = self.exchange(path, body)
                 if status in (200, 404):  # 404: it has no such lease
                     return told
                 if status < 500 and status != 401:
-                    raise Lost(f"etcd refuses {path}: {told.get('error')}")
+                    raise (Full if status == 429 else Lost)(f"etcd refuses {path}: {told.get('error')}")
             except (OSError, http.client.HTTPException, ValueError, KeyError):
                 pass
             self.connection = self.connection and self.connection.close()
@@ -83,26 +96,29 @@ class Etcd:
             time.sleep(0.05)
         raise Lost("told to end")
 
-    def exchange(self, path, body):
+    def exchange(self, path, body, patience=PATIENCE):
         """The status and the reply of the first node to a call."""
         self.connection = self.connection or self.access.connection(self.nodes[0])
+        if not self.connection.sock:
+            self.connection.connect()
+        self.connection.sock.settimeout(patience)
         fields = {"Authorization": self.token} if self.token else {}
         self.connection.request("POST", "/v3" + path, json.dumps(body), fields)
         reply = self.connection.getresponse()
         return reply.status, json.loads(reply.read())
 
-    def found(self, first, last=None, limit=0):
+    def found(self, first, last=None, limit=0, within=None):
         """The keys from one to another, with the values and the revisions that made them, as a majority has them."""
         body = {"key": encoded(first), "limit": limit} | ({"range_end": encoded(last)} if last else {})
-        rows = self.call("/kv/range", body).get("kvs", [])
+        rows = self.call("/kv/range", body, within).get("kvs", [])
         text = base64.b64decode
         return [(text(row["key"]).decode(), text(row.get("value", "")), int(row["create_revision"])) for row in rows]
 
-    def put_where(self, revisions, puts, lease=0, there=()):
+    def put_where(self, revisions, puts, lease=0, there=(), within=None):
         """Puts all, where each of these keys was made at this revision (0: isn't there), and those of `there` stand;
         tells whether it did."""
         compare = [{"key": encoded(key), "target": "CREATE", "create_revision": at} for key, at in revisions]
         compare += [{"key": encoded(key), "target": "CREATE", "result": "GREATER"} for key in there]
         puts = [{"key": encoded(key), "value": encoded(value), "lease": lease} for key, value in puts]
         asked = {"compare": compare, "success": [{"request_put": put} for put in puts]}
-        return self.call("/kv/txn", asked).get("succeeded", False)
+        return self.call("/kv/txn", asked, within).get("succeeded", False)

@@ -5,6 +5,7 @@ import re
 import threading
 
 LONGEST_LINE, LONGEST_BODY = 65536, 1048576
+SLOWEST = 10  # seconds that a client is waited for: whatever is in front sends whole messages
 MALFORMED, GIVEN_UP = b'400 {"fault":"F1"}', b'503 {"fault":"F20"}'
 
 
@@ -23,6 +24,7 @@ class Handler(http.server.BaseHTTPRequestHandler):
     """A connection, which carries one message."""
 
     protocol_version = "HTTP/1.1"
+    timeout = SLOWEST
 
     def message(self):
         """The line of the message; none where it is malformed, or longer than a line may be."""
@@ -38,9 +40,17 @@ class Handler(http.server.BaseHTTPRequestHandler):
         line = line_of(*[word.encode("latin-1") for word in words], body)
         return line if len(body) == int(lengths[0]) and len(line) <= LONGEST_LINE else None
 
+    def seen(self):
+        """The number of the log's line that the sender has seen the effect of; none where the message doesn't say."""
+        told = self.headers.get("Log-Number", "")
+        return int(told) if re.fullmatch("[0-9]{1,15}", told) else None
+
     def answer(self):
+        told = self.server.health and self.server.health(self.path)
+        if told:
+            return self.tell(told)
         line = self.message()
-        told, more = self.server.answer(line) if line is not None else (MALFORMED, [])
+        told, more = self.server.answer(line, self.seen()) if line is not None else (MALFORMED, [])
         if told is not None:
             self.tell(told, more)
 
@@ -69,15 +79,17 @@ class Handler(http.server.BaseHTTPRequestHandler):
 
 class Server(http.server.ThreadingHTTPServer):
     request_queue_size = 1024
+    daemon_threads = block_on_close = False  # a process that ends tells first what was answered
 
     def handle_error(self, request, address):
         """A client that went away is no fault of the server's."""
 
 
-def serve(address, port, answer):
+def serve(address, port, answer, health=None):
     """Listens on an address and a port. `answer` gives a line's reply, or None for no response, and further fields of
-    the response; many threads call it."""
+    the response; many threads call it. `health` gives the reply to a path that is no request of the program's, or None
+    where it is one."""
     server = Server((address, port), Handler)
-    server.answer = answer
+    server.answer, server.health = answer, health
     threading.Thread(target=server.serve_forever, args=(0.05,), daemon=True).start()
     return server

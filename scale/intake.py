@@ -1,0 +1,78 @@
+"""Messages that wait for the one thread of a replica's desk."""
+import concurrent.futures
+import queue
+import threading
+import time
+
+from log import GROUP
+from messages import GIVEN_UP
+
+GROUP_BYTES = 1000000  # of the lines of one transaction: etcd takes 1.5 MB
+
+
+class Message:
+    """A line, and the number of the log's line that its sender has seen the effect of; None where it doesn't say."""
+
+    def __init__(self, line, seen=None):
+        self.line, self.seen, self.came_at = line, seen, time.monotonic()
+        self.reply = concurrent.futures.Future()
+
+    def is_reading(self):
+        return self.line.split(b" ", 2)[1] == b"GET"
+
+    def is_changed_by(self, told):
+        """Whether the reply says that the institution was changed: a refused request and a reading change nothing."""
+        return not self.is_reading() and told.startswith(b"2")
+
+    def tell(self, number, told):
+        """Gives the reply behind a line of the log; None: whether it is carried out isn't known, so there is none."""
+        if not self.reply.done():
+            self.reply.set_result((number, told))
+
+
+class Intake:
+    """The messages, in the order in which they came. One that has waited for as long as a client does is refused, and
+    not carried out."""
+
+    def __init__(self, patience):
+        self.patience, self.waiting = patience, queue.Queue()
+        self.lock, self.is_open = threading.Lock(), True
+
+    def ask(self, line, seen=None):
+        """Waits for what a message is told. (Each connection has its thread.)"""
+        message = Message(line, seen)
+        with self.lock:
+            if not self.is_open:
+                return GIVEN_UP, []
+            self.waiting.put(message)
+        number, told = message.reply.result()
+        return told, [("Log-Number", number)]
+
+    def ask_reading(self, line, seen=None):
+        return self.ask(line, seen) if Message(line).is_reading() else (GIVEN_UP, [])
+
+    def take(self, wait, number):
+        """The messages that wait, as many as one transaction takes; none where none comes in so many seconds."""
+        group, size = [], 0
+        try:
+            while len(group) < GROUP and size < GROUP_BYTES:
+                message = self.waiting.get(timeout=0 if group else wait)
+                if not self.refused_as_late(message, number):
+                    group.append(message)
+                    size += len(message.line)
+        except queue.Empty:
+            pass
+        return group
+
+    def refused_as_late(self, message, number):
+        is_late = time.monotonic() - message.came_at > self.patience
+        if is_late:
+            message.tell(number, GIVEN_UP)
+        return is_late
+
+    def close(self, number):
+        """Takes no more messages, and refuses those that wait."""
+        with self.lock:
+            self.is_open = False
+        while not self.waiting.empty():
+            self.waiting.get().tell(number, GIVEN_UP)

@@ -1,0 +1,101 @@
+"""The log of request lines in etcd, and the institution whose log it is."""
+import secrets
+
+from desk import Place, Refused, sum_of, sum_of_rows
+from etcd import INSTITUTION, LAST, LOG, WRITER, Full, key_of
+
+GROUP = 100  # lines of one transaction: etcd takes 128 puts
+NEW = "new"  # what an institution begins with that was brought from nowhere
+
+
+class Log:
+    """The log in etcd, and the institution whose log it is."""
+
+    def __init__(self, etcd, patience):
+        self.etcd, self.patience = etcd, patience
+        self.institution = self.beginning = self.revision = None
+
+    def join(self, folder):
+        """Makes sure that the folder's newest copy is of this log's institution; founds one where neither holds any."""
+        known = self.etcd.found(INSTITUTION)
+        if not known:
+            self.found_institution(folder)
+            known = self.etcd.found(INSTITUTION)
+        self.institution, self.beginning = known[0][1].decode().split()
+        self.revision = known[0][2]
+        copy = folder.copy()
+        place = copy and Place.beside(copy)
+        if place is None and folder.kept == 0:
+            self.join_at_beginning(folder, copy)
+        elif place is None or place.number != folder.kept:
+            raise Refused(f"{copy} doesn't say that it holds {folder.kept} lines: it was renamed, or made by hand")
+        elif place.institution != self.institution:
+            raise Refused(f"{copy} is of another institution than the log in etcd")
+        for name, place in folder.runs().items():
+            if place.institution != self.institution:
+                raise Refused(f"{folder.path_of(name)} is of another institution than the log in etcd")
+            if place.number > folder.kept:
+                self.after(place.number, place.line)
+
+    def found_institution(self, folder):
+        """Makes a name for the institution that begins here. Where the folder or the log holds something already, it
+        began elsewhere, and the name was lost with etcd's data."""
+        copy = folder.copy()
+        used = [name for name in folder.made() if Place.beside(folder.path_of(name))]
+        if used or folder.kept:
+            raise Refused(f"etcd is new or lost its data: it knows no institution, and {folder.path} followed its log")
+        if self.etcd.found(LOG, LOG + LAST, 1):
+            raise Refused("the log in etcd has lines, and no institution: it was begun by an older scale/replica")
+        beginning = sum_of_rows(copy) if copy else NEW
+        self.etcd.put_where([(INSTITUTION, 0)], [(INSTITUTION, f"{secrets.token_hex(16)} {beginning}")])
+
+    def join_at_beginning(self, folder, copy):
+        """A folder that has followed nothing yet begins as all others did."""
+        begins = sum_of_rows(copy) if copy else NEW
+        if begins != self.beginning:
+            wanted = "a new institution" if self.beginning == NEW else "an institution that was brought in"
+            brought = "another one" if copy else "nothing"
+            raise Refused(f"the log began with {wanted}, and {folder.path} holds {brought}: copy a kept folder here")
+        if copy:
+            Place(self.institution).write(copy)
+
+    def after(self, number, known_sum, within=None):
+        """The next values behind a number, each with its line. The value at the number must be the one that was
+        followed: else this is another log, or one that has lost its end."""
+        found = self.etcd.found(key_of(max(number, 1)), LOG + LAST, GROUP + 1, within)
+        if number:
+            if not found:
+                raise Refused(f"the log ends before line {number}, which was followed: etcd has lost lines")
+            if found[0][0] == key_of(number) and sum_of(found[0][1]) != known_sum:
+                raise Refused(f"line {number} of the log is not the one that was followed: etcd has lost lines")
+        keys = [key for key, _, _ in found]
+        first = max(number, 1)
+        if keys != [key_of(place) for place in range(first, first + len(keys))]:
+            raise Refused(f"the log has no line {first}, or one behind it: copy a newer kept folder of another replica")
+        return [(value, line_in(key, value)) for key, value, _ in found[bool(number) :]]
+
+    def append(self, revision, first, values):
+        """Puts values at the end of the log, which must be that of this institution, end before `first`, and have the
+        writer whose key was made at `revision`. It tells whether they stand there; NoAnswer where that isn't known."""
+        puts = [(key_of(number), value) for number, value in enumerate(values, first)]
+        asked = [(WRITER, revision), (INSTITUTION, self.revision), (key_of(first), 0)]
+        there = [key_of(first - 1)] if first > 1 else []
+        is_full = None
+        try:
+            if self.etcd.put_where(asked, puts, there=there, within=self.patience):
+                return True
+        except Full as why:
+            is_full = why  # of the put that fills it etcd says so too, and carries it out
+        # an earlier try of the call may have put them; the transaction of another never carries this lease
+        found = self.etcd.found(key_of(first), LOG + LAST, len(values), self.patience)
+        if is_full and not found:
+            raise is_full
+        return [(key, value) for key, value, _ in found] == puts
+
+
+def line_in(key, value):
+    """The request line of a value of the log, which stands behind the lease that it was put under."""
+    lease, _, line = value.partition(b" ")
+    if not lease.isdigit() or not line or b"\n" in line:
+        raise Refused(f"{key} is no line: {value[:60]}")
+    return line
