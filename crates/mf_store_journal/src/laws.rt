@@ -51,8 +51,8 @@ pub fn the_head_is_read()
         → head ≡ head_with_all h ls }
 {}
 
-/// The texts make the table beside today's, put a row at its end, and show the first row, the last one and those above a
-/// number.
+/// The texts make the table beside today's, put a row at its end, and show the first row, the last one, and those
+/// above a number.
 pub fn texts_of_the_journal()
     ensures texts { HasTexts }
     ensures meaning { IsJournal }
