@@ -86,7 +86,7 @@ class Etcd:
                 status, told = self.exchange(path, body)
                 if status in (200, 404):  # 404: it has no such lease
                     return told
-                if status < 500 and status != 401:
+                if status < 500 and status not in (401, 408):  # 408: a node that is ending cancels its calls
                     raise (Full if status == 429 else Lost)(f"etcd refuses {path}: {told.get('error')}")
             except (OSError, http.client.HTTPException, ValueError, KeyError):
                 pass
