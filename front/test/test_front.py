@@ -325,8 +325,14 @@ class Messages(unittest.TestCase):
         logged = len(DESK.log)
         self.assertEqual(DESK.send("tom", "POST", "/api/clients", {"office": 2, "name": "No"})[0], 403)
         self.assertEqual(DESK.send("zoe", "GET", "/api/offices")[0], 200)
-        lines = desk_wait(lambda: DESK.log[logged + 1 :] and DESK.log[logged:])
-        self.assertEqual({line["method"]: line["reply"] for line in lines}, {"POST": '{"fault":"F3"}', "GET": ""})
+        mine = {("tom", "POST"): '{"fault":"F3"}', ("zoe", "GET"): ""}  # a line of the test before may come late
+
+        def replies():
+            found = {(line["user"], line["method"]): line["reply"] for line in DESK.log[logged:]}
+            return {key: found[key] for key in mine if key in found}
+
+        desk_wait(lambda: len(replies()) == len(mine))
+        self.assertEqual(replies(), mine)
 
     def test_whom_nobody_checked_is_in_a_log_of_its_own(self):
         logged = len(DESK.log)
