@@ -9,7 +9,7 @@ use Rattle.sqlite.specs.declared.error.Error.{Error}
 use Rattle.sqlite.proofs.Callers.{IsPlain}
 use Rattle.sqlite.proofs.StateLemmas.{survives_then}
 use Rattle.sqlite_keyed.proofs.ListLemmas.{slice_get-filter}
-use Rattle.mf_store_schema.specs.Tables.{schema}
+use Rattle.mf_store_schema.specs.Tables.{schema_keeping, IsPresent}
 use Rattle.mf_store_sql.specs.Queries.{Answers}
 use Rattle.mf_store_sql.specs.Writes.{Ran, Serves}
 use Rattle.mf_store_schema.specs.Rows.{Lists}
@@ -33,12 +33,13 @@ module _ (was is : State) where
         ];
   }
 
-  plain_then : (sql : List ℕ) → IsPlain (understood schema sql) → was.now.schema ≡ schema
-      → IsPlain (understood was.now.schema sql)
-  plain_then sql plain ours = subst (λ k. IsPlain (understood k sql)) (sym ours) plain
+  plain_then : (sql : List ℕ) → ((journaled : Bool) → IsPlain (understood (schema_keeping journaled) sql))
+      → IsPresent was.now.schema → IsPlain (understood was.now.schema sql)
+  plain_then sql plain ours = subst (λ k. IsPlain (understood k sql)) (sym ours.1) (plain ours.0)
 
   -- a plain text changes nothing
-  pub unchanged : (sql : List ℕ) → IsPlain (understood schema sql) → (HasCleanDisk is → IsTrue is.is_open
+  pub unchanged : (sql : List ℕ) → ((journaled : Bool) → IsPlain (understood (schema_keeping journaled) sql))
+      → (HasCleanDisk is → IsTrue is.is_open
       → IsPlain (understood was.now.schema sql) → is.now ≡ was.now) → (HasCleanDisk is → IsTrue is.is_open
       → IsTrue was.is_open)
       → Survives was is (λ _. IsTrue was.is_open × ¬ IsPlain (understood was.now.schema sql)) → IsAsBefore was is

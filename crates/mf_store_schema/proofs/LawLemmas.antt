@@ -102,16 +102,17 @@ upgrades_first meta is ss lists can =
       fit = (
         refl,
         instalments_fit (map (λ x. Put (PutShare x)) ss ++ (Put (PutMeta meta) ∷ [])) is
-            (record lists { instalments = []; shares = [] }) (λ more. shares_fit (Put (PutMeta meta) ∷ []) ss
-            (record lists { instalments = more; shares = [] }) (λ others. (refl, tt))),
+            (record lists { instalments = []; shares = []; journal = [] }) (λ more. shares_fit (Put (PutMeta meta) ∷ []) ss
+            (record lists { instalments = more; shares = []; journal = [] }) (λ others. (refl, tt))),
       );
       become =
           instalments_become (map (λ x. Put (PutShare x)) ss ++ (Put (PutMeta meta) ∷ [])) is
-          (record lists { instalments = []; shares = [] })
+          (record lists { instalments = []; shares = []; journal = [] })
           ∙ shares_become (Put (PutMeta meta) ∷ []) ss (record lists {
             instalments = put_each by_instalment
                 by_instalment_total is [];
             shares = [];
+            journal = [];
           })
           ∙ (λ t. Own (Some (record lists {
             meta = (ap (put_item by_meta meta) can.one
@@ -119,5 +120,6 @@ upgrades_first meta is ss lists can =
             instalments = put_all by_instalment by_instalment_total is
                 can.instalments_rise t;
             shares = put_all by_share by_share_total ss can.shares_rise t;
+            journal = [];
           })));
     }

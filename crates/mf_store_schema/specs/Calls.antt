@@ -5,7 +5,7 @@ use Rattle.sqlite.specs.Order.{Row}
 use Rattle.sqlite.specs.State.{State, HasCleanDisk}
 use Rattle.mf_store_sql.specs.Queries.{Answers}
 use Rattle.mf_store_sql.specs.Writes.{Serves}
-use Rattle.mf_store_schema.specs.Tables.{schema}
+use Rattle.mf_store_schema.specs.Tables.{IsPresent}
 use Rattle.mf_store_schema.specs.Rows.{Lists}
 use Rattle.mf_store_schema.specs.Writes.{schema_of, Holds}
 
@@ -24,9 +24,9 @@ OnlyFaultsShut old new = (faults : ℕ) → faults < 2 ^ 64 - 1 → IsOpenUpTo f
 pub record IsAsBefore (old new : State) : Type 0 where
   pub premise : HasCleanDisk new → HasCleanDisk old
   pub was_open : HasCleanDisk new → IsTrue new.is_open → IsTrue old.is_open
-  pub same : HasCleanDisk new → IsTrue new.is_open → old.now.schema ≡ schema → new.now ≡ old.now
+  pub same : HasCleanDisk new → IsTrue new.is_open → IsPresent old.now.schema → new.now ≡ old.now
   pub shuts : OnlyFaultsShut old new
-  pub stop : HasCleanDisk new → (IsTrue old.is_open → old.now.schema ≡ schema) → (trees : Trees) → new.may_leave trees
+  pub stop : HasCleanDisk new → (IsTrue old.is_open → IsPresent old.now.schema) → (trees : Trees) → new.may_leave trees
       → old.may_leave trees
 
 -- while the connection is open, the tables keep these lists

@@ -1,5 +1,5 @@
 -- What the texts of loans mean, how its rows are ordered, and that its columns hold their values.
-use Rattle.std.specs.Prelude.{◌≡◌, take}
+use Rattle.std.specs.Prelude.{◌≡◌, Bool, true, false, take}
 use Rattle.std.proofs.Common.{inl, inr, refl, rules}
 use Rattle.sqlite_tied.specs.Compute.{everything}
 use Rattle.sqlite.specs.Listing.{understood}
@@ -7,7 +7,7 @@ use Rattle.mf_store_sql.specs.Making.{IsDefined}
 use Rattle.mf_store_sql.specs.Meanings.{Asks, IsKept}
 use Rattle.mf_store_sql.specs.Rows.{AreKeepable, first_cmp}
 use Rattle.mf_store_schema.specs.Keys.{two_numbers}
-use Rattle.mf_store_schema.specs.Tables.{schema, tables, made, loans}
+use Rattle.mf_store_schema.specs.Tables.{schema_keeping, tables, made, loans}
 use Rattle.mf_store_schema.specs.Versions.{schema_at}
 use Rattle.mf_store_schema.specs.Whole.{IsAskable}
 use Rattle.mf_store_schema.specs.declared.versions.Version.{Version}
@@ -15,9 +15,23 @@ use Rattle.mf_store_schema.specs.declared.versions.Version.TheVariants.{First, S
 use Rattle.mf_store_schema.specs.Rows.{loan_row, by_loan}
 use Rattle.mf_store_schema.specs.declared.loans.LoanRow.{LoanRow}
 
-pub kept : IsKept schema 6 13 loans
+pub kept : (journaled : Bool) → IsKept (schema_keeping journaled) 6 13 loans
 unfolding understood everything
-kept = record {
+kept false = record {
+  there = refl;
+  quiet = λ keys olds news. refl;
+  always = refl;
+  index = inr (inr (inr (inr (inr (inr (inr (inl refl)))))));
+  guards_it = refl;
+  alone = λ new row. refl;
+  apart = refl;
+  under = λ trees. refl;
+  adds = record { plain = (refl, refl); is = refl };
+  puts = record { plain = (refl, refl); is = refl };
+  finds = record { plain = (refl, refl); unlisted = refl; is = refl };
+  shows = record { plain = (refl, refl); unlisted = refl; is = refl };
+}
+kept true = record {
   there = refl;
   quiet = λ keys olds news. refl;
   always = refl;
@@ -32,15 +46,16 @@ kept = record {
   shows = record { plain = (refl, refl); unlisted = refl; is = refl };
 }
 
-pub lists_by_1 : Asks schema 6 13 loans 1
+pub lists_by_1 : (journaled : Bool) → Asks (schema_keeping journaled) 6 13 loans 1
 unfolding understood everything
-lists_by_1 = record { plain = (refl, refl); unlisted = refl; is = refl }
+lists_by_1 false = record { plain = (refl, refl); unlisted = refl; is = refl }
+lists_by_1 true = record { plain = (refl, refl); unlisted = refl; is = refl }
 
 -- the schema of each version
 pub asked : (v : Version) → IsAskable (schema_at v) 6 13 loans
 unfolding understood everything
 asked First = record { there = refl; asks = record { plain = (refl, refl); unlisted = refl; is = refl } }
-asked Second = record { there = kept.there; asks = kept.shows }
+asked Second = record { there = (kept false).there; asks = (kept false).shows }
 
 -- after the tables before it
 pub defined : IsDefined (made (take 6 tables)) 13 loans

@@ -9,6 +9,7 @@ use Rattle.sqlite.specs.Order.{Row}
 use Rattle.sqlite_trees.specs.Tree.{IsAscending}
 use Rattle.mf_store_sql.specs.Values.{or_null, or_text}
 use Rattle.mf_store_sql.specs.Keep.{put_item}
+use Rattle.mf_store_sql.specs.Numbered.{Filed}
 use Rattle.mf_store_schema.specs.declared.meta.MetaRow.{MetaRow}
 use Rattle.mf_store_schema.specs.declared.offices.OfficeRow.{OfficeRow}
 use Rattle.mf_store_schema.specs.declared.staff.StaffRow.{StaffRow}
@@ -243,6 +244,7 @@ pub record Lists : Type 0 where
   pub receipts : List ReceiptRow
   pub instalments : List InstalmentRow
   pub shares : List ShareRow
+  pub journal : List Filed
 
 -- no row in any table
 abbrev pub empty_lists : Lists
@@ -258,6 +260,7 @@ empty_lists = record {
   receipts = [];
   instalments = [];
   shares = [];
+  journal = [];
 }
 
 -- the lists with this row of meta in its place

@@ -4,13 +4,8 @@ use Rattle.sqlite.specs.Schema.{Schema}
 use Rattle.sqlite.specs.State.{State, HasCleanDisk}
 use Rattle.sqlite.specs.Tree.{Trees}
 use Rattle.mf_store_schema.specs.Calls.{OnlyFaultsShut}
-use Rattle.mf_store_schema.specs.Tables.{schema}
 use Rattle.mf_store_schema.specs.Versions.{IsOfVersion}
 use Rattle.mf_store_schema.specs.declared.versions.Version.{Version}
-
--- the schema of today
-abbrev pub IsPresent : Schema → Type 0
-IsPresent k = k ≡ schema
 
 -- the schema is that of some version
 abbrev pub IsKnown : Schema → Type 0

@@ -1,5 +1,5 @@
 -- What the texts of shares mean, how its rows are ordered, and that its columns hold their values.
-use Rattle.std.specs.Prelude.{◌≡◌, take}
+use Rattle.std.specs.Prelude.{◌≡◌, Bool, true, false, take}
 use Rattle.std.proofs.Common.{inl, inr, refl, rules}
 use Rattle.sqlite_tied.specs.Compute.{everything}
 use Rattle.sqlite.specs.Listing.{understood}
@@ -7,13 +7,27 @@ use Rattle.mf_store_sql.specs.Making.{IsDefined}
 use Rattle.mf_store_sql.specs.Meanings.{Asks, IsKept}
 use Rattle.mf_store_sql.specs.Rows.{AreKeepable, first_cmp}
 use Rattle.mf_store_schema.specs.Keys.{four_numbers}
-use Rattle.mf_store_schema.specs.Tables.{schema, tables, made, shares}
+use Rattle.mf_store_schema.specs.Tables.{schema_keeping, tables, made, shares}
 use Rattle.mf_store_schema.specs.Rows.{share_row, by_share}
 use Rattle.mf_store_schema.specs.declared.shares.ShareRow.{ShareRow}
 
-pub kept : IsKept schema 10 21 shares
+pub kept : (journaled : Bool) → IsKept (schema_keeping journaled) 10 21 shares
 unfolding understood everything
-kept = record {
+kept false = record {
+  there = refl;
+  quiet = λ keys olds news. refl;
+  always = refl;
+  index = inr (inr (inr (inr (inr (inr (inr (inr (inr (inr (inr (inl refl)))))))))));
+  guards_it = refl;
+  alone = λ new row. refl;
+  apart = refl;
+  under = λ trees. refl;
+  adds = record { plain = (refl, refl); is = refl };
+  puts = record { plain = (refl, refl); is = refl };
+  finds = record { plain = (refl, refl); unlisted = refl; is = refl };
+  shows = record { plain = (refl, refl); unlisted = refl; is = refl };
+}
+kept true = record {
   there = refl;
   quiet = λ keys olds news. refl;
   always = refl;
@@ -28,9 +42,10 @@ kept = record {
   shows = record { plain = (refl, refl); unlisted = refl; is = refl };
 }
 
-pub lists_by_2 : Asks schema 10 21 shares 2
+pub lists_by_2 : (journaled : Bool) → Asks (schema_keeping journaled) 10 21 shares 2
 unfolding understood everything
-lists_by_2 = record { plain = (refl, refl); unlisted = refl; is = refl }
+lists_by_2 false = record { plain = (refl, refl); unlisted = refl; is = refl }
+lists_by_2 true = record { plain = (refl, refl); unlisted = refl; is = refl }
 
 -- after the tables before it
 pub defined : IsDefined (made (take 10 tables)) 21 shares

@@ -1,9 +1,10 @@
 -- The tables as data, and the schema that they make.
-use Rattle.std.specs.Prelude.{ℕ, List, [], ◌∷◌, map, flat_map, codes}
+use Rattle.std.specs.Prelude.{◌≡◌, ℕ, Bool, true, false, List, [], ◌∷◌, ◌++◌, map, flat_map, codes}
 use Rattle.sqlite.specs.Schema.{Schema}
-use Rattle.mf_store_sql.specs.Columns.{Columns, named, unique, Number, Amount, Text, MaybeNumber, MaybeText}
+use Rattle.mf_store_sql.specs.Columns.{Columns, named, unique, Number, Amount, Text, Bytes, MaybeNumber, MaybeText}
 use Rattle.mf_store_sql.specs.Columns.{sql_table, sql_indexes}
 use Rattle.mf_store_sql.specs.Making.{made_after}
+use Rattle.mf_store_sql.specs.Numbered.{Numbered, numbered_table}
 use Rattle.mf_store_sql.specs.Tables.{no_schema}
 
 -- the schema's number and the business day, in one row
@@ -135,6 +136,31 @@ schema_with ts = record {
 -- today's schema
 abbrev pub schema : Schema
 schema = schema_with tables
+
+-- The journal: each line's number, and what the line has; at the end the chain after it. A day is its number, which is
+-- what the chain is made of. Texts are bytes as they came.
+abbrev pub journal : Numbered
+journal = record {
+  name = codes "journal";
+  number = codes "number";
+  columns = named Number (codes "day") ∷ named Number (codes "office") ∷ named Number (codes "staff")
+      ∷ named Bytes (codes "told") ∷ named Bytes (codes "method") ∷ named Bytes (codes "path")
+      ∷ named Bytes (codes "body") ∷ named Number (codes "named_office") ∷ named Number (codes "named_loan")
+      ∷ named Bytes (codes "chain") ∷ [];
+}
+
+-- today's tables, and then the journal
+abbrev pub third_schema : Schema
+third_schema = record schema { tables = schema.tables ++ numbered_table 23 journal ∷ [] }
+
+-- the schema of a database with today's tables, with or without a journal
+abbrev pub schema_keeping : (journaled : Bool) → Schema
+schema_keeping false = schema
+schema_keeping true = third_schema
+
+-- today's tables are there, and perhaps a journal
+abbrev pub IsPresent : Schema → Type 0
+IsPresent k = (journaled : Bool) × (k ≡ schema_keeping journaled)
 
 -- the schema once these are made, and no others
 abbrev pub made : List (ℕ × Columns) → Schema

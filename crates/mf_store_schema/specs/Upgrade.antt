@@ -41,7 +41,7 @@ FitsUpgrade (Put write) (Own lists) = FitsLists write lists
 
 -- the lists after a write
 abbrev pub after_upgrade : UpgradeWrite → KeptLists → KeptLists
-after_upgrade MakeAccountTables (At v lists) = Own (Some (record lists { instalments = []; shares = [] }))
+after_upgrade MakeAccountTables (At v lists) = Own (Some (record lists { instalments = []; shares = []; journal = [] }))
 after_upgrade MakeAccountTables (Own lists) = Own lists
 after_upgrade (Put write) (At v lists) = At v lists
 after_upgrade (Put write) (Own lists) = Own (after_write write lists)
@@ -54,7 +54,7 @@ upgrade_writes meta instalments shares = MakeAccountTables ∷ (map (λ x. Put (
 -- the lists once these are made
 abbrev pub upgraded_lists : MetaRow → List InstalmentRow → List ShareRow → Lists → Lists
 upgraded_lists meta instalments shares lists =
-    record lists { meta = meta ∷ []; instalments = instalments; shares = shares }
+    record lists { meta = meta ∷ []; instalments = instalments; shares = shares; journal = [] }
 
 -- the rows rise by key, and the row of meta stands in place of the only one
 pub record CanUpgrade (meta : MetaRow) (instalments : List InstalmentRow) (shares : List ShareRow)

@@ -1,5 +1,5 @@
 -- Tables of whatever rows, and what a text shows of one.
-use Rattle.std.specs.Prelude.{◌≡◌, ℕ, List, map, slice_get, Some}
+use Rattle.std.specs.Prelude.{◌≡◌, ℕ, Bool, List, map, slice_get, Some}
 use Rattle.std.proofs.Common.{sym, subst}
 use Rattle.std.specs.declared.cmp.Ordering.{Ordering}
 use Rattle.std.specs.declared.cmp.Ordering.TheVariants.{Less}
@@ -14,10 +14,10 @@ use Rattle.sqlite_trees.specs.View.{IsShaped}
 use Rattle.mf_store_sql.specs.Columns.{Columns, sql_table}
 use Rattle.mf_store_sql.specs.Keep.{Keeps}
 use Rattle.mf_store_sql.specs.Meanings.{Asks, IsKept}
-use Rattle.mf_store_schema.specs.Tables.{schema}
+use Rattle.mf_store_schema.specs.Tables.{schema_keeping, IsPresent}
 use Rattle.mf_store_schema.specs.Versions.{schema_at}
 use Rattle.mf_store_schema.specs.declared.versions.Version.{Version}
-use Rattle.mf_store_schema.specs.Schemas.{IsKnown, IsPresent}
+use Rattle.mf_store_schema.specs.Schemas.{IsKnown}
 
 -- the rows stand under rowids that are integers and rise
 abbrev pub HasRowids : List Row → Type 0
@@ -37,10 +37,11 @@ pub record IsAskable (k : Schema) (place tree : ℕ) (t : Columns) : Type 0 wher
   pub asks : Asks k place tree t 0
 
 module _ (place tree : ℕ) (t : Columns) where
-  -- today's schema does
-  pub asked_present : IsKept schema place tree t → (k : Schema) → IsPresent k → IsAskable k place tree t
-  asked_present kept k is =
-      subst (λ s. IsAskable s place tree t) (sym is) (record { there = kept.there; asks = kept.shows })
+  -- today's schema does, with or without a journal
+  pub asked_present : ((journaled : Bool) → IsKept (schema_keeping journaled) place tree t) → (k : Schema)
+      → IsPresent k → IsAskable k place tree t
+  asked_present kept k is = subst (λ s. IsAskable s place tree t) (sym is.1)
+      (record { there = (kept is.0).there; asks = (kept is.0).shows })
 
   -- and that of each version, where all of them have the table
   pub asked_known : ((v : Version) → IsAskable (schema_at v) place tree t) → (k : Schema) → IsKnown k

@@ -1,22 +1,22 @@
 -- The lists that the tables keep, and what each write makes of them. Before the tables are made there is none.
-use Rattle.std.specs.Prelude.{◌≡◌, ℕ, List, [], ◌∷◌, take, Option, Some, None, IsSome, Err}
+use Rattle.std.specs.Prelude.{◌≡◌, ℕ, Bool, true, false, List, [], ◌∷◌, ◌++◌, take, Option, Some, None, IsSome, Err}
 use Rattle.std.specs.declared.cmp.Ordering.{Ordering}
 use Rattle.sqlite.specs.Order.{Row}
 use Rattle.sqlite.specs.Schema.{Schema}
 use Rattle.sqlite.specs.Tree.{Trees}
 use Rattle.sqlite_catalog.specs.Listing.{IsSound}
 use Rattle.mf_store_sql.specs.Keep.{Keeps}
+use Rattle.mf_store_sql.specs.Numbered.{Filed, KeepsLines}
 use Rattle.mf_store_sql.specs.Texts.{insert_text, upsert_text}
 use Rattle.mf_store_sql.specs.Trees.{Condition, AllHold}
 use Rattle.sqlite.specs.State.{State, ExecutesInside}
 use Rattle.sqlite.specs.declared.error.Error.{Error}
 use Rattle.mf_store_sql.specs.Tables.{no_schema}
 use Rattle.mf_store_sql.specs.Writes.{Serves, Steps}
-use Rattle.mf_store_schema.specs.Tables.{schema, meta, offices, staff, clients, charges, products, loans, entries}
+use Rattle.mf_store_schema.specs.Tables.{schema_keeping, journal, meta, offices, staff, clients, charges, products, loans, entries}
 use Rattle.mf_store_schema.specs.Tables.{receipts, instalments, shares}
 use Rattle.mf_store_schema.specs.Versions.{count, schema_at}
 use Rattle.mf_store_schema.specs.declared.versions.Version.{Version}
-use Rattle.mf_store_schema.specs.declared.versions.Version.TheVariants.{Second}
 use Rattle.mf_store_schema.specs.Rows.{Lists, empty_lists, meta_row, office_row, staff_row, client_row, charge_row}
 use Rattle.mf_store_schema.specs.Rows.{product_row, loan_row, entry_row, receipt_row, instalment_row, share_row}
 use Rattle.mf_store_schema.specs.Rows.{by_meta, by_office, by_staff, by_client, by_charge, by_product, by_loan}
@@ -43,6 +43,20 @@ conditions lists = kept_in 0 meta_row by_meta lists.meta ∷ kept_in 2 office_ro
     ∷ kept_in 17 receipt_row by_receipt lists.receipts
     ∷ kept_in 19 instalment_row by_instalment lists.instalments ∷ kept_in 21 share_row by_share lists.shares ∷ []
 
+-- there is a journal, which has at least the row of where it begins
+abbrev pub are_some : List Filed → Bool
+are_some [] = false
+are_some (line ∷ lines) = true
+
+-- what the journal's tree keeps, where there is one
+abbrev pub journal_conditions : List Filed → List Condition
+journal_conditions [] = []
+journal_conditions (line ∷ lines) = (23, λ rows. KeepsLines journal rows (line ∷ lines)) ∷ []
+
+-- what the trees of all tables keep
+abbrev pub all_conditions : Lists → List Condition
+all_conditions lists = conditions lists ++ journal_conditions lists.journal
+
 -- the trees list the schema of a version and obey it, and keep those of these lists that it has tables for
 pub record HoldsAt (v : Version) (trees : Trees) (lists : Lists) : Type 0 where
   pub sound : IsSound (schema_at v) trees
@@ -51,12 +65,17 @@ pub record HoldsAt (v : Version) (trees : Trees) (lists : Lists) : Type 0 where
 -- the schema of a database that keeps these lists; none where the tables are still to be made
 abbrev pub schema_of : Option Lists → Schema
 schema_of None = no_schema
-schema_of (Some lists) = schema
+schema_of (Some lists) = schema_keeping (are_some lists.journal)
+
+-- the trees list today's schema, with the journal where there is one, and obey it, and keep these lists
+pub record HoldsAll (trees : Trees) (lists : Lists) : Type 0 where
+  pub sound : IsSound (schema_keeping (are_some lists.journal)) trees
+  pub all : AllHold trees (all_conditions lists)
 
 -- the trees keep these lists and nothing else
 abbrev pub Holds : Trees → Option Lists → Type 0
 Holds trees None = IsSound no_schema trees
-Holds trees (Some lists) = HoldsAt Second trees lists
+Holds trees (Some lists) = HoldsAll trees lists
 
 -- the lists with a change, where there are tables
 abbrev pub lists_changed : (Lists → Lists) → Option Lists → Option Lists

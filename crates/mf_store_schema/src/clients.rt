@@ -113,9 +113,11 @@ impl Table for ClientRow {
 
     ghost found = { λ key x. ap is_eq (two_numbers key.0 key.1 x.office x.number) };
 
-    ghost held = { λ trees lists holds. holds.all.1.1.1.0 };
+    ghost held = { λ trees lists all. all.1.1.1.0 };
 
     ghost changes = { λ x lists trees all. all };
+
+    ghost spared = { λ x lists. refl };
 }
 
 impl Listed for ClientRow {

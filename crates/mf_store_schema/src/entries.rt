@@ -167,9 +167,11 @@ impl Table for EntryRow {
 
     ghost found = { λ key x. ap is_eq (three_numbers key.0 key.1 key.2 x.office x.loan x.seq) };
 
-    ghost held = { λ trees lists holds. holds.all.1.1.1.1.1.1.1.0 };
+    ghost held = { λ trees lists all. all.1.1.1.1.1.1.1.0 };
 
     ghost changes = { λ x lists trees all. all };
+
+    ghost spared = { λ x lists. refl };
 }
 
 impl Changing for EntryRow {

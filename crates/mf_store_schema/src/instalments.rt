@@ -12,7 +12,7 @@ ghost use Rattle.mf_store_schema.specs.Keys.{two_numbers, three_numbers};
 ghost use Rattle.mf_store_schema.specs.Once.{instalment_once};
 ghost use Rattle.mf_store_schema.specs.Rows.{by_instalment, instalment_row, put_instalment, is_row_of_instalment};
 ghost use Rattle.mf_store_schema.specs.Rows.{is_instalment_of};
-ghost use Rattle.mf_store_schema.specs.Schemas.{IsPresent};
+ghost use Rattle.mf_store_schema.specs.Tables.{IsPresent};
 ghost use Rattle.mf_store_schema.specs.Whole.{asked_present};
 
 use crate::table::{Changing, Listed, Table, has_columns, run};
@@ -216,9 +216,11 @@ impl Table for InstalmentRow {
 
     ghost found = { λ key x. ap is_eq (three_numbers key.0 key.1 key.2 x.office x.loan x.number) };
 
-    ghost held = { λ trees lists holds. holds.all.1.1.1.1.1.1.1.1.1.0 };
+    ghost held = { λ trees lists all. all.1.1.1.1.1.1.1.1.1.0 };
 
     ghost changes = { λ x lists trees all. all };
+
+    ghost spared = { λ x lists. refl };
 }
 
 impl Changing for InstalmentRow {

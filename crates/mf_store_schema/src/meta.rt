@@ -116,9 +116,11 @@ impl Table for MetaRow {
 
     ghost found = { λ key x. ap is_eq (one_number key x.one) };
 
-    ghost held = { λ trees lists holds. holds.all.0 };
+    ghost held = { λ trees lists all. all.0 };
 
     ghost changes = { λ x lists trees all. all };
+
+    ghost spared = { λ x lists. refl };
 }
 
 impl Changing for MetaRow {

@@ -136,9 +136,11 @@ impl Table for OfficeRow {
 
     ghost found = { λ key x. ap is_eq (one_number key x.number) };
 
-    ghost held = { λ trees lists holds. holds.all.1.0 };
+    ghost held = { λ trees lists all. all.1.0 };
 
     ghost changes = { λ x lists trees all. all };
+
+    ghost spared = { λ x lists. refl };
 }
 
 /// The offices whose hierarchy text is at least `low` and below `high`, byte by byte, in the order of their numbers.

@@ -189,9 +189,11 @@ impl Table for ProductRow {
 
     ghost found = { λ key x. ap is_eq (one_number key x.number) };
 
-    ghost held = { λ trees lists holds. holds.all.1.1.1.1.1.0 };
+    ghost held = { λ trees lists all. all.1.1.1.1.1.0 };
 
     ghost changes = { λ x lists trees all. all };
+
+    ghost spared = { λ x lists. refl };
 }
 
 impl Changing for ProductRow {

@@ -128,9 +128,11 @@ impl Table for ReceiptRow {
 
     ghost found = { λ key x. ap is_eq (number_and_text key.0 key.1 x.office x.receipt) };
 
-    ghost held = { λ trees lists holds. holds.all.1.1.1.1.1.1.1.1.0 };
+    ghost held = { λ trees lists all. all.1.1.1.1.1.1.1.1.0 };
 
     ghost changes = { λ x lists trees all. all };
+
+    ghost spared = { λ x lists. refl };
 }
 
 /// The row of an office's receipt, if there is one: what `find_row` finds under the two, for a text that the caller

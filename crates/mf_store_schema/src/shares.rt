@@ -10,7 +10,7 @@ ghost use Rattle.mf_store_schema.specs.Keys.{two_numbers, four_numbers};
 ghost use Rattle.mf_store_schema.specs.Once.{share_once};
 ghost use Rattle.mf_store_schema.specs.Rows.{by_share, share_row, put_share, is_row_of_share, is_share_of, drop_shares};
 ghost use Rattle.mf_store_schema.specs.Writes.{Putting};
-ghost use Rattle.mf_store_schema.specs.Schemas.{IsPresent};
+ghost use Rattle.mf_store_schema.specs.Tables.{IsPresent};
 ghost use Rattle.mf_store_schema.specs.Whole.{asked_present};
 
 use crate::table::{Changing, Listed, Table, has_columns, run};
@@ -153,9 +153,11 @@ impl Table for ShareRow {
 
     ghost found = { λ key x. ap is_eq (four_numbers key.0 key.1 key.2 key.3 x.office x.loan x.seq x.place) };
 
-    ghost held = { λ trees lists holds. holds.all.1.1.1.1.1.1.1.1.1.1.0 };
+    ghost held = { λ trees lists all. all.1.1.1.1.1.1.1.1.1.1.0 };
 
     ghost changes = { λ x lists trees all. all };
+
+    ghost spared = { λ x lists. refl };
 }
 
 impl Changing for ShareRow {

@@ -20,12 +20,11 @@ ghost use Rattle.mf_store_sql.specs.Rows.{AreKeepable, ArePlain, begins, first_c
 ghost use Rattle.mf_store_sql.specs.Texts.{select_text, insert_text, upsert_text};
 ghost use Rattle.mf_store_sql.specs.Trees.{AllHold, changed_at};
 ghost use Rattle.mf_store_sql.specs.Writes.{Ran, Serves};
-ghost use Rattle.mf_store_schema.specs.Tables.{schema};
+ghost use Rattle.mf_store_schema.specs.Tables.{schema_keeping};
 ghost use Rattle.sqlite.specs.declared.error.ErrorCode.TheVariants.{OutOfMemory};
 ghost use Rattle.mf_store_schema.specs.Fields.{HasFields};
 ghost use Rattle.mf_store_schema.specs.Rows.{Lists, IsNew};
-ghost use Rattle.mf_store_schema.specs.Writes.{schema_of, Holds, HoldsAt, Putting, Failed, conditions, kept_in};
-ghost use Rattle.mf_store_schema.specs.declared.versions.Version.TheVariants.{Second};
+ghost use Rattle.mf_store_schema.specs.Writes.{schema_of, Holds, Putting, Failed, all_conditions, kept_in};
 ghost use Rattle.mf_store_schema.specs.Calls.{IsAsBefore, IsKeeping, Shows};
 ghost use Rattle.mf_store_schema.specs.Whole.{IsAskable};
 
@@ -45,7 +44,7 @@ pub trait Values {
     /// The rows that a plain text shows of these values.
     fn ask<S: Alter>(self, connection: &mut Connection<S>, sql: &str) -> Result<Vec<Row>, Fault>
         requires alone { connection.old.in_transaction ≡ false }
-        requires plain { IsPlain (understood schema sql.now) }
+        requires plain { (journaled : Bool) → IsPlain (understood (schema_keeping journaled) sql.now) }
         ensures kept { IsAsBefore (state S.Store connection.old) (state S.Store connection.new) }
         ensures gives_up { IfErr result (λ fault. fault ≡ F20) }
         ensures open { HasCleanDisk (state S.Store connection.new)
@@ -220,7 +219,7 @@ pub trait Table: Sized {
     fn every_text() -> &'static str
         ensures { result.now ≡ select_text columns 0 };
 
-    ghost kept: { IsKept schema place tree columns };
+    ghost kept: { (journaled : Bool) → IsKept (schema_keeping journaled) place tree columns };
 
     ghost asked: { (k : Schema) → IsUnder k → IsAskable k place tree columns };
 
@@ -235,12 +234,14 @@ pub trait Table: Sized {
     ghost found: { (key : Self.Key) (x : Self) → is_at key x
         ≡ begins columns.key (Self.Key.values key) (stored x) };
 
-    ghost held: { (trees : Trees) (lists : Lists) → HoldsAt Second trees lists
+    ghost held: { (trees : Trees) (lists : Lists) → AllHold trees (all_conditions lists)
         → Keeps stored by (trees tree) (list lists) };
 
     ghost changes: { (x : Self) (lists : Lists) (trees : Trees)
-        → AllHold trees (changed_at place (kept_in tree stored by (put_item by x (list lists))) (conditions lists))
-        → AllHold trees (conditions (put x lists)) };
+        → AllHold trees (changed_at place (kept_in tree stored by (put_item by x (list lists))) (all_conditions lists))
+        → AllHold trees (all_conditions (put x lists)) };
+
+    ghost spared: { (x : Self) (lists : Lists) → (put x lists).journal ≡ lists.journal };
 }
 
 /// A table whose rows may be put in place of others.
@@ -262,7 +263,8 @@ pub trait Listed: Table {
     fn list_text() -> &'static str
         ensures { result.now ≡ select_text Self.columns Self.Part.width };
 
-    ghost lists: { Asks schema Self.place Self.tree Self.columns Self.Part.width };
+    ghost lists: { (journaled : Bool) → Asks (schema_keeping journaled) Self.place Self.tree Self.columns
+        Self.Part.width };
 
     ghost partly: { are_always Self.Part.width (Self.columns).columns ≡ true };
 
@@ -290,7 +292,7 @@ pub fn ask<S: Alter>(
     params: &[ValueRef<'_>],
 ) -> Result<Vec<Row>, Fault>
     requires alone { connection.old.in_transaction ≡ false }
-    requires plain { IsPlain (understood schema sql.now) }
+    requires plain { (journaled : Bool) → IsPlain (understood (schema_keeping journaled) sql.now) }
     ensures kept { IsAsBefore (state S.Store connection.old) (state S.Store connection.new) }
     ensures gives_up { IfErr result (λ fault. fault ≡ F20) }
     ensures open { HasCleanDisk (state S.Store connection.new)

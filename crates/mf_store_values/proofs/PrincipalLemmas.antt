@@ -1,5 +1,5 @@
 -- What the query of an instalment's principal shows.
-use Rattle.std.proofs.Common.{◌≡◌, ℕ, pos, Bool, false, List, [], ◌∷◌, ◌++◌, map, filter}
+use Rattle.std.proofs.Common.{◌≡◌, ℕ, pos, Bool, true, false, List, [], ◌∷◌, ◌++◌, map, filter}
 use Rattle.std.proofs.Common.{codes, slice_get, Option, None, Some, refl, sym, ap, ap₂, ◌∙◌}
 use Rattle.std.specs.Ordering.{ordering_then}
 use Rattle.sqlite.specs.declared.types.Value.TheVariants.{Int}
@@ -18,7 +18,7 @@ use Rattle.mf_store_sql.specs.Queries.{Answers}
 use Rattle.mf_store_sql.specs.Scan.{eq, by, scan}
 use Rattle.mf_store_sql.proofs.CompareLemmas.{equals_back, and_true, key_step, int_cmp-pos}
 use Rattle.mf_store_sql.proofs.ShownLemmas.{shown_kept}
-use Rattle.mf_store_schema.specs.Tables.{schema}
+use Rattle.mf_store_schema.specs.Tables.{schema_keeping}
 use Rattle.mf_store_schema.specs.Rows.{by_instalment, instalment_row, is_row_of_instalment}
 use Rattle.mf_store_schema.specs.declared.instalments.InstalmentRow.{InstalmentRow}
 use Rattle.mf_store_values.specs.Principal.{principal_row, IsOpenRow, IsFirstOpen}
@@ -37,18 +37,21 @@ abbrev by_key : Query
 by_key = scan 19 is_key (col 1 17 ∷ col 1 18 ∷ col 1 19 ∷ col 1 20 ∷ [])
     (by (col 1 1) ∷ by (col 1 2) ∷ by (col 1 3) ∷ [])
 
-find_principal_is : command_of (understood schema find_principal) ≡ Select (record { lets = []; body = by_key })
-    (codes "owed_principal" ∷ codes "paid_principal" ∷ codes "waived_principal" ∷ codes "written_off_principal" ∷ [])
+find_principal_is : (journaled : Bool) → command_of (understood (schema_keeping journaled) find_principal)
+    ≡ Select (record { lets = []; body = by_key }) (codes "owed_principal" ∷ codes "paid_principal" ∷ codes "waived_principal" ∷ codes "written_off_principal" ∷ [])
 unfolding understood everything
-find_principal_is = refl
+find_principal_is false = refl
+find_principal_is true = refl
 
-pub find_principal_plain : IsPlain (understood schema find_principal)
+pub find_principal_plain : (journaled : Bool) → IsPlain (understood (schema_keeping journaled) find_principal)
 unfolding understood everything
-find_principal_plain = (refl, refl)
+find_principal_plain false = (refl, refl)
+find_principal_plain true = (refl, refl)
 
-find_principal_listed : reads_listing schema find_principal ≡ false
+find_principal_listed : (journaled : Bool) → reads_listing (schema_keeping journaled) find_principal ≡ false
 unfolding understood everything
-find_principal_listed = refl
+find_principal_listed false = refl
+find_principal_listed true = refl
 
 -- ---- its rows
 
@@ -60,13 +63,13 @@ ranks : (a b : InstalmentRow) → output_cmp by_key (instalment_key a, principal
 ranks a b = ap₂ ordering_then (int_cmp-pos a.office b.office)
     (ap₂ ordering_then (int_cmp-pos a.loan b.loan) (then-Equal _ ∙ int_cmp-pos a.number b.number))
 
-pub principal_shows : (office loan number : ℕ) (db : Database) (rows : List Row) (items : List InstalmentRow)
-    → db.schema ≡ schema → Keeps instalment_row by_instalment (db.trees 19) items
+pub principal_shows : (journaled : Bool) (office loan number : ℕ) (db : Database) (rows : List Row) (items : List InstalmentRow)
+    → db.schema ≡ schema_keeping journaled → Keeps instalment_row by_instalment (db.trees 19) items
     → Answers find_principal (Int (pos office) ∷ Int (pos loan) ∷ Int (pos number) ∷ []) db rows
     → rows ≡ map principal_row (filter (is_row_of_instalment office loan number) items)
-principal_shows office loan number db rows items has k =
-    shown_kept instalment_row by_instalment schema 19 find_principal find_principal_plain find_principal_listed
-    is_key _ _ _ find_principal_is _ (is_row_of_instalment office loan number) (λ id y.
+principal_shows journaled office loan number db rows items has k =
+    shown_kept instalment_row by_instalment (schema_keeping journaled) 19 find_principal
+    (find_principal_plain journaled) (find_principal_listed journaled) is_key _ _ _ (find_principal_is journaled) _ (is_row_of_instalment office loan number) (λ id y.
     (key_step _ _ _ _ (equals_back y.office office) (key_step _ _ _ _ (equals_back y.loan loan) (and_true _
     ∙ equals_back y.number number)))) instalment_key principal_row (λ id y. refl) ranks (λ t. refl) db items rows has k
 

@@ -240,7 +240,7 @@ prepared_ok P Q (Err x) e h = absurd (true≢false e)
 
 -- where it could not be prepared, nothing is changed
 pub unprepared : {A : Type 0} (P : A → Type 0) (text sql : List ℕ) (old new : State) (r : Result A Error)
-    → IsPlain (understood schema text) → (IsTrue old.is_open → old.now ≡ old.committed)
+    → ((journaled : Bool) → IsPlain (understood (schema_keeping journaled) text)) → (IsTrue old.is_open → old.now ≡ old.committed)
     → (HasCleanDisk new → IfOk r (λ s. P s × IsUnchanged old new))
     → (HasCleanDisk new → IfErr r (λ e. (params : Row) → IsNotRun old new sql params e)) → Survives old new (λ _. ⊥)
     → IsAsBefore old new
@@ -257,7 +257,7 @@ plain_mid sql old mid same plain = subst (λ (d : Database). IsPlain (understood
 
 -- a plain query that was folded changes nothing
 pub folded_unchanged : {A : Type 0} (P : A → Type 0) (sql : List ℕ) (params : Row) (old mid new : State)
-    (r : Result A Error) → IsPlain (understood schema sql) → (IsTrue old.is_open → old.now ≡ old.committed)
+    (r : Result A Error) → ((journaled : Bool) → IsPlain (understood (schema_keeping journaled) sql)) → (IsTrue old.is_open → old.now ≡ old.committed)
     → is_err r ≡ false → (HasCleanDisk mid → IfOk r (λ s. P s × IsUnchanged old mid)) → Survives old mid (λ _. ⊥)
     → Survives mid new (CommitsShowing sql params mid)
     → (HasCleanDisk new → IsPlain (understood mid.now.schema sql) → (IsTrue mid.is_open → mid.now ≡ mid.committed)
@@ -279,14 +279,14 @@ module _ (lists : Lists) (old mid : State) (same : IsUnchanged old mid) (keeping
       → taken ≡ map instalment_row (filter (is_instalment_in office) lists.instalments)
   taken_rows office new taken shown =
       let kept = keeping same.0.was_open in
-      instalments_of_office_shows office old.now taken lists.instalments kept.schema_is
+      instalments_of_office_shows (are_some lists.journal) office old.now taken lists.instalments kept.schema_is
       kept.holds.all.1.1.1.1.1.1.1.1.1.0
       (answers_prepared instalments_of_office (Int (pos office) ∷ []) old mid new taken same shown)
 
   -- the text is a plain one under the tables of this program
   pub plain_kept : IsPlain (understood mid.now.schema instalments_of_office)
   plain_kept = plain_mid instalments_of_office old mid same (subst (λ k. IsPlain (understood k instalments_of_office))
-      (sym (keeping same.0.was_open).schema_is) lists_by_1.plain)
+      (sym (keeping same.0.was_open).schema_is) (lists_by_1 (are_some lists.journal)).plain)
 
   module _ (office : ℕ) (loans : List NumberedLoan) (empty : OfficeLine) (above : AreAbove 0 loans)
       (whole : AreWholeLoans loans)
@@ -309,7 +309,7 @@ module _ (lists : Lists) (old mid : State) (same : IsUnchanged old mid) (keeping
         let all = begins_shown instalments_of_office (Int (pos office) ∷ []) mid mid it.0 it.1
         (unchanged_here mid same.0.is_open)
         (λ c db is source. subst (λ k. EndsIn k db (timed (Int (pos office) ∷ []) c.formats is.now))
-        (sym lists_by_1.is ∙ sym (ap (λ s. command_of (understood s instalments_of_office)) schema_is)
+        (sym (lists_by_1 (are_some lists.journal)).is ∙ sym (ap (λ s. command_of (understood s instalments_of_office)) schema_is)
         ∙ ap command_of is.is) tt) in
         absurd (it.2 office loans all.0 above whole within (taken_rows office mid (it.0 ++ all.0) all.1
         ∙ ap (map instalment_row) are) is_new)

@@ -239,7 +239,7 @@ instalment_rows k fs = rows_by_loan instalment_in (kept_of instalments_kept k) f
 abbrev pub share_rows : Catalogue → List Office → List ShareRow
 share_rows k fs = rows_by_loan share_in (kept_of shares_kept k) fs
 
--- what the tables hold of an institution
+-- what the tables hold of an institution without a journal
 abbrev pub tables_of : Institution → Lists
 tables_of i = record {
   meta = meta_on i.catalogue.day ∷ [];
@@ -253,6 +253,7 @@ tables_of i = record {
   receipts = receipt_rows i.offices;
   instalments = instalment_rows i.catalogue i.offices;
   shares = share_rows i.catalogue i.offices;
+  journal = [];
 }
 
 -- the row of an office that is there

@@ -1,4 +1,4 @@
-use Rattle.std.proofs.Common.{◌∙◌, pos, [], ◌∷◌, refl, sym, ap, is_eq, subst}
+use Rattle.std.proofs.Common.{◌∙◌, pos, false, [], ◌∷◌, refl, sym, ap, is_eq, subst}
 use Rattle.std.proofs.lemmas.Result.{IfOk-weaker}
 use Rattle.sqlite.specs.Given.{IsPlain}
 use Rattle.sqlite.specs.Held.{state}
@@ -9,14 +9,15 @@ use Rattle.mf_store_sql.specs.Queries.{Answers}
 use Rattle.mf_store_schema.specs.Keys.{number_and_text}
 use Rattle.mf_store_schema.specs.ReceiptsTexts.{kept, fits, ordered}
 use Rattle.mf_store_schema.specs.Rows.{receipt_row, by_receipt, is_row_of_receipt, put_receipt}
-use Rattle.mf_store_schema.specs.Tables.{schema, receipts}
+use Rattle.mf_store_schema.specs.Tables.{schema_keeping, receipts}
 use Rattle.mf_store_schema.proofs.CallLemmas.{first_is}
 use Rattle.mf_store_schema.proofs.PutLemmas.{showing}
 use Rattle.mf_store_schema.proofs.receipts.find_receipt.Goals as goal
 
 pub ask-requires-clause-plain : goal.ask-requires-clause-plain
 ask-requires-clause-plain g c =
-    subst (λ sql. IsPlain (understood schema sql)) (sym c.find_text.ensures) (kept.finds).plain
+    λ journaled. subst (λ sql. IsPlain (understood (schema_keeping journaled) sql)) (sym c.find_text.ensures)
+    (kept journaled).finds.plain
 
 pub returns-clause-row : goal.returns-clause-row
 returns-clause-row g c clean lists keeping =
@@ -26,7 +27,8 @@ returns-clause-row g c clean lists keeping =
     let s = state g.S.Store c.args.connection.now in
     let shows = rw (c.params-to_sql.ensures, c.params-to_sql-2.ensures) at (c.in_ok-rows.ensures.shows clean) in
     let are = showing receipts 8 17 receipt_row by_receipt (λ l. l.receipts) put_receipt ordered fits kept
-    (λ trees l holds. holds.all.1.1.1.1.1.1.1.1.0) (λ x l trees all. all) 2 kept.finds kept.always given
+    (λ trees l all. all.1.1.1.1.1.1.1.1.0) (λ x l trees all. all) (λ x l. refl) 2
+    (λ journaled. (kept journaled).finds) (kept false).always given
     ((Number, refl, (office, refl)), ((OfText, refl, (receipt, refl)), tt)) (is_row_of_receipt office receipt)
     (λ x. ap is_eq (number_and_text office receipt x.office x.receipt)) lists s.now c.in_ok-rows.rows.items
     (keeping shows.is_open)

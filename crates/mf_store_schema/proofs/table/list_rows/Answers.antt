@@ -13,7 +13,7 @@ returns-clause-rows g c clean lists kept =
     let s = state g.S.Store c.args.connection.now in
     shown c.ask.result (λ v. v.items) s c.list_text.result.now given lists _ (λ v serves a.
     showing t.columns t.place t.tree t.stored t.by t.list t.put laws.ordered laws.fits laws.kept laws.held laws.changes
-    g.T.Part.Values.width g.met.T.Listed.lists g.met.T.Listed.partly given
+    laws.spared g.T.Part.Values.width g.met.T.Listed.lists g.met.T.Listed.partly given
     (g.met.T.Part.Values.plain c.args.part) (g.T.Listed.is_in c.args.part) (g.met.T.Listed.listed c.args.part) lists
     s.now v.items serves (subst (λ sql. Answers sql given s.now v.items) c.list_text.ensures a)) kept
     (c.ask.ensures.shows clean)

@@ -14,7 +14,7 @@ returns-clause-ok g c clean inside =
     let old = state g.S.Store c.args.tx.now.conn.now in
     let new = state g.S.Store c.execute.new.tx.conn.now in
     on_ok_weaker c.execute.result (λ ran. putting t.columns t.place t.tree t.stored t.by t.list t.put laws.ordered
-    laws.fits laws.kept laws.held laws.changes x old new
+    laws.fits laws.kept laws.held laws.changes laws.spared x old new
     (subst (λ sql. Ran sql (t.stored x) old new) c.upsert_text.ensures ran)) (c.execute.ensures.ok clean inside)
 
 pub returns-clause-ran : goal.returns-clause-ran

@@ -1,4 +1,4 @@
-use Rattle.std.proofs.Common.{refl, sym, subst}
+use Rattle.std.proofs.Common.{false, refl, sym, subst}
 use Rattle.sqlite.specs.Given.{IsPlain}
 use Rattle.sqlite.specs.Listing.{understood}
 use Rattle.mf_store_schema.proofs.AskLemmas.{shows_whole}
@@ -13,5 +13,5 @@ pub returns-clause-shows : goal.returns-clause-shows
 returns-clause-shows g c db rows is sound told =
     let t = g.T.Table in
     let laws = g.met.T.Table in
-    shows_whole t.stored t.by db.schema t.place t.tree t.columns laws.ordered laws.fits (laws.kept).under
+    shows_whole t.stored t.by db.schema t.place t.tree t.columns laws.ordered laws.fits (laws.kept false).under
     (g.met.T.Table.asked db.schema is) c.every_text.result.now c.every_text.ensures db rows refl sound told
