@@ -1,7 +1,8 @@
 -- What is unchanged under the schema that there is stays so over two steps, and under any schema.
 use Rattle.sqlite.specs.Schema.{Schema}
 use Rattle.sqlite.specs.State.{State}
-use Rattle.mf_store_schema.specs.Schemas.{IsKnown, IsPresent, IsUnchangedUnder}
+use Rattle.mf_store_schema.specs.Schemas.{IsKnown, IsUnchangedUnder}
+use Rattle.mf_store_schema.specs.Tables.{IsPresent}
 use Rattle.mf_store_schema.proofs.ReadLemmas.{unchanged_then}
 use Rattle.mf_store_sound.proofs.NestedLemmas.{unchanged_fewer}
 

@@ -5,7 +5,8 @@ ghost use Rattle.mf_base.specs.declared.fault.Fault.TheVariants.{F20};
 ghost use Rattle.sqlite.specs.Held.{state};
 ghost use Rattle.sqlite.specs.Schema.{Schema};
 ghost use Rattle.sqlite.specs.State.{HasCleanDisk};
-ghost use Rattle.mf_store_schema.specs.Schemas.{IsKnown, IsPresent, IsUnchangedUnder};
+ghost use Rattle.mf_store_schema.specs.Schemas.{IsKnown, IsUnchangedUnder};
+ghost use Rattle.mf_store_schema.specs.Tables.{IsPresent};
 ghost use Rattle.mf_store_schema.specs.Versions.{IsOfVersion};
 ghost use Rattle.mf_store_audit.specs.Unread.{IsUnread};
 

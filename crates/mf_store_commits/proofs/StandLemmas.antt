@@ -1,5 +1,5 @@
 -- What tables stand for after a query and after a commit, and the commit that writes make.
-use Rattle.std.proofs.Common.{◌≡◌, inl, inr, List, [], ◌∷◌, Some, Result, Ok, Err, OnOk, OnErr, IsTrue, ap, ◌∙◌}
+use Rattle.std.proofs.Common.{◌≡◌, false, inl, inr, List, [], ◌∷◌, Some, Result, Ok, Err, OnOk, OnErr, IsTrue, ap, ◌∙◌}
 use Rattle.std.proofs.Common.{subst, arith, IfErr}
 use Rattle.std.proofs.lemmas.Result.{on_ok_weaker, on_err_weaker}
 use Rattle.sqlite.specs.Effect.{Database}
@@ -15,7 +15,7 @@ use Rattle.mf_model.specs.Store.{CommitsUnnoted, IsAdmitted, after_commit}
 use Rattle.mf_model.specs.declared.commit.Commit.{Commit}
 use Rattle.mf_store_sql.specs.Writes.{Serves, AllFit, after_all, Turns, IsSettled, MayHold}
 use Rattle.mf_store_schema.specs.Calls.{IsAsBefore}
-use Rattle.mf_store_schema.specs.Tables.{schema}
+use Rattle.mf_store_schema.specs.Tables.{IsPresent}
 use Rattle.mf_store_schema.specs.Writes.{schema_of, Holds, after_write, FitsLists}
 use Rattle.mf_store_schema.specs.declared.writes.StoreWrite.{StoreWrite}
 use Rattle.mf_store_values.specs.Flat.{tables_of}
@@ -40,11 +40,11 @@ module _ {S : Type 0} (g : Ghosts S) where
       same = λ clean i s. record {
         sound = s.sound;
         serves = λ live. let before = s.serves (u.was_open clean live) in
-            rw (u.same clean live before.schema_is) before;
+            rw (u.same clean live (false, before.schema_is)) before;
       };
       stop = λ clean left l. record {
-        ours = λ now live. let before = l.ours (u.premise now) (u.was_open now live) in ap (λ (d : Database). d.schema)
-            (u.same now live before) ∙ before;
+        ours = λ now live. let before = l.ours (u.premise now) (u.was_open now live) in
+            (before.0, ap (λ (d : Database). d.schema) (u.same now live before) ∙ before.1);
         whole = λ now trees may. l.whole (u.premise now) trees (u.stop now (l.ours (u.premise now)) trees may);
       };
     }
@@ -60,7 +60,7 @@ module _ {S : Type 0} (g : Ghosts S) where
       pub made_leaves : ((trees : Trees) → IsTrue is.is_open → is.may_leave trees → trees ≡ is.committed.trees)
           → IsSettled is → (j : Institution) → IsTabled g new j → LeavesTables g new (j ∷ [])
       made_leaves settled rests j s = record {
-        ours = λ clean live. (s.serves live).schema_is;
+        ours = λ clean live. (false, (s.serves live).schema_is);
         whole = λ clean trees may. inl (rw (settled trees rests.is_open may ∙ ap (λ (d : Database). d.trees)
             rests.committed) (s.serves rests.is_open).holds);
       }
@@ -68,13 +68,13 @@ module _ {S : Type 0} (g : Ghosts S) where
       -- whatever came of the call, the tables are this program's
       pub still_ours : {V : Type 0} (r : Result V Error) → (IsTrue is.is_open → IsTrue was.is_open)
           → OnOk r (Change was.now is.now) → (IsTrue is.is_open → OnErr r (is.now ≡ was.now)) → (i j : Institution)
-          → IsTabled g old i → Becomes writes i j → IsTrue is.is_open → is.now.schema ≡ schema
+          → IsTabled g old i → Becomes writes i j → IsTrue is.is_open → IsPresent is.now.schema
       still_ours (Ok v) was_open turns same i j s b live =
-          (turns (Some (tables_of i)) (s.serves (was_open live)) b.fits).schema_is ∙ ap schema_of b.is
+          (false, (turns (Some (tables_of i)) (s.serves (was_open live)) b.fits).schema_is ∙ ap schema_of b.is)
       still_ours (Err e) was_open turns same i j s b live =
-          ap (λ (d : Database). d.schema) (same live) ∙ (s.serves (was_open live)).schema_is
+          (false, ap (λ (d : Database). d.schema) (same live) ∙ (s.serves (was_open live)).schema_is)
 
-      pub made_stop : (HasCleanDisk is → IsTrue is.is_open → is.now.schema ≡ schema) → Survives was is MayLeave
+      pub made_stop : (HasCleanDisk is → IsTrue is.is_open → IsPresent is.now.schema) → Survives was is MayLeave
           → (i j : Institution) (left : List Institution) → IsTabled g old i → Becomes writes i j
           → LeavesTables g old left → LeavesTables g new (j ∷ left)
       made_stop ours survives i j left s b l = record {

@@ -8,7 +8,7 @@ use Rattle.mf_store_sql.specs.Writes.{Serves}
 use Rattle.mf_model.specs.Institution.{Institution, newly_made}
 use Rattle.mf_model.specs.Sound.{IsSound}
 use Rattle.mf_store_schema.specs.Calls.{OnlyFaultsShut}
-use Rattle.mf_store_schema.specs.Tables.{schema}
+use Rattle.mf_store_schema.specs.Tables.{IsPresent}
 use Rattle.mf_store_values.specs.Flat.{tables_of}
 use Rattle.mf_store_schema.specs.Writes.{schema_of, Holds}
 
@@ -30,7 +30,7 @@ module _ {S : Type 0} (g : Ghosts S) where
 
   -- the tables are this program's, and a stop at this moment leaves one of these institutions, whole
   pub record LeavesTables (h : Held S) (is : List Institution) : Type 0 where
-    pub ours : HasGoodDisk h → IsTrue (state g h).is_open → (state g h).now.schema ≡ schema
+    pub ours : HasGoodDisk h → IsTrue (state g h).is_open → IsPresent (state g h).now.schema
     pub whole : HasGoodDisk h → (trees : Trees) → (state g h).may_leave trees → HoldsOneOf is trees
 
   -- the tables hold what they held, a stop leaves nothing more than before, and only a fault of the disk shuts the

@@ -24,9 +24,9 @@ delete_shares = codes "DELETE FROM shares WHERE office = ?1 AND loan = ?2 AND se
 
 delete_shares_is : (journaled : Bool)
     → command_of (understood (schema_keeping journaled) delete_shares) ≡ Delete 10 (record {
-  lets = [];
-  body = scan 21 (eq (col 1 1) (col 0 0) ∷ eq (col 1 2) (col 0 1) ∷ eq (col 1 3) (col 0 2) ∷ []) (col 1 0 ∷ []) [];
-})
+      lets = [];
+      body = scan 21 (eq (col 1 1) (col 0 0) ∷ eq (col 1 2) (col 0 1) ∷ eq (col 1 3) (col 0 2) ∷ []) (col 1 0 ∷ []) [];
+    })
 unfolding understood everything
 delete_shares_is false = refl
 delete_shares_is true = refl

@@ -1,5 +1,5 @@
 -- All tables as nested pairs, in the order of the schema, and as a record of lists.
-use Rattle.std.proofs.Common.{◌≡◌, ℕ, zero, suc, List, [], ◌∷◌, take, drop, sym, subst}
+use Rattle.std.proofs.Common.{◌≡◌, ℕ, zero, suc, false, List, [], ◌∷◌, take, drop, sym, subst}
 use Rattle.std.specs.List.{AllByRecursion}
 use Rattle.sqlite.specs.Effect.{Database}
 use Rattle.sqlite.specs.Schema.{Schema}
@@ -16,7 +16,8 @@ use Rattle.sqlite.specs.State.{State}
 use Rattle.sqlite.specs.Tree.{Trees}
 use Rattle.mf_store_sql.specs.Trees.{Condition, AllHold}
 use Rattle.mf_store_schema.specs.Calls.{IsAsBefore}
-use Rattle.mf_store_schema.specs.Schemas.{IsKnown, IsPresent, IsUnchangedUnder}
+use Rattle.mf_store_schema.specs.Schemas.{IsKnown, IsUnchangedUnder}
+use Rattle.mf_store_schema.specs.Tables.{IsPresent}
 use Rattle.mf_store_schema.specs.Rows.{Lists}
 use Rattle.mf_store_schema.specs.declared.charges.ChargeRow.{ChargeRow}
 use Rattle.mf_store_schema.specs.declared.clients.ClientRow.{ClientRow}
@@ -58,6 +59,7 @@ lists_with t instalments shares = record {
   receipts = t.1.1.1.1.1.1.1.1.0;
   instalments = instalments;
   shares = shares;
+  journal = [];
 }
 
 -- those of all versions
@@ -153,7 +155,8 @@ common_hold v is db lists ours sound all = subst (λ w. HoldsAt w db.trees lists
 
 module _ (v : Version) (is : v ≡ Second) where
   has_accounts : (k : Schema) → IsOfVersion v k → IsPresent k × (IsPresent k × Unit {0})
-  has_accounts k ours = let its = subst (λ w. IsOfVersion w k) is ours in its also its also tt
+  has_accounts k ours = let its : IsPresent k = (false, subst (λ w. IsOfVersion w k) is ours) in
+      its also its also tt
 
   -- and then those of accounts
   pub unchanged_all : (a b c : State) → IsUnchangedUnder (λ k. Nine (IsKnown k) (Unit {0})) a b

@@ -293,6 +293,7 @@ all_of schema t k catalogue meta charges products o s tree named r =
         receipts = receipts z;
         instalments = [];
         shares = [];
+        journal = [];
       };
     }
 

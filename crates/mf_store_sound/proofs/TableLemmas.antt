@@ -33,6 +33,7 @@ pub of_parts : (P : Lists → Type 0) (t inside : Lists) (view : inside ≡ t) (
       receipts = receipts;
       instalments = instalments;
       shares = shares;
+      journal = inside.journal;
     }) → P t
 of_parts P t inside view meta offices staff clients charges products loans entries receipts instalments shares
     m o s c h p l e r i q told =
@@ -48,4 +49,5 @@ of_parts P t inside view meta offices staff clients charges products loans entri
       receipts = (r ∙ (λ y. (view y).receipts)) z;
       instalments = (i ∙ (λ y. (view y).instalments)) z;
       shares = (q ∙ (λ y. (view y).shares)) z;
+      journal = (view z).journal;
     }) told

@@ -75,23 +75,27 @@ pub under_of : (v : Version) (t : Lists) → AreOfSoundAt v t → AreUnder (numb
 under_of v t h =
     record { institution = h.institution; sound = h.sound; rows_are = bare_of v t h.institution h.rows_are }
 
-pub bare_is : (t : Lists) (B : Type 0) → AreUnder 1 t → B ↔ ((t.instalments ≡ []) × (t.shares ≡ []))
+pub bare_is : (t : Lists) (B : Type 0) → t.journal ≡ [] → AreUnder 1 t → B ↔ ((t.instalments ≡ []) × (t.shares ≡ []))
     → B ↔ AreOfSoundAt First t
-bare_is t B u empty = (
+bare_is t B none u empty = (
   λ yes.
       let both = empty.0 yes in
       record {
         institution = u.institution;
         sound = u.sound;
-        rows_are = λ z. record (u.rows_are z) { instalments = sym both.0 z; shares = sym both.1 z };
+        rows_are = λ z. record (u.rows_are z) {
+          instalments = sym both.0 z;
+          shares = sym both.1 z;
+          journal = sym none z;
+        };
       },
   λ h. empty.1 (ap (λ (l : Lists). l.instalments) (sym h.rows_are), ap (λ (l : Lists). l.shares) (sym h.rows_are)),
 )
 
-pub whole_is : (t : Lists) (B : Type 0) → AreUnder 2 t → Told (λ instalments shares k ps. B
+pub whole_is : (t : Lists) (B : Type 0) → t.journal ≡ [] → AreUnder 2 t → Told (λ instalments shares k ps. B
     ↔ AreAccounts k ps instalments shares) t → B ↔ AreOfSoundAt Second t
 unfolding under_of
-whole_is t B u told =
+whole_is t B none u told =
     let at : (v : AreUnder 2 t) → B ↔ AreAccounts v.institution.catalogue (all_placed v.institution.offices)
     t.instalments t.shares = λ v. told_at (λ instalments shares k ps. B ↔ AreAccounts k ps instalments shares) 2 t v
     told in (
@@ -100,7 +104,11 @@ whole_is t B u told =
           record {
             institution = u.institution;
             sound = u.sound;
-            rows_are = λ z. record (u.rows_are z) { instalments = sym kept.0 z; shares = sym kept.1 z };
+            rows_are = λ z. record (u.rows_are z) {
+              instalments = sym kept.0 z;
+              shares = sym kept.1 z;
+              journal = sym none z;
+            };
           },
       λ h. (at (under_of Second t h)).1 ((accounts_are h.institution t.instalments t.shares).1 (
         ap (λ (l : Lists). l.instalments) (sym h.rows_are),

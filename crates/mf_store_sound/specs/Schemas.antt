@@ -12,14 +12,18 @@ use Rattle.mf_store_values.specs.Flat.{tables_of}
 abbrev pub meta_under : ℕ → ℕ → MetaRow
 meta_under schema day = record { one = 1; schema = schema; day = day_text day }
 
--- the lists less the rows of accounts
+-- the lists less the journal
+abbrev pub without_journal : Lists → Lists
+without_journal lists = record lists { journal = [] }
+
+-- and less the rows of accounts
 abbrev pub without_accounts : Lists → Lists
-without_accounts lists = record lists { instalments = []; shares = [] }
+without_accounts lists = record (without_journal lists) { instalments = []; shares = [] }
 
 -- these lists, but none where a version has no table of them
 abbrev pub lists_at : Version → Lists → Lists
 lists_at First lists = without_accounts lists
-lists_at Second lists = lists
+lists_at Second lists = without_journal lists
 
 -- what all tables but those of accounts hold of an institution, under this schema's number
 abbrev pub tables_under : ℕ → Institution → Lists

@@ -1,6 +1,6 @@
 //! Whether the tables of a connection, whatever rows stand there, are those of a sound institution.
 
-ghost use Rattle.std.specs.Prelude.{◌≡◌, IsTrue, OnOk, IfOk, IfErr, IfSome, IfNone, false};
+ghost use Rattle.std.specs.Prelude.{◌≡◌, [], IsTrue, OnOk, IfOk, IfErr, IfSome, IfNone, false};
 ghost use Rattle.mf_base.specs.declared.fault.Fault.TheVariants.{F20};
 ghost use Rattle.sqlite.specs.Held.{state};
 ghost use Rattle.sqlite.specs.State.{HasCleanDisk};
@@ -57,6 +57,7 @@ fn all_of(common: Common, instalments: Vec<InstalmentRow>, shares: Vec<ShareRow>
       receipts = common.1.1.1.1.1.1.1.1.rows.items;
       instalments = instalments.items;
       shares = shares.items;
+      journal = [];
     } }
 {
     let (meta, (offices, (staff, (clients, (charges, (products, books)))))) = common;

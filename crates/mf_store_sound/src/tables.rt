@@ -34,6 +34,7 @@ pub struct Tables {
 }
 
 impl Model for Tables {
+    ghost use Rattle.std.specs.Prelude.{[]};
     ghost use Rattle.mf_store_schema.specs.Rows.{Lists};
 
     ghost Value = { Lists };
@@ -50,6 +51,7 @@ impl Model for Tables {
       receipts = t.receipts.items;
       instalments = t.instalments.items;
       shares = t.shares.items;
+      journal = [];
     } };
 }
 

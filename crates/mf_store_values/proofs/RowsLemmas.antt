@@ -1,5 +1,5 @@
 -- What rows that are taken one at a time leave of the connection that gives them.
-use Rattle.std.proofs.Common.{◌≡◌, pos, false, map, filter, IsTrue, IfOk, ℕ, Result, IfErr, OnOk, true≢false, inl, inr}
+use Rattle.std.proofs.Common.{◌≡◌, pos, Bool, false, map, filter, IsTrue, IfOk, ℕ, Result, IfErr, OnOk, true≢false, inl, inr}
 use Rattle.std.proofs.Common.{List, [], ◌∷◌, None, Some, Ok, Err, refl, sym, ap, subst, ◌∙◌, arith, ◌++◌}
 use Rattle.std.specs.Result.{IsErr, is_err}
 use Rattle.std.proofs.lemmas.Result.{IfErr-weaker, on_ok_weaker}
@@ -19,7 +19,8 @@ use Rattle.mf_arrears.specs.Line.{OfficeLine, line_of_loans}
 use Rattle.mf_store_sql.proofs.QueryLemmas.{either_way, not_run_same, crash_prepared, answers_prepared}
 use Rattle.mf_store_schema.specs.Calls.{IsKeeping, IsAsBefore}
 use Rattle.mf_store_schema.specs.Rows.{Lists, instalment_row, is_instalment_in}
-use Rattle.mf_store_schema.specs.Tables.{schema}
+use Rattle.mf_store_schema.specs.Tables.{schema_keeping}
+use Rattle.mf_store_schema.specs.Writes.{are_some}
 use Rattle.mf_store_schema.proofs.CallLemmas.{unchanged}
 use Rattle.mf_store_schema.specs.InstalmentsTexts.{lists_by_1}
 use Rattle.mf_store_schema.proofs.RangeLemmas.{instalments_of_office, instalments_of_office_shows}

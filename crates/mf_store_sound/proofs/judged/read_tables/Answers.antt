@@ -4,7 +4,7 @@ use Rattle.sqlite_catalog.specs.Listing.{IsSound}
 use Rattle.mf_store_sql.specs.Trees.{AllHold}
 use Rattle.mf_store_schema.specs.Writes.{conditions}
 use Rattle.mf_store_schema.proofs.ReadLemmas.{at_none, at_some}
-use Rattle.mf_store_sound.specs.Held.{CanHoldRows, DoRise, Rises}
+use Rattle.mf_store_sound.specs.Held.{AllTrue, CanHoldRows, DoRise, Rises, said_of_each}
 use Rattle.mf_store_sound.specs.Schemas.{lists_at}
 use Rattle.mf_store_sound.proofs.NestedLemmas.{common_of, accounts_of, same_lists, all_lists, first_nine}
 use Rattle.mf_store_sound.proofs.NestedLemmas.{under_common, unchanged_common, common_held, common_rowids, common_hold}
@@ -48,10 +48,11 @@ pub returns-in-First-clause-keeps : goal.returns-in-First-clause-keeps
 returns-in-First-clause-keeps g c clean ours rowids rise =
     let db = (state g.S.Store c.args.connection.now).now in
     let sound : IsSound db.schema db.trees = search rules in
-    let up = subst DoRise c.all_of.ensures rise in
+    let nine = subst (λ l. AllTrue (take 9 (said_of_each (λ A columns row cmp items. Rises cmp items) l)))
+    c.all_of.ensures (first_nine (λ A columns row cmp items. Rises cmp items) c.all_of.result rise.all) in
     let all = at_some c.in_ok-found.found _ _ c.in-Some.is (c.in_ok-found.ensures.keeps clean (under_common _
     (c.args.version, ours)) (common_rowids c.args.version db.trees rowids))
-    (first_nine (λ A columns row cmp items. Rises cmp items) _ up.all) in
+    nine in
     common_hold c.args.version c.in-First.is db c.all_of.result ours sound
     (subst (λ l. AllHold db.trees (take 9 (conditions l))) (sym c.all_of.ensures) all)
 
@@ -110,9 +111,11 @@ returns-in-Some-more-clause-keeps g c clean ours rowids rise =
     let same = c.read_group.ensures.kept.same early (c.in_ok-found.ensures.open early) known in
     let sound : IsSound was.schema was.trees = search rules in
     let up = subst DoRise c.all_of-in-Second.ensures rise in
+    let nine = subst (λ l. AllTrue (take 9 (said_of_each (λ A columns row cmp items. Rises cmp items) l)))
+    c.all_of-in-Second.ensures (first_nine (λ A columns row cmp items. Rises cmp items) c.all_of-in-Second.result
+    rise.all) in
     let common = at_some c.in_ok-found.found _ _ c.in-Some.is (c.in_ok-found.ensures.keeps early known
-    (common_rowids c.args.version was.trees rowids)) (first_nine (λ A columns row cmp items. Rises cmp items) _ up.all)
-    in
+    (common_rowids c.args.version was.trees rowids)) nine in
     let more = at_some c.in_ok-more-in-Second.more _ _ c.in-Some-more.is (c.in_ok-more-in-Second.ensures.keeps clean
     (under_accounts c.args.version c.in-Second.is was now same ours)
     (accounts_rowids c.args.version c.in-Second.is was now same ours rowids)) up.all.1.1.1.1.1.1.1.1.1 in

@@ -1,5 +1,6 @@
 use Rattle.std.proofs.Common.{◌↔◌, IsTrue, refl, sym, ap, ◌∙◌, subst}
 use Rattle.std.proofs.lemmas.Result.{IfOk-weaker}
+use Rattle.mf_store_schema.specs.Rows.{Lists}
 use Rattle.mf_store_schema.specs.Versions.{number_of}
 use Rattle.mf_store_schema.specs.declared.versions.Version.{Version}
 use Rattle.mf_store_values.specs.Accounts.{AreAccounts}
@@ -19,7 +20,8 @@ returns-in-First-clause-exact c =
     let under = (c.in_ok-are_under.ensures {u = tt}).exact.0 c.if-not-branch.false in
     let number = c.number.ensures ∙ ap number_of c.in-First.is in
     subst (λ v. IsTrue c.has_no_accounts.result ↔ AreOfSoundAt v c.args.tables.now) (sym c.in-First.is)
-    (bare_is c.args.tables.now (IsTrue c.has_no_accounts.result) (subst (λ n. AreUnder n c.args.tables.now) number under)
+    (bare_is c.args.tables.now (IsTrue c.has_no_accounts.result)
+    (sym (ap (λ (l : Lists). l.journal) c.tables.view_is)) (subst (λ n. AreUnder n c.args.tables.now) number under)
     c.has_no_accounts.ensures)
 
 pub returns-in-Second-clause-exact : goal.returns-in-Second-clause-exact
@@ -28,7 +30,7 @@ returns-in-Second-clause-exact c =
     let number = c.number.ensures ∙ ap number_of c.in-Second.is in
     IfOk-weaker c.are_accounts.result _ _ (λ answer told.
     subst (λ v. IsTrue answer ↔ AreOfSoundAt v c.args.tables.now) (sym c.in-Second.is)
-    (whole_is c.args.tables.now (IsTrue answer) (subst (λ n. AreUnder n c.args.tables.now) number under)
+    (whole_is c.args.tables.now (IsTrue answer) (sym (ap (λ (l : Lists). l.journal) c.tables.view_is)) (subst (λ n. AreUnder n c.args.tables.now) number under)
     (
     of_parts (Told (λ instalments shares k ps. IsTrue answer ↔ AreAccounts k ps instalments shares)) c.args.tables.now
     _ c.tables.view_is _ _ _ _ _ _ _ _ _ _ _

@@ -10,7 +10,7 @@ use Rattle.mf_store_values.proofs.office_line.line_of_office.Goals as goal
 pub returns-then-is_err-clause-kept : goal.returns-then-is_err-clause-kept
 returns-then-is_err-clause-kept g c =
     unprepared _ instalments_of_office _ (state g.S.Store c.args.connection.now) (state g.S.Store c.prepare.new.self)
-    c.prepare.result lists_by_1.plain
+    c.prepare.result (λ journaled. (lists_by_1 journaled).plain)
     (c.is_autocommit-settled.ensures.settled (c.is_autocommit-settled.ensures.value ∙ ap not c.requires.alone))
     c.prepare.ensures.ok c.prepare.ensures.err c.prepare.ensures.survives
 
@@ -18,7 +18,7 @@ pub returns-in_err-fold_answer-clause-kept : goal.returns-in_err-fold_answer-cla
 returns-in_err-fold_answer-clause-kept g c =
     folded_unchanged _ instalments_of_office _ (state g.S.Store c.args.connection.now)
     (state g.S.Store c.prepare.new.self) (state g.S.Store c.fold_answer.new.connection) c.prepare.result
-    lists_by_1.plain
+    (λ journaled. (lists_by_1 journaled).plain)
     (c.is_autocommit-settled.ensures.settled (c.is_autocommit-settled.ensures.value ∙ ap not c.requires.alone))
     (sym c.is_err.ensures.value ∙ c.if-is_err.false) c.prepare.ensures.ok c.prepare.ensures.survives
     c.fold_answer.ensures.survives c.fold_answer.ensures.same
@@ -27,7 +27,7 @@ pub returns-clause-kept : goal.returns-clause-kept
 returns-clause-kept g c =
     folded_unchanged _ instalments_of_office _ (state g.S.Store c.args.connection.now)
     (state g.S.Store c.prepare.new.self) (state g.S.Store c.fold_answer.new.connection) c.prepare.result
-    lists_by_1.plain
+    (λ journaled. (lists_by_1 journaled).plain)
     (c.is_autocommit-settled.ensures.settled (c.is_autocommit-settled.ensures.value ∙ ap not c.requires.alone))
     (sym c.is_err.ensures.value ∙ c.if-is_err.false) c.prepare.ensures.ok c.prepare.ensures.survives
     c.fold_answer.ensures.survives c.fold_answer.ensures.same
