@@ -5,7 +5,7 @@ use Rattle.sqlite.specs.Tree.{Trees}
 use Rattle.sqlite_trees.specs.declared.store.Store.{Ghosts}
 use Rattle.mf_model.specs.Institution.{Institution}
 use Rattle.mf_model.specs.Sound.{IsSound}
-use Rattle.mf_store_schema.specs.Calls.{IsAsBefore, IsKeeping, OnlyFaultsShut}
+use Rattle.mf_store_schema.specs.Calls.{IsKeeping, OnlyFaultsShut}
 use Rattle.mf_store_schema.specs.Rows.{Lists}
 use Rattle.mf_store_schema.specs.Versions.{IsOfVersion, schema_at}
 use Rattle.mf_store_schema.specs.Writes.{Holds, HoldsAt}
@@ -15,7 +15,6 @@ use Rattle.mf_store_schema.specs.Whole.{HaveRowids}
 use Rattle.mf_store_schema.specs.declared.versions.Version.{Version}
 use Rattle.mf_store_schema.specs.declared.versions.Version.TheVariants.{Second}
 use Rattle.mf_store_sound.specs.Schemas.{tables_at}
-use Rattle.mf_store_sound.proofs.NestedLemmas.{unchanged_present}
 use Rattle.mf_store_sql.specs.Writes.{Serves}
 use Rattle.sqlite.specs.State.{State}
 use Rattle.mf_store_schema.specs.Upgraded.{IsKeepingAt}
@@ -88,7 +87,7 @@ module _ {S : Type 0} (g : Ghosts S) (v : Version) (old mid : Held S)
           refused = λ clean rowids none_held trees may. absurd (none_held (sound (premise clean) its rowids));
         }
 
--- what nothing changes under today's version is as before
-pub as_before : (v : Version) → v ≡ Second → (a b : State) → IsUnchangedUnder (IsOfVersion v) a b → IsAsBefore a b
-as_before v today a b =
-    unchanged_present (IsOfVersion v) a b (λ k present. subst (λ w. IsOfVersion w k) (sym today) present)
+-- what nothing changes under a version that is today's
+pub as_before : (v : Version) → v ≡ Second → (a b : State) → IsUnchangedUnder (IsOfVersion v) a b
+    → IsUnchangedUnder (IsOfVersion Second) a b
+as_before v today a b = subst (λ w. IsUnchangedUnder (IsOfVersion w) a b) today

@@ -36,8 +36,8 @@ module _ {D : Type 0} {g : Ghosts D} (c : Held (FileStore D g)) (settled : IsTru
     committed_holds = record {
       institution = i;
       sound = was.sound;
-      holds = subst (λ (db : Database). Holds db.trees (Some (tables_of i))) (settled copied.was_open)
-          (was.serves copied.was_open).holds;
+      holds = let held = subst (λ (db : Database). Holds db.trees (Some (tables_of i))) (settled copied.was_open)
+          (was.serves copied.was_open).holds in record { sound = held.sound; all = held.all };
     }
 
     pub whole : HoldsByItself (image_of g end) i

@@ -145,7 +145,7 @@ module _
       → HoldsOneOf (left_after run i (i ∷ [])) left → (held : HoldsSound left) × IsLeftBy run i held.institution
   left_tables run i sound range left one =
       let it = one_of_run left run i one in
-      (record { institution = it.0; sound = left_sound run i it.0 sound range it.1; holds = it.2 }, it.1)
+      (record { institution = it.0; sound = left_sound run i it.0 sound range it.1; holds = record { sound = it.2.sound; all = it.2.all } }, it.1)
 
   -- and whatever a stop leaves of the files is a database with them
   pub left_files : {D : Type 0} {g : Ghosts D} (store : FileStore D g) (run : List Line) (i : Institution) → IsSound i

@@ -7,7 +7,7 @@ use Rattle.sqlite.specs.State.{HasCleanDisk}
 use Rattle.sqlite_trees.specs.declared.store.Store.{Ghosts}
 use Rattle.mf_model.specs.Institution.{Institution}
 use Rattle.mf_store_sql.specs.Tables.{no_schema}
-use Rattle.mf_store_schema.specs.Calls.{IsAsBefore}
+use Rattle.mf_store_schema.specs.Schemas.{IsUnchangedUnder}
 use Rattle.mf_store_schema.specs.Versions.{IsOfVersion}
 use Rattle.mf_store_schema.specs.Whole.{HaveRowids}
 use Rattle.mf_store_schema.specs.declared.versions.Version.{Version}
@@ -64,7 +64,7 @@ module _ {S : Type 0} (g : Ghosts S) (h : Held S) where
         → IfErr r (λ e. e.0 ≡ F19 → HasCleanDisk (state g e.1) → IsOfVersion v (state g h).now.schema
         → ¬ HoldsSoundAt v (state g h).now.trees)
         → IfErr r (λ e. IsOfVersion v (state g h).now.schema → IsLeftAt g v h e.1)
-        → IfErr r (λ e. v ≡ Second → IsAsBefore (state g h) (state g e.1))
+        → IfErr r (λ e. v ≡ Second → IsUnchangedUnder (IsOfVersion Second) (state g h) (state g e.1))
         → IfErr r (λ e. e.1.in_transaction ≡ false)
         → IfErr r (λ e. IsGivenBack g h e.1 e.0)
     back_at (Ok store) still errors refused left unchanged alone = tt

@@ -7,8 +7,7 @@ use Rattle.sqlite.specs.State.{HasCleanDisk}
 use Rattle.sqlite_trees.specs.declared.store.Store.{Ghosts}
 use Rattle.mf_model.specs.Institution.{Institution}
 use Rattle.mf_store_sql.specs.Tables.{no_schema}
-use Rattle.mf_store_schema.specs.Calls.{IsAsBefore}
-use Rattle.mf_store_schema.specs.Schemas.{IsKnown}
+use Rattle.mf_store_schema.specs.Schemas.{IsKnown, IsUnchangedUnder}
 use Rattle.mf_store_schema.specs.Versions.{IsOfVersion}
 use Rattle.mf_store_schema.specs.Whole.{HaveRowids}
 use Rattle.mf_store_schema.specs.declared.versions.Version.{Version}
@@ -36,7 +35,8 @@ module _ {S : Type 0} (g : Ghosts S) where
     pub still : HasCleanDisk (state g new) → HasCleanDisk (state g old)
     pub alone : new.in_transaction ≡ false
     pub errors : (fault ≡ F19) ⊎ (fault ≡ F20)
-    pub unchanged : IsOfVersion Second (state g old).now.schema → IsAsBefore (state g old) (state g new)
+    pub unchanged : IsOfVersion Second (state g old).now.schema
+        → IsUnchangedUnder (IsOfVersion Second) (state g old) (state g new)
     pub left : (v : Version) → IsOfVersion v (state g old).now.schema → IsLeftAt g v old new
     pub refused : fault ≡ F19 → HasCleanDisk (state g new) → (v : Version) → IsOfVersion v (state g old).now.schema
         → ¬ HoldsSoundAt v (state g old).now.trees

@@ -9,9 +9,8 @@ ghost use Rattle.sqlite.specs.State.{HasCleanDisk};
 ghost use Rattle.mf_store_sql.specs.Tables.{no_schema};
 ghost use Rattle.mf_store_sql.specs.Writes.{Serves};
 ghost use Rattle.mf_model.specs.Institution.{Institution, newly_made};
-ghost use Rattle.mf_store_schema.specs.Calls.{IsAsBefore};
 ghost use Rattle.mf_store_schema.specs.Writes.{schema_of, Holds};
-ghost use Rattle.mf_store_schema.specs.Schemas.{IsKnown};
+ghost use Rattle.mf_store_schema.specs.Schemas.{IsKnown, IsUnchangedUnder};
 ghost use Rattle.mf_store_schema.specs.Versions.{IsOfVersion};
 ghost use Rattle.mf_store_schema.specs.Whole.{HaveRowids};
 ghost use Rattle.mf_store_schema.specs.declared.versions.Version.TheVariants.{Second};
@@ -62,8 +61,8 @@ fn take_over<S: Alter, P: Progress>(
         → ¬ HoldsSoundAt version (state S.Store connection).now.trees) }
     ensures left { IfErr result (λ e. IsOfVersion version (state S.Store connection).now.schema
         → IsLeftAt S.Store version connection e.1) }
-    ensures unchanged { IfErr result (λ e. version ≡ Second → IsAsBefore (state S.Store connection)
-        (state S.Store e.1)) }
+    ensures unchanged { IfErr result (λ e. version ≡ Second → IsUnchangedUnder (IsOfVersion Second)
+        (state S.Store connection) (state S.Store e.1)) }
     ensures alone { IfErr result (λ e. e.1.in_transaction ≡ false) }
 {
     let tables = match read_sound(alloc, &mut connection, version, progress) {

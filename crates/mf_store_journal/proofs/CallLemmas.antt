@@ -14,14 +14,13 @@ use Rattle.sqlite_keyed.proofs.ListLemmas.{all_of}
 use Rattle.mf_store_sql.specs.Numbered.{Filed, shown_filed, KeepsLines, create_numbered}
 use Rattle.mf_store_sql.specs.Numbered.{append_text, above_text, last_text}
 use Rattle.mf_store_sql.specs.NumberedMeanings.{MakesNumbered, AppendsLine, LeavesLines, ShowsAbove, ShowsLast}
-use Rattle.mf_store_schema.specs.Tables.{schema}
 use Rattle.mf_model.specs.Institution.{JournalLine}
 use Rattle.mf_journal.specs.Chain.{line_of_row, link}
 use Rattle.mf_journal.specs.Following.{Follows, kept_at, line_of}
 use Rattle.mf_journal.specs.declared.chain.JournalRow.{JournalRow}
 use Rattle.mf_journal.specs.declared.following.Head.{Head}
 use Rattle.mf_journal.specs.declared.following.KeptRow.{KeptRow}
-use Rattle.mf_store_journal.specs.Table.{journal, third_schema}
+use Rattle.mf_store_schema.specs.Tables.{schema, journal, third_schema}
 use Rattle.mf_store_journal.specs.Rows.{filed_kept, filed_at, head_with, head_with_all}
 use Rattle.mf_store_journal.specs.Rows.{filed_beginning, journal_rows_in}
 use Rattle.mf_store_journal.specs.Adding.{KeepsJournal, MakesJournal, PutsLine, LeavesJournal, AddsLine}

@@ -22,7 +22,7 @@ use Rattle.mf_store_sql.proofs.AlikeLemmas.{answer_full}
 use Rattle.mf_store_sql.proofs.ColumnLemmas.{columns_at, columns_later, all_columns, reads_row, as_many}
 use Rattle.mf_store_sql.proofs.NumberedLemmas.{below_int, out, shows_lines}
 use Rattle.mf_store_journal.specs.Adding.{KeepsJournal}
-use Rattle.mf_store_journal.specs.Table.{journal}
+use Rattle.mf_store_schema.specs.Tables.{journal}
 use Rattle.mf_store_journal.specs.Texts.{first_text}
 use Rattle.mf_store_journal.proofs.TextsLemmas.{is_journal}
 

@@ -15,7 +15,7 @@ use Rattle.mf_journal.specs.Chain.{link}
 use Rattle.mf_journal.specs.Following.{FollowOn, head_of, head_after, line_of}
 use Rattle.mf_journal.specs.declared.following.Head.{Head}
 use Rattle.mf_journal.specs.declared.following.KeptRow.{KeptRow}
-use Rattle.mf_store_journal.specs.Table.{journal}
+use Rattle.mf_store_schema.specs.Tables.{journal}
 use Rattle.mf_store_journal.specs.Rows.{values_of, filed_line, filed_kept, filed_at, head_with}
 use Rattle.mf_store_journal.specs.Rows.{head_with_all, filed_after, journal_rows_in}
 

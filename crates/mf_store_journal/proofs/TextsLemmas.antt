@@ -3,8 +3,7 @@ use Rattle.std.proofs.Common.{refl}
 use Rattle.sqlite_tied.specs.Compute.{everything}
 use Rattle.sqlite.specs.Listing.{understood}
 use Rattle.mf_store_sql.specs.NumberedMeanings.{IsNumbered, IsNumberedBy}
-use Rattle.mf_store_schema.specs.Tables.{schema}
-use Rattle.mf_store_journal.specs.Table.{journal, third_schema}
+use Rattle.mf_store_schema.specs.Tables.{schema, journal, third_schema}
 use Rattle.mf_store_journal.specs.Texts.{HasTexts, IsJournal}
 
 pub has_texts : HasTexts

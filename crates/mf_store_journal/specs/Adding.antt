@@ -4,12 +4,11 @@ use Rattle.sqlite.specs.Effect.{Database}
 use Rattle.sqlite.specs.State.{State, IsRolledBack}
 use Rattle.mf_store_sql.specs.Numbered.{Filed, KeepsLines}
 use Rattle.mf_store_sql.specs.NumberedMeanings.{IsMade, IsAppended, IsLeft}
-use Rattle.mf_store_schema.specs.Tables.{schema}
 use Rattle.mf_model.specs.Institution.{JournalLine}
 use Rattle.mf_journal.specs.Chain.{line_of_row}
 use Rattle.mf_journal.specs.declared.chain.JournalRow.{JournalRow}
 use Rattle.mf_journal.specs.declared.following.Head.{Head}
-use Rattle.mf_store_journal.specs.Table.{journal, third_schema}
+use Rattle.mf_store_schema.specs.Tables.{schema, journal, third_schema}
 use Rattle.mf_store_journal.specs.Rows.{journal_rows_in, head_with, head_with_all}
 
 -- the database has the schema with the journal, whose table keeps these lines

@@ -1,8 +1,7 @@
 pub mod Adding
 pub mod Checking
+pub mod Noting
 pub mod Reading
 pub mod Rows
-pub mod Table
 pub mod Texts
-pub mod ThirdTexts
 pub mod WorkedRows

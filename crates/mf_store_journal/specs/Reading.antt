@@ -5,7 +5,7 @@ use Rattle.sqlite.specs.Schema.{Schema}
 use Rattle.sqlite.specs.State.{State}
 use Rattle.mf_store_sql.specs.Numbered.{Filed, id_of, is_above, shown_filed}
 use Rattle.mf_model.specs.Institution.{JournalLine}
-use Rattle.mf_store_journal.specs.Table.{third_schema}
+use Rattle.mf_store_schema.specs.Tables.{third_schema}
 use Rattle.mf_store_journal.specs.Rows.{filed_at, IsLineRow}
 use Rattle.mf_store_journal.specs.Adding.{KeepsJournal}
 use Rattle.mf_store_journal.specs.declared.reading.Standing.{Standing}

@@ -10,7 +10,7 @@ use Rattle.mf_journal.specs.Chain.{link}
 use Rattle.mf_journal.specs.Following.{line_of}
 use Rattle.mf_journal.specs.declared.following.Head.{Head}
 use Rattle.mf_journal.specs.declared.following.KeptRow.{KeptRow}
-use Rattle.mf_store_journal.specs.Table.{journal}
+use Rattle.mf_store_schema.specs.Tables.{journal}
 
 -- the values of a line and the chain after it
 abbrev pub values_of : JournalLine → List ℕ → Row

@@ -7,8 +7,7 @@ use Rattle.mf_store_sql.specs.Numbered.{Numbered, numbered_table, create_numbere
 use Rattle.mf_store_sql.specs.Numbered.{shows_text}
 use Rattle.mf_store_sql.specs.NumberedMeanings.{IsNumbered, IsNumberedBy, ShowsAs, shown_terms}
 use Rattle.mf_store_sql.specs.Scan.{by, scan, cut_at}
-use Rattle.mf_store_schema.specs.Tables.{schema}
-use Rattle.mf_store_journal.specs.Table.{journal, third_schema}
+use Rattle.mf_store_schema.specs.Tables.{schema, journal, third_schema}
 
 -- shows the row with the lowest number
 abbrev pub first_text : Numbered → List ℕ

@@ -5,7 +5,7 @@ ghost use Rattle.mf_base.specs.declared.fault.Fault.TheVariants.{F20};
 ghost use Rattle.sqlite.specs.State.{HasCleanDisk, KeepsCommit, Survives};
 ghost use Rattle.sqlite.specs.Held.{state};
 ghost use Rattle.mf_store_sql.specs.Numbered.{create_numbered, append_text};
-ghost use Rattle.mf_store_journal.specs.Table.{journal};
+ghost use Rattle.mf_store_schema.specs.Tables.{journal};
 ghost use Rattle.mf_store_journal.specs.Rows.{filed_kept, filed_beginning};
 ghost use Rattle.mf_store_journal.specs.Adding.{MakesJournal, PutsLine, LeavesJournal, AddsLine};
 

@@ -9,13 +9,12 @@ ghost use Rattle.mf_model.specs.Institution.{JournalLine};
 ghost use Rattle.mf_journal.specs.Following.{FollowOn, head_after, line_of};
 ghost use Rattle.mf_journal.specs.declared.following.Head.{Head};
 ghost use Rattle.mf_journal.specs.declared.following.KeptRow.{KeptRow};
-ghost use Rattle.mf_store_journal.specs.Table.{journal, third_schema};
+ghost use Rattle.mf_store_schema.specs.Tables.{journal};
 ghost use Rattle.mf_store_journal.specs.Rows.{journal_rows_in, filed_at, filed_after, filed_kept, head_with};
 ghost use Rattle.mf_store_journal.specs.Rows.{head_with_all};
 ghost use Rattle.mf_store_journal.specs.Reading.{IsStanding};
 ghost use Rattle.mf_store_journal.specs.declared.reading.Standing.TheVariants.{At};
 ghost use Rattle.mf_store_journal.specs.Texts.{HasTexts, IsJournal};
-ghost use Rattle.mf_store_journal.specs.ThirdTexts.{Understands};
 ghost use Rattle.mf_store_journal.specs.WorkedRows.{IsWorked};
 
 /// The rows tell which journal an institution keeps, and where a journal begins; no row stands just where none is kept.
@@ -56,11 +55,6 @@ pub fn the_head_is_read()
 pub fn texts_of_the_journal()
     ensures texts { HasTexts }
     ensures meaning { IsJournal }
-{}
-
-/// With the journal beside them today's tables are read and written by the same texts, with the same meaning.
-pub fn texts_of_the_others_stay()
-    ensures { Understands third_schema }
 {}
 
 /// Two lines after an archived beginning, row by row.

@@ -5,11 +5,13 @@
 mod adding;
 mod checking;
 pub mod laws;
+mod noting;
 mod numbers;
 mod reading;
 mod rows;
 
 pub use adding::{add_line, beginning_row, make_journal, put_line};
 pub use checking::{Flaw, Found, check_journal};
+pub use noting::NotedWrite;
 pub use reading::{Standing, read_head, rows_after};
 pub use rows::kept_row;

@@ -9,7 +9,7 @@ ghost use Rattle.sqlite.specs.Held.{state};
 ghost use Rattle.mf_store_sql.specs.Numbered.{Filed, above_text, last_text, shown_filed};
 ghost use Rattle.mf_store_schema.specs.Schemas.{IsUnchangedUnder};
 ghost use Rattle.mf_journal.specs.Following.{head_of};
-ghost use Rattle.mf_store_journal.specs.Table.{journal};
+ghost use Rattle.mf_store_schema.specs.Tables.{journal};
 ghost use Rattle.mf_store_journal.specs.Texts.{first_text};
 ghost use Rattle.mf_store_journal.specs.Reading.{IsThird, IsKeeping, IsStanding, page_above};
 

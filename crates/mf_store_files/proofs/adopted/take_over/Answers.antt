@@ -1,6 +1,8 @@
 use Rattle.std.proofs.Common.{sym, subst}
 use Rattle.sqlite.specs.Held.{state}
-use Rattle.mf_store_schema.specs.Calls.{IsAsBefore}
+use Rattle.mf_store_schema.specs.Schemas.{IsUnchangedUnder}
+use Rattle.mf_store_schema.specs.Versions.{IsOfVersion}
+use Rattle.mf_store_schema.specs.declared.versions.Version.TheVariants.{Second}
 use Rattle.mf_store_files.proofs.AdoptLemmas.{stands_at, leaves_at, left_at, as_before}
 use Rattle.mf_store_schema.proofs.ReadLemmas.{at_some}
 use Rattle.mf_store_files.proofs.adopted.take_over.Goals as goal
@@ -38,5 +40,5 @@ pub returns-in-Err-bring_up-clause-unchanged : goal.returns-in-Err-bring_up-clau
 returns-in-Err-bring_up-clause-unchanged g c today =
     let was = c.args.connection in
     let read = c.read_sound.new.connection in
-    subst (λ h. IsAsBefore (state g.S.Store was) (state g.S.Store h)) (sym (c.in-Err-bring_up.ensures.today today))
+    subst (λ h. IsUnchangedUnder (IsOfVersion Second) (state g.S.Store was) (state g.S.Store h)) (sym (c.in-Err-bring_up.ensures.today today))
     (as_before c.args.version today (state g.S.Store was) (state g.S.Store read) c.in-Ok-Some.ensures.kept)
