@@ -1,0 +1,2 @@
+pub mod BesideLemmas
+pub mod NotedLemmas

@@ -1,0 +1,39 @@
+-- What tables keep of an institution that keeps a journal, too.
+use Rattle.std.specs.Prelude.{◌≡◌, ℕ, List, [], ◌∷◌, ◌++◌, Option, None, Some, option_map}
+use Rattle.mf_base.specs.DayText.{day_text}
+use Rattle.mf_model.specs.Institution.{Institution, JournalLine, with_line}
+use Rattle.mf_journal.specs.declared.following.Head.{Head}
+use Rattle.mf_store_sql.specs.Numbered.{Filed}
+use Rattle.mf_store_schema.specs.Rows.{Lists}
+use Rattle.mf_store_schema.specs.declared.meta.MetaRow.{MetaRow}
+use Rattle.mf_store_values.specs.Flat.{schema_number, tables_of}
+use Rattle.mf_store_journal.specs.Rows.{head_with_all, journal_rows_in}
+
+-- the number of the schema: that of today's tables alone, or with a journal, which begins somewhere
+abbrev pub number_kept : Option Head → ℕ
+number_kept None = schema_number
+number_kept (Some begins) = 3
+
+-- the row of meta on a business day
+abbrev pub meta_kept : Option Head → ℕ → MetaRow
+meta_kept journal day = record { one = 1; schema = number_kept journal; day = day_text day }
+
+-- the rows of a journal that begins here
+abbrev pub rows_kept : Option Head → Option (List JournalLine) → List Filed
+rows_kept None lines = []
+rows_kept (Some begins) lines = journal_rows_in begins lines
+
+-- what the tables keep of an institution: its rows, and those of its journal where they keep one
+abbrev pub tables_kept : Option Head → Institution → Lists
+tables_kept journal i = record (tables_of i) {
+  meta = meta_kept journal i.catalogue.day ∷ [];
+  journal = rows_kept journal i.journal;
+}
+
+-- the institution with a line more in its journal
+abbrev pub noted_with : JournalLine → Institution → Institution
+noted_with line i = record i { journal = with_line line i.journal }
+
+-- the journal that begins here stands so after its lines
+abbrev pub StandsAt : Head → Institution → Head → Type 0
+StandsAt begins i head = (lines : List JournalLine) × (i.journal ≡ Some lines) × (head ≡ head_with_all begins lines)

@@ -1,0 +1,4 @@
+pub mod Becoming
+pub mod Kept
+pub mod Puts
+pub mod Tabled
