@@ -1,2 +1,3 @@
+pub mod BeginningLemmas
 pub mod BesideLemmas
 pub mod NotedLemmas

@@ -31,13 +31,13 @@ use Rattle.mf_store_noted.specs.Tabled.{HoldsOneKept, IsKeptIn, LeavesKept}
 
 -- ---- the writes, and what stands after them
 
-put_after : (put : NotedWrite) (write : StoreWrite) → IsPut put write → (lists : Option Lists)
+pub put_after : (put : NotedWrite) (write : StoreWrite) → IsPut put write → (lists : Option Lists)
     → after_noted_write put lists ≡ after_write write lists
 put_after (Put w) write is lists = ap (λ x. after_write x lists) is
 put_after (Begin head) write is lists = absurd is
 put_after (AddLine kept) write is lists = absurd is
 
-put_fits : (put : NotedWrite) (write : StoreWrite) → IsPut put write → (lists : Option Lists) → FitsLists write lists
+pub put_fits : (put : NotedWrite) (write : StoreWrite) → IsPut put write → (lists : Option Lists) → FitsLists write lists
     → FitsNoted put lists
 put_fits (Put w) write is lists fits = subst (λ x. FitsLists x lists) (sym is) fits
 put_fits (Begin head) write is lists fits = absurd is

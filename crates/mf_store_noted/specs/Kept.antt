@@ -37,3 +37,7 @@ noted_with line i = record i { journal = with_line line i.journal }
 -- the journal that begins here stands so after its lines
 abbrev pub StandsAt : Head → Institution → Head → Type 0
 StandsAt begins i head = (lines : List JournalLine) × (i.journal ≡ Some lines) × (head ≡ head_with_all begins lines)
+
+-- the institution with a journal that has no line yet
+abbrev pub journaled : Institution → Institution
+journaled i = record i { journal = Some [] }
