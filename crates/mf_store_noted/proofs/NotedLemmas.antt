@@ -43,7 +43,7 @@ put_fits (Put w) write is lists fits = subst (λ x. FitsLists x lists) (sym is) 
 put_fits (Begin head) write is lists fits = absurd is
 put_fits (AddLine kept) write is lists fits = absurd is
 
-puts_after : (puts more : List NotedWrite) (writes : List StoreWrite) → ArePuts puts writes → (lists : Option Lists)
+pub puts_after : (puts more : List NotedWrite) (writes : List StoreWrite) → ArePuts puts writes → (lists : Option Lists)
     → after_all after_noted_write (puts ++ more) lists
     ≡ after_all after_noted_write more (after_all after_write writes lists)
 puts_after [] more [] are lists = refl
@@ -53,7 +53,7 @@ puts_after (put ∷ puts) more (write ∷ writes) are lists =
     ap (after_all after_noted_write (puts ++ more)) (put_after put write are.0 lists)
     ∙ puts_after puts more writes are.1 (after_write write lists)
 
-puts_fit : (puts more : List NotedWrite) (writes : List StoreWrite) → ArePuts puts writes → (lists : Option Lists)
+pub puts_fit : (puts more : List NotedWrite) (writes : List StoreWrite) → ArePuts puts writes → (lists : Option Lists)
     → AllFit after_write FitsLists writes lists
     → AllFit after_noted_write FitsNoted more (after_all after_write writes lists)
     → AllFit after_noted_write FitsNoted (puts ++ more) lists

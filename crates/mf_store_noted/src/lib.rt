@@ -5,5 +5,5 @@ mod beginning;
 pub mod laws;
 mod noted;
 
-pub use beginning::{JOURNALED_SCHEMA, begin_journal};
+pub use beginning::{JOURNALED_SCHEMA, begin_journal, found_journaled};
 pub use noted::write_noted;

@@ -22,6 +22,21 @@ use mf_store_sql::apply;
 use sqlite::{Alter, Connection};
 use std::alloc::Global;
 
+/// The writes as parts of a commit that the journal notes, with room for what comes after them.
+pub(crate) fn puts<'a>(
+    alloc: Global,
+    writes: &'a [StoreWrite],
+) -> Result<Vec<NotedWrite<'a>>, Fault>
+    ensures puts { IfOk result (λ noted. ArePuts noted.items writes.now) }
+    ensures gives_up { IfErr result (λ fault. fault ≡ F20) }
+{
+    let mut noted = Vec::new(alloc);
+    for write in writes {
+        noted.push(NotedWrite::Put(write))?;
+    }
+    Ok(noted)
+}
+
 /// The writes, and then the line.
 fn with_line<'a>(
     alloc: Global,
@@ -32,10 +47,7 @@ fn with_line<'a>(
         × ArePuts puts writes.now) }
     ensures gives_up { IfErr result (λ fault. fault ≡ F20) }
 {
-    let mut noted = Vec::new(alloc);
-    for write in writes {
-        noted.push(NotedWrite::Put(write))?;
-    }
+    let mut noted = puts(alloc, writes)?;
     noted.push(NotedWrite::AddLine(kept))?;
     Ok(noted)
 }
