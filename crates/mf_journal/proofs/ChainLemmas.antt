@@ -1,6 +1,6 @@
 -- One text, one line; and what two equal chains tell.
 use Rattle.std.proofs.Common.{◌≡◌, ◌≢◌, ◌⊎◌, ℕ, ◌^◌, ◌<◌, List, [], ◌∷◌, ◌++◌, length, inl, inr, refl, sym, ap, ◌∙◌}
-use Rattle.std.proofs.Common.{arith}
+use Rattle.std.proofs.Common.{arith, codes}
 use Rattle.std.proofs.Common.{append_assoc, take, drop}
 use Rattle.std.specs.Int.{w64, from_be_bytes}
 use Rattle.std.proofs.Math.Seq.{take-append_seam, drop-append_seam}
@@ -10,6 +10,7 @@ use Rattle.sha2.proofs.Facts256.{length-sha256}
 use Rattle.mf_model.specs.Institution.{JournalLine}
 use Rattle.mf_journal.specs.Chain.{IsJournalLine, AreJournalLines, IsCollision, number_text, bytes_text}
 use Rattle.mf_journal.specs.Chain.{text_of_line, link, chain_after}
+use Rattle.mf_journal.specs.Founding.{founding, founding_text}
 
 -- two texts that are cut at one length
 cut : (a b c d : List ℕ) → length a ≡ length c → a ++ b ≡ c ++ d → (a ≡ c) × (b ≡ d)
@@ -103,3 +104,17 @@ pub pieces : (before a b c d e f g h i : List ℕ)
     → before ++ a ++ b ++ c ++ d ++ e ++ f ++ g ++ h ++ i
     ≡ before ++ (a ++ (b ++ (c ++ (d ++ (e ++ (f ++ (g ++ (h ++ i))))))))
 pieces before a b c d e f g h i = simp append_assoc
+
+-- what two equal chains of foundings tell: one schema and one day, or two texts with one digest
+pub one_founding : (schema day number today : ℕ) → schema < 2 ^ 64 → day < 2 ^ 64 → number < 2 ^ 64 → today < 2 ^ 64
+    → (founding schema day).chain ≡ (founding number today).chain
+    → ((schema ≡ number) × (day ≡ today)) ⊎ ((s : List ℕ) × (t : List ℕ) × IsCollision s t)
+one_founding schema day number today small low few less e =
+    elim (same_or_not (founding_text schema day) (founding_text number today)) [
+      | inl text ↦
+          let rest = (cut (codes "microloan") (number_text schema ++ number_text day) (codes "microloan")
+          (number_text number ++ number_text today) refl text).1 in
+          let parts = one_number schema number (number_text day) (number_text today) small few rest in
+          inl (parts.0, number_alone day today low less parts.1)
+      | inr apart ↦ inr (founding_text schema day, founding_text number today, record { apart = apart; same = e })
+    ]

@@ -1,4 +1,5 @@
 pub mod Chain
 pub mod Following
+pub mod Founding
 pub mod Journal
 pub mod WorkedJournal

@@ -3,7 +3,9 @@
 ghost use Rattle.std.specs.Prelude.{◌≡◌, ◌++◌, List, ℕ};
 ghost use Rattle.std.specs.Int.{w64, to_be_bytes};
 ghost use Rattle.sha2.specs.Hashers.{Holds256};
+ghost use Rattle.sha2.specs.Sha256.{sha256};
 ghost use Rattle.mf_journal.specs.Chain.{bytes_text, line_of_row, link};
+ghost use Rattle.mf_journal.specs.Founding.{founding_text};
 
 use sha2::{Digest, Sha256};
 
@@ -43,6 +45,17 @@ pub fn link(before: &[u8; 32], row: JournalRow<'_>) -> [u8; 32]
     put_bytes(&mut hasher, row.body);
     put_number(&mut hasher, row.named_office);
     put_number(&mut hasher, row.named_loan);
+    hasher.finalize()
+}
+
+/// The chain before the first line of a new institution.
+pub(crate) fn founding_chain(schema: u64, day: u64) -> [u8; 32]
+    ensures { result ≡ sha256 (founding_text schema day) }
+{
+    let mut hasher = Sha256::new();
+    hasher.update(b"microloan");
+    put_number(&mut hasher, schema);
+    put_number(&mut hasher, day);
     hasher.finalize()
 }
 

@@ -2,8 +2,9 @@
 
 ghost use Rattle.std.specs.Prelude.{◌≡◌, ◌⊎◌, ◌<◌, ◌^◌, suc, IfOk, IfErr, IfSome, IsNone};
 ghost use Rattle.mf_journal.specs.Following.{Follows, BreaksFirst, FollowOn, IsBroken, head_of, head_after, kept_at};
+ghost use Rattle.mf_journal.specs.Founding.{founding};
 
-use crate::chain::{JournalRow, link};
+use crate::chain::{JournalRow, founding_chain, link};
 
 /// Where a journal stands: the number of its last line, that line's business day, and the chain after it. Before the
 /// first line the number is 0.
@@ -35,6 +36,18 @@ pub enum Break {
 }
 
 impl Head {
+    /// Where the journal of a new institution begins, by the number of the schema and the number of the first business
+    /// day; 1 January 2000 is 0.
+    pub fn founding(schema: u64, day: u64) -> Head
+        ensures { result ≡ founding schema day }
+    {
+        Head {
+            number: 0,
+            day,
+            chain: founding_chain(schema, day),
+        }
+    }
+
     /// Where the journal stands after a row, if it follows on; else the first condition that the row breaks.
     pub fn follow(self, kept: KeptRow<'_>) -> Result<Head, Break>
         ensures follows { IfOk result (λ head. Follows self kept.entry × (head ≡ head_of kept.entry)) }

@@ -1,11 +1,12 @@
 //! Laws of journals. Each function does nothing: its contract is the law.
 
-ghost use Rattle.std.specs.Prelude.{◌≡◌, ◌⊎◌, ◌≤◌, ◌+◌, ℕ, List, [], ◌∷◌, length, map, Option, None};
+ghost use Rattle.std.specs.Prelude.{◌≡◌, ◌⊎◌, ◌≤◌, ◌<◌, ◌+◌, ◌^◌, ℕ, List, [], ◌∷◌, length, map, Option, None};
 ghost use Rattle.mf_model.specs.Institution.{Institution, JournalLine, newly_made};
 ghost use Rattle.mf_model.specs.Run.{Line, answers, last};
 ghost use Rattle.mf_journal.specs.Chain.{IsJournalLine, AreJournalLines, IsCollision};
 ghost use Rattle.mf_journal.specs.Chain.{text_of_line, chain_after};
 ghost use Rattle.mf_journal.specs.Following.{FollowOn, head_after, line_of};
+ghost use Rattle.mf_journal.specs.Founding.{founding, founding_text};
 ghost use Rattle.mf_journal.specs.Journal.{writes_of, line_of_write, with_lines, with_other_journal, IsPlayOf};
 ghost use Rattle.mf_journal.specs.declared.following.Head.{Head};
 ghost use Rattle.mf_journal.specs.declared.following.KeptRow.{KeptRow};
@@ -14,6 +15,14 @@ ghost use Rattle.mf_journal.specs.WorkedJournal.{morning, of_morning, lines_of_m
 /// No two lines of a journal have one text.
 pub fn one_text_one_line()
     ensures { (a b : JournalLine) → IsJournalLine a → IsJournalLine b → text_of_line a ≡ text_of_line b → a ≡ b }
+{}
+
+/// Journals that begin at one founding are of one schema and one first business day, or two different texts with one
+/// SHA-256 are found.
+pub fn one_founding()
+    ensures { (schema day number today : ℕ) → schema < 2 ^ 64 → day < 2 ^ 64 → number < 2 ^ 64 → today < 2 ^ 64
+        → (founding schema day).chain ≡ (founding number today).chain →
+        ((schema ≡ number) × (day ≡ today)) ⊎ ((s : List ℕ) × (t : List ℕ) × IsCollision s t) }
 {}
 
 /// Two journals with the same chain after equally many lines began alike and have the same lines, or two different
@@ -66,4 +75,10 @@ pub fn writes_replay()
 pub fn worked_journal()
     ensures writes { (day : ℕ) → writes_of morning (newly_made day) ≡ of_morning day }
     ensures lines { (day : ℕ) → map line_of_write (of_morning day) ≡ lines_of_morning day }
+{}
+
+/// The text of a founding by schema 3 on 1 January 2026, byte by byte.
+pub fn worked_founding()
+    ensures { founding_text 3 9497 ≡ 109 ∷ 105 ∷ 99 ∷ 114 ∷ 111 ∷ 108 ∷ 111 ∷ 97 ∷ 110 ∷ 0 ∷ 0 ∷ 0 ∷ 0 ∷ 0 ∷ 0 ∷ 0 ∷ 3
+        ∷ 0 ∷ 0 ∷ 0 ∷ 0 ∷ 0 ∷ 0 ∷ 37 ∷ 25 ∷ [] }
 {}

@@ -2,7 +2,7 @@
 
 use super::{assert_results, lent};
 use mf_base::Day;
-use mf_journal::{repayment_body, repayment_path};
+use mf_journal::{Head, repayment_body, repayment_path};
 use mf_office::Account;
 use mf_wire::answer_text;
 use std::process::Abort;
@@ -18,6 +18,21 @@ const SHEET: &[u8] = b"receipt,loan,date,amount\n\"R\"\"1\\x\",0001-000001,2024-
 
 const REPEATED: &[u8] =
     b"receipt,loan,date,amount,result\n\"R\"\"1\\x\",0001-000001,2024-02-29,200,repeated\n";
+
+/// The SHA-256 of `microloan`, 3 and 9,497, each number in eight bytes, as Python's hashlib has it.
+const FOUNDED: [u8; 32] = [
+    144, 110, 8, 219, 108, 35, 116, 189, 53, 120, 201, 194, 139, 206, 171, 212, 136, 6, 0, 111,
+    230, 234, 165, 171, 222, 213, 215, 205, 92, 161, 222, 140,
+];
+
+#[test]
+fn journal_begins_at_its_founding(rt: HostRuntime) -> Result<(), Fail> {
+    let head = Head::founding(3, 9_497);
+    assert_eq!(rt; head.number, 0);
+    assert_eq!(rt; head.day, 9_497);
+    assert_eq!(rt; head.chain.as_slice(), FOUNDED.as_slice());
+    Ok(())
+}
 
 #[test]
 fn noted_text_reads_as_the_line(rt: HostRuntime) -> Result<(), Fail> {
