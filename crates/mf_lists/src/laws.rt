@@ -1,0 +1,46 @@
+//! What holds of lists and of rates. Each function does nothing: its contract is the law that the sentence above it
+//! tells.
+
+ghost use Rattle.std.specs.Prelude.{◌≡◌, ◌≤◌, ◌*◌, ℕ, List, true, Option, Some, None, MatchOption, IfSome};
+ghost use Rattle.mf_schedule.specs.Fresh.{total_owed};
+ghost use Rattle.mf_schedule.specs.declared.instalment.FreshInstalment.{FreshInstalment};
+ghost use Rattle.mf_lists.specs.Rate.{is_borne, least_daily_rate, most_daily_rate, yearly_from, yearly_rate};
+ghost use Rattle.mf_lists.specs.WorkedRates.{january, quarter, year_of_twelve, in_a_year, one_cent};
+
+/// What was handed over bears the instalments at the daily rate that is found, and at no lower one.
+pub fn the_daily_rate_is_the_least_that_bears()
+    ensures bears { (handed day : ℕ) (rows : List FreshInstalment) → is_borne handed day rows most_daily_rate ≡ true →
+        is_borne handed day rows (least_daily_rate handed day rows) ≡ true }
+    ensures least { (handed day : ℕ) (rows : List FreshInstalment) (rate : ℕ) → is_borne handed day rows rate ≡ true →
+        least_daily_rate handed day rows ≤ rate }
+{}
+
+/// A higher fee, by which less is handed over, never lowers the yearly rate.
+pub fn a_higher_fee_never_lowers_the_rate()
+    ensures { (more less day : ℕ) (rows : List FreshInstalment) → less ≤ more →
+        MatchOption (yearly_rate more day rows) (yearly_rate less day rows ≡ None)
+        (λ low. IfSome (yearly_rate less day rows) (λ high. low ≤ high)) }
+{}
+
+/// Where there is neither interest nor a fee, so that no more is asked than was handed over, the rate is 0.
+pub fn without_interest_and_fees_the_rate_is_nothing()
+    ensures { (handed day : ℕ) (rows : List FreshInstalment) → total_owed rows ≤ handed →
+        yearly_rate handed day rows ≡ Some 0 }
+{}
+
+/// Where nothing is handed over and something is asked, there is no rate.
+pub fn for_nothing_there_is_no_rate()
+    ensures { (day : ℕ) (rows : List FreshInstalment) → 1 ≤ total_owed rows → yearly_rate 0 day rows ≡ None }
+{}
+
+/// Rates that a second program worked out, with fractions and by the formula of the directive: 1,000.00 by equal
+/// principal at 12 percent over three months, without a fee and with 15.00 kept; 1,200.00 flat at 12 percent over twelve
+/// months, without a fee and with 24.00 kept; 1,000.00 for which 1,100.00 is paid after a year; and a cent for a cent.
+pub fn worked_rates()
+    ensures quarter { yearly_rate 100000 january quarter ≡ Some 1295 }
+    ensures quarter_with_fee { yearly_rate 98500 january quarter ≡ Some 2398 }
+    ensures year { yearly_rate 120000 january year_of_twelve ≡ Some 2376 }
+    ensures year_with_fee { yearly_rate 117600 january year_of_twelve ≡ Some 2865 }
+    ensures in_a_year { yearly_rate 100000 january in_a_year ≡ Some 1000 }
+    ensures one_cent { yearly_rate 1 january one_cent ≡ Some 0 }
+{}

@@ -1,0 +1,7 @@
+//! What lists tell of an institution, and what a loan would cost before anybody agrees to it.
+#![tactic(auto)]
+
+pub mod laws;
+mod rate;
+
+pub use rate::yearly_rate;
