@@ -1,2 +1,3 @@
 pub mod Rate
 pub mod WorkedRates
+pub mod Preview

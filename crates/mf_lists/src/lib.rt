@@ -2,6 +2,8 @@
 #![tactic(auto)]
 
 pub mod laws;
+mod preview;
 mod rate;
 
+pub use preview::{LoanPreview, preview_loan};
 pub use rate::yearly_rate;

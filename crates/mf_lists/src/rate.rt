@@ -2,7 +2,7 @@
 
 ghost use Rattle.std.specs.Prelude.{◌≡◌, ◌-◌, ◌<◌, ◌≤◌, ◌^◌, IfSome, true};
 ghost use Rattle.mf_schedule.specs.Fresh.{total_owed};
-ghost use Rattle.mf_lists.specs.Rate.{after_days, asked_by, asked_by_all, is_borne, least_daily_rate};
+ghost use Rattle.mf_lists.specs.Rate.{after_days, asked_by, is_borne, least_daily_rate};
 ghost use Rattle.mf_lists.specs.Rate.{most_daily_rate, most_yearly_rate, yearly_from, yearly_rate};
 
 use mf_base::{Day, half_even};
@@ -30,17 +30,16 @@ fn asked(row: &FreshInstalment) -> u128
     MILLION * (row.principal as u128 + row.interest as u128 + row.fees as u128)
 }
 
-/// What instalments ask together, in millionths of a cent.
-fn asked_together(rows: &[FreshInstalment]) -> u128
+/// What instalments owe together: principal, interest and fees, in cents.
+pub(crate) fn owed_together(rows: &[FreshInstalment]) -> u64
     requires { total_owed rows.now < 2 ^ 54 }
-    ensures value { result ≡ asked_by_all rows.now }
-    ensures small { result < 2 ^ 74 }
+    ensures { result ≡ total_owed rows.now }
 {
-    let mut together = 0;
+    let mut owed = 0;
     for row in rows {
-        together += asked(row);
+        owed += row.principal + row.interest + row.fees;
     }
-    together
+    owed
 }
 
 /// The days from one day to another, 0 where the other isn't later.
@@ -76,7 +75,7 @@ fn bears(handed: u64, day: Day, rows: &[FreshInstalment], rate: u64) -> bool
     ensures { result ≡ is_borne handed day rows.now rate }
 {
     let mut balance = MILLION * handed as u128;
-    let mut to_come = asked_together(rows);
+    let mut to_come = MILLION * owed_together(rows) as u128;
     let mut day = day;
     for row in rows {
         balance = grown(balance, rate, days_between(day, row.due), to_come);

@@ -1,10 +1,10 @@
-use Rattle.std.proofs.Common.{◌≡◌, ℕ, ◌+◌, ◌<◌, ◌-◌, List, ◌∷◌, length, drop, get_or, arith, sym, ap}
+use Rattle.std.proofs.Common.{refl, ◌≡◌, ℕ, ◌+◌, ◌<◌, ◌-◌, List, ◌∷◌, length, drop, get_or, arith, sym, ap}
 use Rattle.std.proofs.Common.{◌∙◌, add-one}
 use Rattle.std.proofs.Math.Seq.{drop-cons}
 use Rattle.std.proofs.lemmas.List.{drop_all}
 use Rattle.mf_schedule.specs.declared.instalment.FreshInstalment.{FreshInstalment}
 use Rattle.mf_lists.specs.Rate.{after_days, asked_by, asked_by_all, bears}
-use Rattle.mf_lists.proofs.RateLemmas.{enough-by_then, bears-next, bears-not, none-borne, asked-cons}
+use Rattle.mf_lists.proofs.RateLemmas.{enough-by_then, bears-next, bears-not, none-borne, asked-cons, asked-owed}
 use Rattle.mf_lists.proofs.rate.bears.Goals as goal
 
 -- what is left of instalments: the next one, and the others
@@ -18,6 +18,16 @@ next_of rows i row within is =
 -- the balance of a due day, by the days that the code counts
 on_due : (rate days due day b : ℕ) → days ≡ due - day → after_days rate days b ≡ after_days rate (due - day) b
 on_due rate days due day b e = ap (λ (n : ℕ). after_days rate n b) e
+
+pub loop-row-init : goal.loop-row-init
+loop-row-init c =
+    let asked = asked-owed c.args.rows.now in
+    record {
+      same = refl;
+      to_come = omega (arith, asked, c.owed_together.ensures);
+      small = omega (arith, c.owed_together.ensures);
+      small_balance = omega arith;
+    }
 
 pub returns-then-balance-to_come : goal.returns-then-balance-to_come
 returns-then-balance-to_come c =
