@@ -1,3 +1,4 @@
 pub mod Rate
 pub mod WorkedRates
 pub mod Preview
+pub mod WorkedPreview

@@ -1,10 +1,22 @@
 //! What holds of lists and of rates. Each function does nothing: its contract is the law that the sentence above it
 //! tells.
 
-ghost use Rattle.std.specs.Prelude.{◌≡◌, ◌≤◌, ◌*◌, ℕ, List, true, Option, Some, None, MatchOption, IfSome};
+ghost use Rattle.std.specs.Prelude.{◌≡◌, ◌≤◌, ℕ, List, [], map, true, Some, None, MatchOption, IfSome, IfOk, Ok, Err};
+ghost use Rattle.mf_base.specs.declared.fault.Fault.{Fault};
+ghost use Rattle.mf_base.specs.declared.fault.Fault.TheVariants.{F4, F7, F8};
+ghost use Rattle.mf_account.specs.Account.{row_of};
+ghost use Rattle.mf_statement.specs.Lines.{instalments_from};
+ghost use Rattle.mf_model.specs.declared.loan.Stage.TheVariants.{Disbursed};
+ghost use Rattle.mf_model.specs.declared.request.Application.{Application};
+ghost use Rattle.mf_model.specs.Accounts.{balances_in, instalments_in};
+ghost use Rattle.mf_model.specs.Institution.{Catalogue, Ledger, Rows, item_numbered};
+ghost use Rattle.mf_model.specs.Loans.{make_loan, submit};
 ghost use Rattle.mf_schedule.specs.Fresh.{total_owed};
 ghost use Rattle.mf_schedule.specs.declared.instalment.FreshInstalment.{FreshInstalment};
-ghost use Rattle.mf_lists.specs.Rate.{is_borne, least_daily_rate, most_daily_rate, yearly_from, yearly_rate};
+ghost use Rattle.mf_lists.specs.declared.preview.LoanPreview.{LoanPreview};
+ghost use Rattle.mf_lists.specs.Preview.{preview_in};
+ghost use Rattle.mf_lists.specs.Rate.{is_borne, least_daily_rate, most_daily_rate, yearly_rate};
+ghost use Rattle.mf_lists.specs.WorkedPreview.{worked_catalogue, worked_loan};
 ghost use Rattle.mf_lists.specs.WorkedRates.{january, quarter, year_of_twelve, in_a_year, one_cent};
 
 /// What was handed over bears the instalments at the daily rate that is found, and at no lower one.
@@ -43,4 +55,38 @@ pub fn worked_rates()
     ensures year_with_fee { yearly_rate 117600 january year_of_twelve ≡ Some 2865 }
     ensures in_a_year { yearly_rate 100000 january in_a_year ≡ Some 1000 }
     ensures one_cent { yearly_rate 1 january one_cent ≡ Some 0 }
+{}
+
+/// A preview is refused exactly as submitting is, for a client that is there: with the same refusal, and where it is
+/// shown, submitting makes the loan or has no room for it.
+pub fn a_preview_is_refused_as_submitting_is()
+    ensures refused { (k : Catalogue) (rows : Rows) (office day : ℕ) (asked : Application) (name : List ℕ) (fault : Fault) →
+        item_numbered rows.clients asked.client ≡ Some name →
+        preview_in k asked.product asked.principal asked.periods day ≡ Err fault → submit office asked k rows ≡ Err fault }
+    ensures shown { (k : Catalogue) (rows : Rows) (office day : ℕ) (asked : Application) (name : List ℕ)
+        (shown : LoanPreview) → item_numbered rows.clients asked.client ≡ Some name →
+        preview_in k asked.product asked.principal asked.periods day ≡ Ok shown →
+        submit office asked k rows ≡ make_loan office asked rows }
+{}
+
+/// A loan that is paid out on a day, before anything is entered, has the instalments and the fee that its preview showed.
+pub fn paying_out_gives_what_was_shown()
+    ensures instalments { (k : Catalogue) (l : Ledger) (approved day : ℕ) (shown : LoanPreview) →
+        l.loan.stage ≡ Disbursed approved day → l.entries ≡ [] →
+        preview_in k l.loan.product l.loan.principal l.loan.periods day ≡ Ok shown →
+        instalments_in k l ≡ instalments_from 1 (map row_of shown.instalments) }
+    ensures kept { (k : Catalogue) (l : Ledger) (approved day : ℕ) (shown : LoanPreview) →
+        l.loan.stage ≡ Disbursed approved day → l.entries ≡ [] →
+        preview_in k l.loan.product l.loan.principal l.loan.periods day ≡ Ok shown →
+        (balances_in k l).disbursement_fee ≡ shown.kept }
+{}
+
+/// A preview that a second program worked out, and each refusal.
+pub fn worked_preview()
+    ensures shown { preview_in worked_catalogue 1 100000 3 january ≡ Ok worked_loan }
+    ensures missing { preview_in worked_catalogue 3 100000 3 january ≡ Err F4 }
+    ensures none { preview_in worked_catalogue 0 100000 3 january ≡ Err F4 }
+    ensures retired { preview_in worked_catalogue 2 9999 3 january ≡ Err F7 }
+    ensures little { preview_in worked_catalogue 1 9999 3 january ≡ Err F8 }
+    ensures long { preview_in worked_catalogue 1 100000 25 january ≡ Err F8 }
 {}
