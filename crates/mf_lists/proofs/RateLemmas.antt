@@ -86,15 +86,15 @@ asked-owed (row ∷ rows) =
 
 -- ---- what bears instalments
 
-both : (a b : Bool) → a ≡ true → b ≡ true → a && b ≡ true
+pub both : (a b : Bool) → a ≡ true → b ≡ true → a && b ≡ true
 both true b p q = q
 both false b p q = absurd (cc)
 
-both-first : (a b : Bool) → a && b ≡ true → a ≡ true
+pub both-first : (a b : Bool) → a && b ≡ true → a ≡ true
 both-first true b p = refl
 both-first false b p = p
 
-both-second : (a b : Bool) → a && b ≡ true → b ≡ true
+pub both-second : (a b : Bool) → a && b ≡ true → b ≡ true
 both-second true b p = p
 both-second false b p = absurd (cc)
 

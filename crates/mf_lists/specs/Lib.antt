@@ -2,3 +2,5 @@ pub mod Rate
 pub mod WorkedRates
 pub mod Preview
 pub mod WorkedPreview
+pub mod Lists
+pub mod Readings

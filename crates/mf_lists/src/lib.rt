@@ -2,8 +2,10 @@
 #![tactic(auto)]
 
 pub mod laws;
+mod lines;
 mod preview;
 mod rate;
 
+pub use lines::{ClientLine, ClientLoan, DueLine, LastEntry, StaffLine, StageLine};
 pub use preview::{LoanPreview, preview_loan};
 pub use rate::yearly_rate;
