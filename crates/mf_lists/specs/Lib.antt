@@ -4,3 +4,4 @@ pub mod Preview
 pub mod WorkedPreview
 pub mod Lists
 pub mod Readings
+pub mod WorkedLists

@@ -1,19 +1,34 @@
 //! What holds of lists and of rates. Each function does nothing: its contract is the law that the sentence above it
 //! tells.
 
-ghost use Rattle.std.specs.Prelude.{◌≡◌, ◌≤◌, ℕ, List, [], map, true, Some, None, MatchOption, IfSome, IfOk, Ok, Err};
+ghost use Rattle.std.specs.Prelude.{◌≡◌, ◌≤◌, ◌-◌, ◌*◌, ◌++◌, ◌∷◌, ℕ, Bool, List, [], map, true, false, codes, length};
+ghost use Rattle.std.specs.Prelude.{sum_by, Some, None, MatchOption, IfSome, Ok, Err};
+ghost use Rattle.std.specs.List.{count_by};
 ghost use Rattle.mf_base.specs.declared.fault.Fault.{Fault};
 ghost use Rattle.mf_base.specs.declared.fault.Fault.TheVariants.{F4, F7, F8};
+ghost use Rattle.mf_office.specs.declared.caller.Caller.{Caller};
+ghost use Rattle.mf_office.specs.Tree.{is_at_or_below};
 ghost use Rattle.mf_account.specs.Account.{row_of};
 ghost use Rattle.mf_statement.specs.Lines.{instalments_from};
 ghost use Rattle.mf_model.specs.declared.loan.Stage.TheVariants.{Disbursed};
 ghost use Rattle.mf_model.specs.declared.request.Application.{Application};
 ghost use Rattle.mf_model.specs.Accounts.{balances_in, instalments_in};
-ghost use Rattle.mf_model.specs.Institution.{Catalogue, Ledger, Rows, item_numbered};
+ghost use Rattle.mf_model.specs.Institution.{Catalogue, Institution, Ledger, Rows, item_numbered};
 ghost use Rattle.mf_model.specs.Loans.{make_loan, submit};
 ghost use Rattle.mf_schedule.specs.Fresh.{total_owed};
 ghost use Rattle.mf_schedule.specs.declared.instalment.FreshInstalment.{FreshInstalment};
+ghost use Rattle.mf_model.specs.Sound.{IsSoundRows};
+ghost use Rattle.mf_model.specs.Tree.{parent_of, view};
+ghost use Rattle.mf_lists.specs.declared.lines.ClientLine.{ClientLine};
+ghost use Rattle.mf_lists.specs.declared.lines.DueLine.{DueLine};
+ghost use Rattle.mf_lists.specs.declared.lines.StageLine.{StageLine};
 ghost use Rattle.mf_lists.specs.declared.preview.LoanPreview.{LoanPreview};
+ghost use Rattle.mf_lists.specs.Lists.{clients_of, clients_after, due_lines, due_after, loans_at, stages_after};
+ghost use Rattle.mf_lists.specs.Lists.{is_waiting, is_active, is_overdue, has_part};
+ghost use Rattle.mf_lists.specs.Readings.{ListAsked, Clients, LoansOf, DueBy, AtStatus, StaffOf, Find, ClientLines};
+ghost use Rattle.mf_lists.specs.Readings.{ClientLoans, DueLines, StageLines, StaffLines, list_seen, pages};
+ghost use Rattle.mf_lists.specs.WorkedLists.{small, march, first_due, second_due, amina, binta, chidi, loans_of_amina};
+ghost use Rattle.mf_lists.specs.WorkedLists.{due_of_amina, later_of_amina, later_of_binta, stage_of, zola_and_yemi};
 ghost use Rattle.mf_lists.specs.Preview.{preview_in};
 ghost use Rattle.mf_lists.specs.Rate.{is_borne, least_daily_rate, most_daily_rate, yearly_rate};
 ghost use Rattle.mf_lists.specs.WorkedPreview.{worked_catalogue, worked_loan};
@@ -89,4 +104,70 @@ pub fn worked_preview()
     ensures retired { preview_in worked_catalogue 2 9999 3 january ≡ Err F7 }
     ensures little { preview_in worked_catalogue 1 9999 3 january ≡ Err F8 }
     ensures long { preview_in worked_catalogue 1 100000 25 january ≡ Err F8 }
+{}
+
+/// A list is read off what the office of whoever asks sees: what lies elsewhere changes nothing, and an office that
+/// isn't seen is missing.
+pub fn lists_are_read_off_the_view()
+    ensures view { (folded : List ℕ → List ℕ) (asked : ListAsked) (o x : ℕ) (i : Institution) →
+        list_seen folded asked o x (view o i) ≡ list_seen folded asked o x i }
+    ensures alike { (folded : List ℕ → List ℕ) (asked : ListAsked) (o x : ℕ) (i j : Institution) → view o i ≡ view o j →
+        list_seen folded asked o x i ≡ list_seen folded asked o x j }
+    ensures unseen { (folded : List ℕ → List ℕ) (asked : ListAsked) (o x : ℕ) (i : Institution) →
+        is_at_or_below (parent_of i.offices) x o ≡ false → list_seen folded asked o x i ≡ Err F4 }
+{}
+
+/// Pages that follow one another, each after the last number of the one before it, give the whole list, each line once
+/// and in order: so many pages of 500 or 200 lines give up to so many times 500 or 200 lines.
+pub fn pages_give_the_whole()
+    ensures clients { (k : Catalogue) (rows : Rows) (turns : ℕ) → length (clients_of k rows) ≤ 500 * turns →
+        pages (λ (c : ClientLine). c.number) (λ after. clients_after after k rows) turns 0 ≡ clients_of k rows }
+    ensures due { (k : Catalogue) (rows : Rows) (day turns : ℕ) → length (due_lines day k rows) ≤ 200 * turns →
+        pages (λ (d : DueLine). d.loan) (λ after. due_after day after k rows) turns 0 ≡ due_lines day k rows }
+    ensures stages { (k : Catalogue) (rows : Rows) (status turns : ℕ) → length (loans_at status k rows) ≤ 200 * turns →
+        pages (λ (s : StageLine). s.loan) (λ after. stages_after status after k rows) turns 0
+        ≡ loans_at status k rows }
+{}
+
+/// The counts of a sound office's clients come to those of its loans.
+pub fn counts_by_client_add_up()
+    ensures waiting { (k : Catalogue) (staffed : Caller → Bool) (rows : Rows) → IsSoundRows k staffed rows →
+        sum_by (λ (c : ClientLine). c.waiting) (clients_of k rows) ≡ count_by (is_waiting k) rows.loans }
+    ensures active { (k : Catalogue) (staffed : Caller → Bool) (rows : Rows) → IsSoundRows k staffed rows →
+        sum_by (λ (c : ClientLine). c.active) (clients_of k rows) ≡ count_by (is_active k) rows.loans }
+    ensures overdue { (k : Catalogue) (staffed : Caller → Bool) (rows : Rows) → IsSoundRows k staffed rows →
+        sum_by (λ (c : ClientLine). c.overdue) (clients_of k rows) ≡ count_by (is_overdue k) rows.loans }
+{}
+
+/// A text has a part exactly where the part stands somewhere in it.
+pub fn a_part_stands_where_it_is_found()
+    ensures found { (before part rest : List ℕ) → has_part part (before ++ (part ++ rest)) ≡ true }
+    ensures stands { (part text : List ℕ) → has_part part text ≡ true →
+        (before : List ℕ) × ((rest : List ℕ) × (text ≡ before ++ (part ++ rest))) }
+{}
+
+/// Each list of a small institution, worked out by hand; names are folded by nothing.
+pub fn worked_lists()
+    ensures clients { list_seen (λ text. text) (Clients 0) 1 2 small ≡ Ok (ClientLines (amina ∷ binta ∷ chidi ∷ [])) }
+    ensures after { list_seen (λ text. text) (Clients 1) 2 2 small ≡ Ok (ClientLines (binta ∷ chidi ∷ [])) }
+    ensures beside { list_seen (λ text. text) (Clients 0) 3 2 small ≡ Err F4 }
+    ensures empty { list_seen (λ text. text) (Clients 0) 1 3 small ≡ Ok (ClientLines []) }
+    ensures loans { list_seen (λ text. text) (LoansOf 1) 1 2 small ≡ Ok (ClientLoans loans_of_amina) }
+    ensures nobody { list_seen (λ text. text) (LoansOf 4) 1 2 small ≡ Err F4 }
+    ensures due { list_seen (λ text. text) (DueBy march 0) 1 2 small ≡ Ok (DueLines (due_of_amina ∷ [])) }
+    ensures early { list_seen (λ text. text) (DueBy (first_due - 1) 0) 1 2 small ≡ Ok (DueLines []) }
+    ensures later { list_seen (λ text. text) (DueBy second_due 0) 1 2 small
+        ≡ Ok (DueLines (later_of_amina ∷ later_of_binta ∷ [])) }
+    ensures later_after { list_seen (λ text. text) (DueBy second_due 2) 1 2 small ≡ Ok (DueLines (later_of_binta ∷ [])) }
+    ensures active { list_seen (λ text. text) (AtStatus 300 0) 1 2 small ≡ Ok (StageLines
+        (stage_of 2 1 (codes "Amina") (Some january) ∷ stage_of 3 2 (codes "Binta") (Some january) ∷ [])) }
+    ensures submitted { list_seen (λ text. text) (AtStatus 100 0) 1 2 small ≡ Ok (StageLines
+        (stage_of 1 1 (codes "Amina") None ∷ [])) }
+    ensures approved { list_seen (λ text. text) (AtStatus 200 4) 1 2 small ≡ Ok (StageLines
+        (stage_of 5 3 (codes "Chidi") (Some march) ∷ [])) }
+    ensures staff { list_seen (λ text. text) StaffOf 1 2 small ≡ Ok (StaffLines zola_and_yemi) }
+    ensures find { list_seen (λ text. text) (Find (codes "in")) 1 2 small ≡ Ok (ClientLines (amina ∷ binta ∷ [])) }
+    ensures find_number { list_seen (λ text. text) (Find (codes "0002-000003")) 1 2 small
+        ≡ Ok (ClientLines (binta ∷ chidi ∷ [])) }
+    ensures find_loan { list_seen (λ text. text) (Find (codes "0002-000005")) 1 2 small ≡ Ok (ClientLines (chidi ∷ [])) }
 {}
