@@ -2,9 +2,17 @@
 use Rattle.std.proofs.Common.{◌≡◌, ℕ, zero, suc, ◌+◌, ◌*◌, ◌<◌, ◌≤◌, Bool, true, false, List, [], ◌∷◌, ◌++◌, length}
 use Rattle.std.proofs.Common.{take, drop, map, inl, inr, refl, sym, ap, subst, ◌∙◌, arith, Option, Some, None}
 use Rattle.std.proofs.Common.{Err}
+use Rattle.std.specs.Prelude.{fold, sum}
+use Rattle.std.specs.List.{list_any}
+use Rattle.std.specs.Option.{unwrap_or}
+use Rattle.mf_alloc.specs.Sums.{Instalment, is_open, open_at, row_outstanding}
+use Rattle.mf_arrears.specs.Ageing.{earlier, earliest_due}
+use Rattle.mf_lists.specs.declared.lines.DueLine.{DueLine}
+use Rattle.mf_lists.specs.Lists.{due_by, due_line, due_lines, is_active, is_due, rows_in}
 use Rattle.std.specs.Prelude.{cond, ◌&&◌, ◌||◌, ◌==◌, nat_le, nat_lt, filter, is_some, slice_get, sum_by}
 use Rattle.std.specs.List.{AllByRecursion, count_by, enumerate_from}
-use Rattle.std.proofs.lemmas.Bool.{cases_Bool, cases_lt, cases_order, cond-true, cond-false, lt-ltb, le-ltb, le-leb, lt-leb}
+use Rattle.std.proofs.lemmas.Bool.{cases_Bool, cases_lt, cases_order, cond-true, cond-false, lt-ltb, le-ltb, le-leb}
+use Rattle.std.proofs.lemmas.Bool.{lt-leb, leb-true}
 use Rattle.std.proofs.lemmas.Bool.{eq-eqb, eqb-true, ne_eqb}
 use Rattle.std.proofs.lemmas.List.{take_all}
 use Rattle.std.proofs.lemmas.List.Sums.{sum_by-cons}
@@ -293,7 +301,8 @@ module _ (passes : Ledger → Bool) where
 client-there : (clients : List (List ℕ)) (c : ℕ) → is_some (item_numbered clients c) ≡ true
     → (1 ≤ c) × (c < 1 + length clients)
 client-there clients zero there = absurd (cc)
-client-there clients (suc c) there = found (slice_get clients c) refl (ap is_some (sym (numbered_suc clients c)) ∙ there)
+client-there clients (suc c) there =
+    found (slice_get clients c) refl (ap is_some (sym (numbered_suc clients c)) ∙ there)
   where
     found : (o : Option (List ℕ)) → slice_get clients c ≡ o → is_some (slice_get clients c) ≡ true
         → (1 ≤ suc c) × (suc c < 1 + length clients)
@@ -328,7 +337,8 @@ pub counts-add_up : (k : Catalogue) (staffed : Caller → Bool) (rows : Rows) (p
     → ((c : ℕ × List ℕ) → read (client_line k rows c) ≡ loans_that passes c.0 rows) → IsSoundRows k staffed rows
     → sum_by read (clients_of k rows) ≡ count_by passes rows.loans
 counts-add_up k staffed rows passes read is sound =
-    ap (λ (cs : List (ℕ × List ℕ)). sum_by read (map (client_line k rows) cs)) (keeps-all (enumerate_from 1 rows.clients))
+    ap (λ (cs : List (ℕ × List ℕ)). sum_by read (map (client_line k rows) cs))
+    (keeps-all (enumerate_from 1 rows.clients))
     ∙ sum-made read (client_line k rows) (enumerate_from 1 rows.clients)
     ∙ each (enumerate_from 1 rows.clients)
     ∙ clients-sum passes rows.loans 1 rows.clients
@@ -398,3 +408,127 @@ pub unseen : (folded : List ℕ → List ℕ) (asked : ListAsked) (o x : ℕ) (i
 unseen folded asked o x i h =
     ap (λ (f : Option Office). where_found f (λ f. list_of folded asked x i.catalogue f.rows))
     (cond-false (is_at_or_below (parent_of i.offices) x o) (office_at x i.offices) None h)
+
+-- ---- what is due
+
+-- there is a day, and it is no later than this one
+abbrev NoLater : ℕ → Option ℕ → Type 0
+NoLater day None = ⊥
+NoLater day (Some due) = due ≤ day
+
+earlier-keeps : (day : ℕ) (found : Option ℕ) (due : ℕ) → NoLater day found → NoLater day (earlier found due)
+earlier-keeps day None due h = absurd h
+earlier-keeps day (Some first) due h = omega (arith, h)
+
+earlier-takes : (day : ℕ) (found : Option ℕ) (due : ℕ) → due ≤ day → NoLater day (earlier found due)
+earlier-takes day None due h = h
+earlier-takes day (Some first) due h = omega (arith, h)
+
+earliest-keeps : (day : ℕ) (found : Option ℕ) (days : List ℕ) → NoLater day found
+    → NoLater day (fold earlier found days)
+earliest-keeps day found [] h = h
+earliest-keeps day found (due ∷ days) h = earliest-keeps day (earlier found due) days (earlier-keeps day found due h)
+
+-- where an open instalment is due by the day, so is the earliest of those that are open
+earliest-of : (day : ℕ) (found : Option ℕ) (rows : List Instalment)
+    → list_any is_open (filter (λ (row : Instalment). nat_le row.due day) rows) ≡ true
+    → NoLater day (fold earlier found (map (λ (row : Instalment). row.due) (filter is_open rows)))
+earliest-of day found [] h = absurd (cc)
+earliest-of day found (row ∷ rows) h =
+    elim (cases_Bool (is_open row)) [
+      | inl opens ↦
+          subst (λ (rs : List Instalment). NoLater day (fold earlier found (map (λ (r : Instalment). r.due) rs)))
+          (sym (cond-true (is_open row) (row ∷ filter is_open rows) (filter is_open rows) opens))
+          (elim (cases_Bool (nat_le row.due day)) [
+            | inl due ↦
+                earliest-keeps day (earlier found row.due) (map (λ (r : Instalment). r.due) (filter is_open rows))
+                (earlier-takes day found row.due (leb-true row.due day due))
+            | inr later ↦ earliest-of day (earlier found row.due) rows (sym (not_due later) ∙ h)
+          ])
+      | inr settled ↦
+          subst (λ (rs : List Instalment). NoLater day (fold earlier found (map (λ (r : Instalment). r.due) rs)))
+          (sym (cond-false (is_open row) (row ∷ filter is_open rows) (filter is_open rows) settled))
+          (earliest-of day found rows (elim (cases_Bool (nat_le row.due day)) [
+            | inl due ↦ sym (not_open due settled) ∙ h
+            | inr later ↦ sym (not_due later) ∙ h
+          ]))
+    ]
+  where
+    rest : List Instalment
+    rest = filter (λ (r : Instalment). nat_le r.due day) rows
+
+    not_due : nat_le row.due day ≡ false
+        → list_any is_open (filter (λ (r : Instalment). nat_le r.due day) (row ∷ rows)) ≡ list_any is_open rest
+    not_due later = ap (list_any is_open) (cond-false (nat_le row.due day) (row ∷ rest) rest later)
+
+    not_open : nat_le row.due day ≡ true → is_open row ≡ false
+        → list_any is_open (filter (λ (r : Instalment). nat_le r.due day) (row ∷ rows)) ≡ list_any is_open rest
+    not_open due settled =
+        ap (list_any is_open) (cond-true (nat_le row.due day) (row ∷ rest) rest due)
+        ∙ ap (λ (b : Bool). b || list_any is_open rest) settled
+
+no_later-value : (day : ℕ) (found : Option ℕ) → NoLater day found → unwrap_or found 0 ≤ day
+no_later-value day None h = absurd h
+no_later-value day (Some due) h = h
+
+-- what some instalments come to, of what all come to
+sum-of_some : (f : Instalment → ℕ) (passes : Instalment → Bool) (rows : List Instalment)
+    → sum_by f (filter passes rows) ≤ sum_by f rows
+sum-of_some f passes [] = omega arith
+sum-of_some f passes (row ∷ rows) =
+    let all = sum_by-cons f row rows in
+    elim (cases_Bool (passes row)) [
+      | inl takes ↦
+          let is = ap (sum_by f) (cond-true (passes row) (row ∷ filter passes rows) (filter passes rows) takes) in
+          omega (arith, all, is, sum_by-cons f row (filter passes rows), sum-of_some f passes rows)
+      | inr leaves ↦
+          let is = ap (sum_by f) (cond-false (passes row) (row ∷ filter passes rows) (filter passes rows) leaves) in
+          omega (arith, all, is, sum-of_some f passes rows)
+    ]
+
+-- the four portions come to the whole
+portions : (rows : List Instalment)
+    → sum_by (λ (r : Instalment). open_at r 0) rows + sum_by (λ (r : Instalment). open_at r 1) rows
+    + sum_by (λ (r : Instalment). open_at r 2) rows + sum_by (λ (r : Instalment). open_at r 3) rows
+    ≡ sum_by row_outstanding rows
+portions [] = refl
+portions (row ∷ rows) =
+    omega (
+      arith,
+      portions rows,
+      sum_by-cons (λ (r : Instalment). open_at r 0) row rows,
+      sum_by-cons (λ (r : Instalment). open_at r 1) row rows,
+      sum_by-cons (λ (r : Instalment). open_at r 2) row rows,
+      sum_by-cons (λ (r : Instalment). open_at r 3) row rows,
+      sum_by-cons row_outstanding row rows,
+    )
+
+-- what holds of each line of what is chosen
+all-lines : {X Y : Type 0} (P : Y → Type 0) (chosen : ℕ × X → Bool) (line : ℕ × X → Y)
+    → ((c : ℕ × X) → chosen c ≡ true → P (line c)) → (cs : List (ℕ × X))
+    → AllByRecursion P (map line (filter chosen cs))
+all-lines P chosen line each [] = tt
+all-lines {X = X} P chosen line each (c ∷ cs) =
+    elim (cases_Bool (chosen c)) [
+      | inl takes ↦
+          subst (λ (ds : List (ℕ × X)). AllByRecursion P (map line ds))
+          (sym (cond-true (chosen c) (c ∷ filter chosen cs) (filter chosen cs) takes))
+          (each c takes, all-lines P chosen line each cs)
+      | inr leaves ↦
+          subst (λ (ds : List (ℕ × X)). AllByRecursion P (map line ds))
+          (sym (cond-false (chosen c) (c ∷ filter chosen cs) (filter chosen cs) leaves))
+          (all-lines P chosen line each cs)
+    ]
+
+pub due-by_day : (k : Catalogue) (rows : Rows) (day : ℕ)
+    → AllByRecursion (λ (d : DueLine). (d.oldest ≤ day) × (sum d.due ≤ d.left)) (due_lines day k rows)
+due-by_day k rows day =
+    all-lines (λ (d : DueLine). (d.oldest ≤ day) × (sum d.due ≤ d.left)) (λ l. is_due day k l.1) (due_line day k rows)
+    (λ l due.
+    let opens : list_any is_open (due_by day k l.1) ≡ true =
+    both-second (is_active k l.1) (list_any is_open (due_by day k l.1)) due in
+    let first = no_later-value day (earliest_due (rows_in k l.1)) (earliest-of day None (rows_in k l.1) opens) in
+    let whole = portions (due_by day k l.1) in
+    let some = sum-of_some row_outstanding (λ (row : Instalment). nat_le row.due day) (rows_in k l.1) in
+    (first, omega (arith, whole, some)))
+    (enumerate_from 1 rows.loans)

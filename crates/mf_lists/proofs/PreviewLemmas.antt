@@ -9,7 +9,9 @@ use Rattle.mf_base.specs.declared.fault.Fault.TheVariants.{F4, F7, F8}
 use Rattle.mf_catalog.specs.declared.charge.ChargeDef.{ChargeDef}
 use Rattle.mf_catalog.specs.declared.product.Product.{Product}
 use Rattle.mf_catalog.specs.Limits.{IsChargeWithinLimits}
-use Rattle.mf_catalog.specs.Product.{AreMembersWithinLimits, allows, charge_at, lending, limits_agree, terms_of}
+use Rattle.mf_catalog.specs.Product.{AreMembersWithinLimits, allows, charge_at, charge_of, lending, limits_agree}
+use Rattle.mf_catalog.specs.Product.{terms_of}
+use Rattle.mf_catalog.specs.Product.{terms_with}
 use Rattle.mf_catalog.proofs.ProductLemmas.{terms_within, graces_within, loan_within}
 use Rattle.mf_catalog.specs.declared.terms.Terms.{Terms}
 use Rattle.mf_schedule.specs.Fresh.{IsLoanWithinLimits}
@@ -70,13 +72,15 @@ abbrev asked_of : Catalogue → Option Product → ℕ → ℕ → ℕ → Resul
 asked_of k found principal n day = where_found found (λ p. preview_of (charge_in k) p principal n day)
 
 -- what a fault of a preview is of submitting
-of_refusal : (r : Result (Unit {0}) Fault) (shown : Result LoanPreview Fault) (made : Result (Reply × Option Rows) Fault)
-    (p : LoanPreview) (fault : Fault) → shown ≡ Ok p → unless_refused r shown ≡ Err fault
+of_refusal : (r : Result (Unit {0}) Fault) (shown : Result LoanPreview Fault)
+    (made : Result (Reply × Option Rows) Fault) (p : LoanPreview) (fault : Fault) → shown ≡ Ok p
+    → unless_refused r shown ≡ Err fault
     → unless_refused r made ≡ Err fault
 of_refusal (Err e) shown made p fault is refused = ap Err (let same : e ≡ fault = cc in same)
 of_refusal (Ok u) shown made p fault is refused = absurd (cc)
 
-of_lending : (k : Catalogue) (rows : Rows) (office day : ℕ) (asked : Application) (fault : Fault) (found : Option Product)
+of_lending : (k : Catalogue) (rows : Rows) (office day : ℕ) (asked : Application) (fault : Fault)
+    (found : Option Product)
     → asked_of k found asked.principal asked.periods day ≡ Err fault → lend office asked found rows ≡ Err fault
 of_lending k rows office day asked fault None refused = ap Err (let same : F4 ≡ fault = cc in same)
 of_lending k rows office day asked fault (Some p) refused =
@@ -119,6 +123,20 @@ pub shown-alike : (k : Catalogue) (rows : Rows) (office day : ℕ) (asked : Appl
     → submit office asked k rows ≡ make_loan office asked rows
 shown-alike k rows office day asked name shown there is =
     submit-lends k rows office asked name there ∙ of_offer k rows office day asked shown (product_in k asked.product) is
+
+-- the charges that a product names give its terms
+pub charges-enough : (k : Catalogue) (charges : List ChargeDef) (number principal n day : ℕ) (p : Product)
+    → product_in k number ≡ Some p
+    → charge_of (charge_at charges) p.members.disbursement_charge
+    ≡ charge_of (charge_in k) p.members.disbursement_charge
+    → charge_of (charge_at charges) p.members.instalment_charge ≡ charge_of (charge_in k) p.members.instalment_charge
+    → charge_of (charge_at charges) p.members.overdue_charge ≡ charge_of (charge_in k) p.members.overdue_charge
+    → preview_of (charge_at charges) p principal n day ≡ preview_in k number principal n day
+charges-enough k charges number principal n day p is kept each late =
+    let terms : terms_of (charge_at charges) p.members ≡ terms_of (charge_in k) p.members = λ t.
+    terms_with p.members (kept t) (each t) (late t) in
+    ap (λ (t : Terms). unless_refused (lending p principal n) (Ok (preview_by t principal n day))) terms
+    ∙ sym (ap (λ (o : Option Product). asked_of k o principal n day) is)
 
 -- ---- paying out
 

@@ -2,10 +2,13 @@
 //! tells.
 
 ghost use Rattle.std.specs.Prelude.{◌≡◌, ◌≤◌, ◌-◌, ◌*◌, ◌++◌, ◌∷◌, ℕ, Bool, List, [], map, true, false, codes, length};
-ghost use Rattle.std.specs.Prelude.{sum_by, Some, None, MatchOption, IfSome, Ok, Err};
-ghost use Rattle.std.specs.List.{count_by};
+ghost use Rattle.std.specs.Prelude.{sum, sum_by, Some, None, MatchOption, IfSome, Ok, Err};
+ghost use Rattle.std.specs.List.{AllByRecursion, count_by};
 ghost use Rattle.mf_base.specs.declared.fault.Fault.{Fault};
 ghost use Rattle.mf_base.specs.declared.fault.Fault.TheVariants.{F4, F7, F8};
+ghost use Rattle.mf_catalog.specs.declared.charge.ChargeDef.{ChargeDef};
+ghost use Rattle.mf_catalog.specs.declared.product.Product.{Product};
+ghost use Rattle.mf_catalog.specs.Product.{charge_at, charge_of};
 ghost use Rattle.mf_office.specs.declared.caller.Caller.{Caller};
 ghost use Rattle.mf_office.specs.Tree.{is_at_or_below};
 ghost use Rattle.mf_account.specs.Account.{row_of};
@@ -13,7 +16,8 @@ ghost use Rattle.mf_statement.specs.Lines.{instalments_from};
 ghost use Rattle.mf_model.specs.declared.loan.Stage.TheVariants.{Disbursed};
 ghost use Rattle.mf_model.specs.declared.request.Application.{Application};
 ghost use Rattle.mf_model.specs.Accounts.{balances_in, instalments_in};
-ghost use Rattle.mf_model.specs.Institution.{Catalogue, Institution, Ledger, Rows, item_numbered};
+ghost use Rattle.mf_model.specs.Institution.{Catalogue, Institution, Ledger, Rows, charge_in, item_numbered};
+ghost use Rattle.mf_model.specs.Institution.{product_in};
 ghost use Rattle.mf_model.specs.Loans.{make_loan, submit};
 ghost use Rattle.mf_schedule.specs.Fresh.{total_owed};
 ghost use Rattle.mf_schedule.specs.declared.instalment.FreshInstalment.{FreshInstalment};
@@ -29,7 +33,7 @@ ghost use Rattle.mf_lists.specs.Readings.{ListAsked, Clients, LoansOf, DueBy, At
 ghost use Rattle.mf_lists.specs.Readings.{ClientLoans, DueLines, StageLines, StaffLines, list_seen, pages};
 ghost use Rattle.mf_lists.specs.WorkedLists.{small, march, first_due, second_due, amina, binta, chidi, loans_of_amina};
 ghost use Rattle.mf_lists.specs.WorkedLists.{due_of_amina, later_of_amina, later_of_binta, stage_of, zola_and_yemi};
-ghost use Rattle.mf_lists.specs.Preview.{preview_in};
+ghost use Rattle.mf_lists.specs.Preview.{preview_in, preview_of};
 ghost use Rattle.mf_lists.specs.Rate.{is_borne, least_daily_rate, most_daily_rate, yearly_rate};
 ghost use Rattle.mf_lists.specs.WorkedPreview.{worked_catalogue, worked_loan};
 ghost use Rattle.mf_lists.specs.WorkedRates.{january, quarter, year_of_twelve, in_a_year, one_cent};
@@ -60,9 +64,10 @@ pub fn for_nothing_there_is_no_rate()
     ensures { (day : ℕ) (rows : List FreshInstalment) → 1 ≤ total_owed rows → yearly_rate 0 day rows ≡ None }
 {}
 
-/// Rates that a second program worked out, with fractions and by the formula of the directive: 1,000.00 by equal
-/// principal at 12 percent over three months, without a fee and with 15.00 kept; 1,200.00 flat at 12 percent over twelve
-/// months, without a fee and with 24.00 kept; 1,000.00 for which 1,100.00 is paid after a year; and a cent for a cent.
+/// Rates that a second program worked out, by the definition and by the formula of the directive: 1,000.00 by equal
+/// principal at 12 percent over three months, without a fee and with 15.00 kept; 1,200.00 flat at 12 percent over
+/// twelve months, without a fee and with 24.00 kept; 1,000.00 for which 1,100.00 is paid after a year; and a cent for a
+/// cent.
 pub fn worked_rates()
     ensures quarter { yearly_rate 100000 january quarter ≡ Some 1295 }
     ensures quarter_with_fee { yearly_rate 98500 january quarter ≡ Some 2398 }
@@ -75,16 +80,30 @@ pub fn worked_rates()
 /// A preview is refused exactly as submitting is, for a client that is there: with the same refusal, and where it is
 /// shown, submitting makes the loan or has no room for it.
 pub fn a_preview_is_refused_as_submitting_is()
-    ensures refused { (k : Catalogue) (rows : Rows) (office day : ℕ) (asked : Application) (name : List ℕ) (fault : Fault) →
-        item_numbered rows.clients asked.client ≡ Some name →
-        preview_in k asked.product asked.principal asked.periods day ≡ Err fault → submit office asked k rows ≡ Err fault }
+    ensures refused { (k : Catalogue) (rows : Rows) (office day : ℕ) (asked : Application) (name : List ℕ)
+        (fault : Fault) → item_numbered rows.clients asked.client ≡ Some name →
+        preview_in k asked.product asked.principal asked.periods day ≡ Err fault →
+        submit office asked k rows ≡ Err fault }
     ensures shown { (k : Catalogue) (rows : Rows) (office day : ℕ) (asked : Application) (name : List ℕ)
         (shown : LoanPreview) → item_numbered rows.clients asked.client ≡ Some name →
         preview_in k asked.product asked.principal asked.periods day ≡ Ok shown →
         submit office asked k rows ≡ make_loan office asked rows }
 {}
 
-/// A loan that is paid out on a day, before anything is entered, has the instalments and the fee that its preview showed.
+/// Whoever holds the charges that a product names, as the catalogue has them, shows the catalogue's preview.
+pub fn named_charges_are_enough_for_a_preview()
+    ensures { (k : Catalogue) (charges : List ChargeDef) (number principal n day : ℕ) (p : Product) →
+        product_in k number ≡ Some p →
+        charge_of (charge_at charges) p.members.disbursement_charge
+        ≡ charge_of (charge_in k) p.members.disbursement_charge →
+        charge_of (charge_at charges) p.members.instalment_charge
+        ≡ charge_of (charge_in k) p.members.instalment_charge →
+        charge_of (charge_at charges) p.members.overdue_charge ≡ charge_of (charge_in k) p.members.overdue_charge →
+        preview_of (charge_at charges) p principal n day ≡ preview_in k number principal n day }
+{}
+
+/// A loan that is paid out on a day, before anything is entered, has the instalments and the fee that its preview
+/// showed.
 pub fn paying_out_gives_what_was_shown()
     ensures instalments { (k : Catalogue) (l : Ledger) (approved day : ℕ) (shown : LoanPreview) →
         l.loan.stage ≡ Disbursed approved day → l.entries ≡ [] →
@@ -129,6 +148,12 @@ pub fn pages_give_the_whole()
         ≡ loans_at status k rows }
 {}
 
+/// What is told to be due of a loan fell due by the day, and is no more than what is left to pay.
+pub fn what_is_due_is_due_by_the_day()
+    ensures { (k : Catalogue) (rows : Rows) (day : ℕ) →
+        AllByRecursion (λ (d : DueLine). (d.oldest ≤ day) × (sum d.due ≤ d.left)) (due_lines day k rows) }
+{}
+
 /// The counts of a sound office's clients come to those of its loans.
 pub fn counts_by_client_add_up()
     ensures waiting { (k : Catalogue) (staffed : Caller → Bool) (rows : Rows) → IsSoundRows k staffed rows →
@@ -158,7 +183,8 @@ pub fn worked_lists()
     ensures early { list_seen (λ text. text) (DueBy (first_due - 1) 0) 1 2 small ≡ Ok (DueLines []) }
     ensures later { list_seen (λ text. text) (DueBy second_due 0) 1 2 small
         ≡ Ok (DueLines (later_of_amina ∷ later_of_binta ∷ [])) }
-    ensures later_after { list_seen (λ text. text) (DueBy second_due 2) 1 2 small ≡ Ok (DueLines (later_of_binta ∷ [])) }
+    ensures later_after { list_seen (λ text. text) (DueBy second_due 2) 1 2 small
+        ≡ Ok (DueLines (later_of_binta ∷ [])) }
     ensures active { list_seen (λ text. text) (AtStatus 300 0) 1 2 small ≡ Ok (StageLines
         (stage_of 2 1 (codes "Amina") (Some january) ∷ stage_of 3 2 (codes "Binta") (Some january) ∷ [])) }
     ensures submitted { list_seen (λ text. text) (AtStatus 100 0) 1 2 small ≡ Ok (StageLines
@@ -169,5 +195,6 @@ pub fn worked_lists()
     ensures find { list_seen (λ text. text) (Find (codes "in")) 1 2 small ≡ Ok (ClientLines (amina ∷ binta ∷ [])) }
     ensures find_number { list_seen (λ text. text) (Find (codes "0002-000003")) 1 2 small
         ≡ Ok (ClientLines (binta ∷ chidi ∷ [])) }
-    ensures find_loan { list_seen (λ text. text) (Find (codes "0002-000005")) 1 2 small ≡ Ok (ClientLines (chidi ∷ [])) }
+    ensures find_loan { list_seen (λ text. text) (Find (codes "0002-000005")) 1 2 small
+        ≡ Ok (ClientLines (chidi ∷ [])) }
 {}

@@ -33,8 +33,8 @@ pub struct LoanPreview {
     pub rate: Option<u64>,
 }
 
-/// What a loan of so many cents over n periods would be on these terms, paid out on a day. The only error is F20, out of
-/// memory.
+/// What a loan of so many cents over n periods would be on these terms, paid out on a day. The only error is F20, out
+/// of memory.
 fn preview_by(
     alloc: Global,
     terms: &Terms,
@@ -62,8 +62,8 @@ fn preview_by(
 }
 
 /// What a loan of a product would be, of so many cents over n periods, paid out on a day. F7 where the product is
-/// retired, then F8 outside its limits, as when it is submitted; then F20 when out of memory. The charges hold those that
-/// the product names.
+/// retired, then F8 outside its limits, as when it is submitted; then F20 when out of memory. The charges hold those
+/// that the product names.
 pub fn preview_loan(
     alloc: Global,
     product: &Product,

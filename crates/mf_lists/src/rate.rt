@@ -130,7 +130,7 @@ fn yearly_from(rate: u64) -> u64
 /// which these instalments pay back, fees included: the formula of Directive 2008/48/EC, Annex I, by days of the
 /// calendar over a year of 365. A borrower knows it as the annual percentage rate (APR), all charges included.
 ///
-/// None is for rates over 137,640.83 percent, and so where nothing is handed over.
+/// None is for rates over 137,640.83 percent, and so where something is asked and nothing handed over.
 pub fn yearly_rate(handed: u64, day: Day, rows: &[FreshInstalment]) -> Option<u64>
     requires owed { total_owed rows.now < 2 ^ 54 }
     ensures value { result ≡ yearly_rate handed day rows.now }

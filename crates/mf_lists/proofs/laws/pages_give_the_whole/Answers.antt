@@ -10,12 +10,13 @@ use Rattle.mf_lists.proofs.laws.pages_give_the_whole.Goals as goal
 
 pub returns-clause-clients : goal.returns-clause-clients
 returns-clause-clients c = λ k rows turns few.
-    lines-by_pages (λ (c : ClientLine). c.number) (client_line k rows) (λ c. refl) (λ c. true) 500 turns rows.clients few
+    lines-by_pages (λ (c : ClientLine). c.number) (client_line k rows) (λ c. refl) (λ c. true) 500 turns rows.clients
+    few
 
 pub returns-clause-due : goal.returns-clause-due
 returns-clause-due c = λ k rows day turns few.
-    lines-by_pages (λ (d : DueLine). d.loan) (due_line day k rows) (λ l. refl) (λ l. is_due day k l.1) 200 turns rows.loans
-    few
+    lines-by_pages (λ (d : DueLine). d.loan) (due_line day k rows) (λ l. refl) (λ l. is_due day k l.1) 200 turns
+    rows.loans few
 
 pub returns-clause-stages : goal.returns-clause-stages
 returns-clause-stages c = λ k rows status turns few.
