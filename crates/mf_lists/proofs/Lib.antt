@@ -1,0 +1,3 @@
+pub mod RateLemmas
+pub mod PreviewLemmas
+pub mod ListLemmas

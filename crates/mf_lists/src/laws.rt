@@ -1,0 +1,200 @@
+//! What holds of lists and of rates. Each function does nothing: its contract is the law that the sentence above it
+//! tells.
+
+ghost use Rattle.std.specs.Prelude.{◌≡◌, ◌≤◌, ◌-◌, ◌*◌, ◌++◌, ◌∷◌, ℕ, Bool, List, [], map, true, false, codes, length};
+ghost use Rattle.std.specs.Prelude.{sum, sum_by, Some, None, MatchOption, IfSome, Ok, Err};
+ghost use Rattle.std.specs.List.{AllByRecursion, count_by};
+ghost use Rattle.mf_base.specs.declared.fault.Fault.{Fault};
+ghost use Rattle.mf_base.specs.declared.fault.Fault.TheVariants.{F4, F7, F8};
+ghost use Rattle.mf_catalog.specs.declared.charge.ChargeDef.{ChargeDef};
+ghost use Rattle.mf_catalog.specs.declared.product.Product.{Product};
+ghost use Rattle.mf_catalog.specs.Product.{charge_at, charge_of};
+ghost use Rattle.mf_office.specs.declared.caller.Caller.{Caller};
+ghost use Rattle.mf_office.specs.Tree.{is_at_or_below};
+ghost use Rattle.mf_account.specs.Account.{row_of};
+ghost use Rattle.mf_statement.specs.Lines.{instalments_from};
+ghost use Rattle.mf_model.specs.declared.loan.Stage.TheVariants.{Disbursed};
+ghost use Rattle.mf_model.specs.declared.request.Application.{Application};
+ghost use Rattle.mf_model.specs.Accounts.{balances_in, instalments_in};
+ghost use Rattle.mf_model.specs.Institution.{Catalogue, Institution, Ledger, Rows, charge_in, item_numbered};
+ghost use Rattle.mf_model.specs.Institution.{product_in};
+ghost use Rattle.mf_model.specs.Loans.{make_loan, submit};
+ghost use Rattle.mf_schedule.specs.Fresh.{total_owed};
+ghost use Rattle.mf_schedule.specs.declared.instalment.FreshInstalment.{FreshInstalment};
+ghost use Rattle.mf_model.specs.Sound.{IsSoundRows};
+ghost use Rattle.mf_model.specs.Tree.{parent_of, view};
+ghost use Rattle.mf_lists.specs.declared.lines.ClientLine.{ClientLine};
+ghost use Rattle.mf_lists.specs.declared.lines.DueLine.{DueLine};
+ghost use Rattle.mf_lists.specs.declared.lines.StageLine.{StageLine};
+ghost use Rattle.mf_lists.specs.declared.preview.LoanPreview.{LoanPreview};
+ghost use Rattle.mf_lists.specs.Lists.{clients_of, clients_after, due_lines, due_after, loans_at, stages_after};
+ghost use Rattle.mf_lists.specs.Lists.{is_waiting, is_active, is_overdue, has_part};
+ghost use Rattle.mf_lists.specs.Readings.{ListAsked, Clients, LoansOf, DueBy, AtStatus, StaffOf, Find, ClientLines};
+ghost use Rattle.mf_lists.specs.Readings.{ClientLoans, DueLines, StageLines, StaffLines, list_seen, pages};
+ghost use Rattle.mf_lists.specs.WorkedLists.{small, march, first_due, second_due, amina, binta, chidi, loans_of_amina};
+ghost use Rattle.mf_lists.specs.WorkedLists.{due_of_amina, later_of_amina, later_of_binta, stage_of, zola_and_yemi};
+ghost use Rattle.mf_lists.specs.Preview.{preview_in, preview_of};
+ghost use Rattle.mf_lists.specs.Rate.{is_borne, least_daily_rate, most_daily_rate, yearly_rate};
+ghost use Rattle.mf_lists.specs.WorkedPreview.{worked_catalogue, worked_loan};
+ghost use Rattle.mf_lists.specs.WorkedRates.{january, quarter, year_of_twelve, in_a_year, one_cent};
+
+/// What was handed over bears the instalments at the daily rate that is found, and at no lower one.
+pub fn the_daily_rate_is_the_least_that_bears()
+    ensures bears { (handed day : ℕ) (rows : List FreshInstalment) → is_borne handed day rows most_daily_rate ≡ true →
+        is_borne handed day rows (least_daily_rate handed day rows) ≡ true }
+    ensures least { (handed day : ℕ) (rows : List FreshInstalment) (rate : ℕ) → is_borne handed day rows rate ≡ true →
+        least_daily_rate handed day rows ≤ rate }
+{}
+
+/// A higher fee, by which less is handed over, never lowers the yearly rate.
+pub fn a_higher_fee_never_lowers_the_rate()
+    ensures { (more less day : ℕ) (rows : List FreshInstalment) → less ≤ more →
+        MatchOption (yearly_rate more day rows) (yearly_rate less day rows ≡ None)
+        (λ low. IfSome (yearly_rate less day rows) (λ high. low ≤ high)) }
+{}
+
+/// Where there is neither interest nor a fee, so that no more is asked than was handed over, the rate is 0.
+pub fn without_interest_and_fees_the_rate_is_nothing()
+    ensures { (handed day : ℕ) (rows : List FreshInstalment) → total_owed rows ≤ handed →
+        yearly_rate handed day rows ≡ Some 0 }
+{}
+
+/// Where nothing is handed over and something is asked, there is no rate.
+pub fn for_nothing_there_is_no_rate()
+    ensures { (day : ℕ) (rows : List FreshInstalment) → 1 ≤ total_owed rows → yearly_rate 0 day rows ≡ None }
+{}
+
+/// Rates that a second program worked out, by the definition and by the formula of the directive: 1,000.00 by equal
+/// principal at 12 percent over three months, without a fee and with 15.00 kept; 1,200.00 flat at 12 percent over
+/// twelve months, without a fee and with 24.00 kept; 1,000.00 for which 1,100.00 is paid after a year; and a cent for a
+/// cent.
+pub fn worked_rates()
+    ensures quarter { yearly_rate 100000 january quarter ≡ Some 1295 }
+    ensures quarter_with_fee { yearly_rate 98500 january quarter ≡ Some 2398 }
+    ensures year { yearly_rate 120000 january year_of_twelve ≡ Some 2376 }
+    ensures year_with_fee { yearly_rate 117600 january year_of_twelve ≡ Some 2865 }
+    ensures in_a_year { yearly_rate 100000 january in_a_year ≡ Some 1000 }
+    ensures one_cent { yearly_rate 1 january one_cent ≡ Some 0 }
+{}
+
+/// A preview is refused exactly as submitting is, for a client that is there: with the same refusal, and where it is
+/// shown, submitting makes the loan or has no room for it.
+pub fn a_preview_is_refused_as_submitting_is()
+    ensures refused { (k : Catalogue) (rows : Rows) (office day : ℕ) (asked : Application) (name : List ℕ)
+        (fault : Fault) → item_numbered rows.clients asked.client ≡ Some name →
+        preview_in k asked.product asked.principal asked.periods day ≡ Err fault →
+        submit office asked k rows ≡ Err fault }
+    ensures shown { (k : Catalogue) (rows : Rows) (office day : ℕ) (asked : Application) (name : List ℕ)
+        (shown : LoanPreview) → item_numbered rows.clients asked.client ≡ Some name →
+        preview_in k asked.product asked.principal asked.periods day ≡ Ok shown →
+        submit office asked k rows ≡ make_loan office asked rows }
+{}
+
+/// Whoever holds the charges that a product names, as the catalogue has them, shows the catalogue's preview.
+pub fn named_charges_are_enough_for_a_preview()
+    ensures { (k : Catalogue) (charges : List ChargeDef) (number principal n day : ℕ) (p : Product) →
+        product_in k number ≡ Some p →
+        charge_of (charge_at charges) p.members.disbursement_charge
+        ≡ charge_of (charge_in k) p.members.disbursement_charge →
+        charge_of (charge_at charges) p.members.instalment_charge
+        ≡ charge_of (charge_in k) p.members.instalment_charge →
+        charge_of (charge_at charges) p.members.overdue_charge ≡ charge_of (charge_in k) p.members.overdue_charge →
+        preview_of (charge_at charges) p principal n day ≡ preview_in k number principal n day }
+{}
+
+/// A loan that is paid out on a day, before anything is entered, has the instalments and the fee that its preview
+/// showed.
+pub fn paying_out_gives_what_was_shown()
+    ensures instalments { (k : Catalogue) (l : Ledger) (approved day : ℕ) (shown : LoanPreview) →
+        l.loan.stage ≡ Disbursed approved day → l.entries ≡ [] →
+        preview_in k l.loan.product l.loan.principal l.loan.periods day ≡ Ok shown →
+        instalments_in k l ≡ instalments_from 1 (map row_of shown.instalments) }
+    ensures kept { (k : Catalogue) (l : Ledger) (approved day : ℕ) (shown : LoanPreview) →
+        l.loan.stage ≡ Disbursed approved day → l.entries ≡ [] →
+        preview_in k l.loan.product l.loan.principal l.loan.periods day ≡ Ok shown →
+        (balances_in k l).disbursement_fee ≡ shown.kept }
+{}
+
+/// A preview that a second program worked out, and each refusal.
+pub fn worked_preview()
+    ensures shown { preview_in worked_catalogue 1 100000 3 january ≡ Ok worked_loan }
+    ensures missing { preview_in worked_catalogue 3 100000 3 january ≡ Err F4 }
+    ensures none { preview_in worked_catalogue 0 100000 3 january ≡ Err F4 }
+    ensures retired { preview_in worked_catalogue 2 9999 3 january ≡ Err F7 }
+    ensures little { preview_in worked_catalogue 1 9999 3 january ≡ Err F8 }
+    ensures long { preview_in worked_catalogue 1 100000 25 january ≡ Err F8 }
+{}
+
+/// A list is read off what the office of whoever asks sees: what lies elsewhere changes nothing, and an office that
+/// isn't seen is missing.
+pub fn lists_are_read_off_the_view()
+    ensures view { (folded : List ℕ → List ℕ) (asked : ListAsked) (o x : ℕ) (i : Institution) →
+        list_seen folded asked o x (view o i) ≡ list_seen folded asked o x i }
+    ensures alike { (folded : List ℕ → List ℕ) (asked : ListAsked) (o x : ℕ) (i j : Institution) → view o i ≡ view o j →
+        list_seen folded asked o x i ≡ list_seen folded asked o x j }
+    ensures unseen { (folded : List ℕ → List ℕ) (asked : ListAsked) (o x : ℕ) (i : Institution) →
+        is_at_or_below (parent_of i.offices) x o ≡ false → list_seen folded asked o x i ≡ Err F4 }
+{}
+
+/// Pages that follow one another, each after the last number of the one before it, give the whole list, each line once
+/// and in order: so many pages of 500 or 200 lines give up to so many times 500 or 200 lines.
+pub fn pages_give_the_whole()
+    ensures clients { (k : Catalogue) (rows : Rows) (turns : ℕ) → length (clients_of k rows) ≤ 500 * turns →
+        pages (λ (c : ClientLine). c.number) (λ after. clients_after after k rows) turns 0 ≡ clients_of k rows }
+    ensures due { (k : Catalogue) (rows : Rows) (day turns : ℕ) → length (due_lines day k rows) ≤ 200 * turns →
+        pages (λ (d : DueLine). d.loan) (λ after. due_after day after k rows) turns 0 ≡ due_lines day k rows }
+    ensures stages { (k : Catalogue) (rows : Rows) (status turns : ℕ) → length (loans_at status k rows) ≤ 200 * turns →
+        pages (λ (s : StageLine). s.loan) (λ after. stages_after status after k rows) turns 0
+        ≡ loans_at status k rows }
+{}
+
+/// What is told to be due of a loan fell due by the day, and is no more than what is left to pay.
+pub fn what_is_due_is_due_by_the_day()
+    ensures { (k : Catalogue) (rows : Rows) (day : ℕ) →
+        AllByRecursion (λ (d : DueLine). (d.oldest ≤ day) × (sum d.due ≤ d.left)) (due_lines day k rows) }
+{}
+
+/// The counts of a sound office's clients come to those of its loans.
+pub fn counts_by_client_add_up()
+    ensures waiting { (k : Catalogue) (staffed : Caller → Bool) (rows : Rows) → IsSoundRows k staffed rows →
+        sum_by (λ (c : ClientLine). c.waiting) (clients_of k rows) ≡ count_by (is_waiting k) rows.loans }
+    ensures active { (k : Catalogue) (staffed : Caller → Bool) (rows : Rows) → IsSoundRows k staffed rows →
+        sum_by (λ (c : ClientLine). c.active) (clients_of k rows) ≡ count_by (is_active k) rows.loans }
+    ensures overdue { (k : Catalogue) (staffed : Caller → Bool) (rows : Rows) → IsSoundRows k staffed rows →
+        sum_by (λ (c : ClientLine). c.overdue) (clients_of k rows) ≡ count_by (is_overdue k) rows.loans }
+{}
+
+/// A text has a part exactly where the part stands somewhere in it.
+pub fn a_part_stands_where_it_is_found()
+    ensures found { (before part rest : List ℕ) → has_part part (before ++ (part ++ rest)) ≡ true }
+    ensures stands { (part text : List ℕ) → has_part part text ≡ true →
+        (before : List ℕ) × ((rest : List ℕ) × (text ≡ before ++ (part ++ rest))) }
+{}
+
+/// Each list of a small institution, worked out by hand; names are folded by nothing.
+pub fn worked_lists()
+    ensures clients { list_seen (λ text. text) (Clients 0) 1 2 small ≡ Ok (ClientLines (amina ∷ binta ∷ chidi ∷ [])) }
+    ensures after { list_seen (λ text. text) (Clients 1) 2 2 small ≡ Ok (ClientLines (binta ∷ chidi ∷ [])) }
+    ensures beside { list_seen (λ text. text) (Clients 0) 3 2 small ≡ Err F4 }
+    ensures empty { list_seen (λ text. text) (Clients 0) 1 3 small ≡ Ok (ClientLines []) }
+    ensures loans { list_seen (λ text. text) (LoansOf 1) 1 2 small ≡ Ok (ClientLoans loans_of_amina) }
+    ensures nobody { list_seen (λ text. text) (LoansOf 4) 1 2 small ≡ Err F4 }
+    ensures due { list_seen (λ text. text) (DueBy march 0) 1 2 small ≡ Ok (DueLines (due_of_amina ∷ [])) }
+    ensures early { list_seen (λ text. text) (DueBy (first_due - 1) 0) 1 2 small ≡ Ok (DueLines []) }
+    ensures later { list_seen (λ text. text) (DueBy second_due 0) 1 2 small
+        ≡ Ok (DueLines (later_of_amina ∷ later_of_binta ∷ [])) }
+    ensures later_after { list_seen (λ text. text) (DueBy second_due 2) 1 2 small
+        ≡ Ok (DueLines (later_of_binta ∷ [])) }
+    ensures active { list_seen (λ text. text) (AtStatus 300 0) 1 2 small ≡ Ok (StageLines
+        (stage_of 2 1 (codes "Amina") (Some january) ∷ stage_of 3 2 (codes "Binta") (Some january) ∷ [])) }
+    ensures submitted { list_seen (λ text. text) (AtStatus 100 0) 1 2 small ≡ Ok (StageLines
+        (stage_of 1 1 (codes "Amina") None ∷ [])) }
+    ensures approved { list_seen (λ text. text) (AtStatus 200 4) 1 2 small ≡ Ok (StageLines
+        (stage_of 5 3 (codes "Chidi") (Some march) ∷ [])) }
+    ensures staff { list_seen (λ text. text) StaffOf 1 2 small ≡ Ok (StaffLines zola_and_yemi) }
+    ensures find { list_seen (λ text. text) (Find (codes "in")) 1 2 small ≡ Ok (ClientLines (amina ∷ binta ∷ [])) }
+    ensures find_number { list_seen (λ text. text) (Find (codes "0002-000003")) 1 2 small
+        ≡ Ok (ClientLines (binta ∷ chidi ∷ [])) }
+    ensures find_loan { list_seen (λ text. text) (Find (codes "0002-000005")) 1 2 small
+        ≡ Ok (ClientLines (chidi ∷ [])) }
+{}
