@@ -348,7 +348,7 @@ module _ (title : Title) (meant : Selection) where
 
 -- ---- all accounts together
 
-sum-zero : {X : Type 0} (read : X → ℤ) → ((x : X) → read x ≡ pos 0) → (xs : List X) → signed_sum read xs ≡ pos 0
+pub sum-zero : {X : Type 0} (read : X → ℤ) → ((x : X) → read x ≡ pos 0) → (xs : List X) → signed_sum read xs ≡ pos 0
 sum-zero read each [] = refl
 sum-zero read each (x ∷ xs) =
     let here = each x in

@@ -1,4 +1,5 @@
 pub mod Books
+pub mod Opening
 pub mod Runs
 pub mod Text
 pub mod WorkedBooks

@@ -103,3 +103,10 @@ refunded_row = worked 14 march (credit 8667) (pos 0) (pos 0) (pos 0) (debit 8667
 abbrev pub worked_transactions : List Transaction
 worked_transactions = approved_row ∷ paid_out_row ∷ waived_row ∷ repaid_row ∷ taken_back_row ∷ written_off_row
     ∷ reinstated_row ∷ overpaid_row ∷ refunded_row ∷ []
+
+-- Books that begin after these days open with 33.33 of cash: what was repaid and not refunded, less what was lent.
+-- Interest of 13.33 and the fee of 20.00 are its income.
+abbrev pub worked_opening : List Posting
+worked_opening = moved Cash (debit 3333) ∷ moved Principal (pos 0) ∷ moved Interest (credit 1333) ∷ moved Fees (pos 0)
+    ∷ moved Penalties (pos 0) ∷ moved DisbursementFees (credit 2000) ∷ moved Overpaid (pos 0)
+    ∷ moved WrittenOff (pos 0) ∷ []

@@ -12,14 +12,16 @@ ghost use Rattle.mf_model.specs.Sound.{IsSound, AreInRange};
 ghost use Rattle.mf_model.specs.Tree.{IsTree};
 ghost use Rattle.mf_statement.specs.WorkedRows.{january};
 ghost use Rattle.mf_journal.specs.Journal.{writes_of};
+ghost use Rattle.mf_ledger.specs.declared.books.Posting.{Posting};
 ghost use Rattle.mf_ledger.specs.declared.books.Title.{Title};
 ghost use Rattle.mf_ledger.specs.declared.books.Title.TheVariants.{Cash, Principal, Interest, Fees, Penalties};
 ghost use Rattle.mf_ledger.specs.declared.books.Title.TheVariants.{DisbursementFees, Overpaid, WrittenOff};
 ghost use Rattle.mf_ledger.specs.declared.books.Transaction.{Transaction};
 ghost use Rattle.mf_ledger.specs.Books.{signed_sum, titles, lent_on};
 ghost use Rattle.mf_ledger.specs.Runs.{Selection, everything, balance, office_balance, transactions, posted};
-ghost use Rattle.mf_ledger.specs.Runs.{posted_in_all, between, at_end_of};
-ghost use Rattle.mf_ledger.specs.WorkedBooks.{worked_days, worked_transactions};
+ghost use Rattle.mf_ledger.specs.Runs.{posted_in_all, posted_by, between, at_end_of};
+ghost use Rattle.mf_ledger.specs.Opening.{opening_postings};
+ghost use Rattle.mf_ledger.specs.WorkedBooks.{worked_days, worked_transactions, worked_opening};
 
 /// Whatever requests come, the postings of each transaction come to 0: what is debited is credited.
 pub fn each_transaction_comes_to_nothing()
@@ -49,6 +51,21 @@ pub fn postings_up_to_a_day_come_to_its_balances()
         IsSound i → AreInRange lines →
         balance title meant (at_end_of day lines i)
         ≡ balance title meant i +ℤ posted title meant (between 0 day (transactions n lines i)) }
+{}
+
+/// The opening postings of a sound institution have what stands on each account, and come to 0. With the postings of all
+/// business days up to one they come to what the institution had on each account at the end of that day. So books that
+/// begin with an opening go on as if they had been there from the founding on.
+pub fn books_begin_with_an_opening()
+    ensures opening { (i : Institution) (title : Title) (meant : Selection) → IsSound i →
+        signed_sum (posted_by title meant) (opening_postings i) ≡ balance title meant i }
+    ensures nothing { (i : Institution) → IsSound i →
+        signed_sum (λ (p : Posting). p.amount) (opening_postings i) ≡ pos 0 }
+    ensures day_end { (i : Institution) (lines : List Line) (n day : ℕ) (title : Title) (meant : Selection) →
+        IsSound i → AreInRange lines →
+        balance title meant (at_end_of day lines i)
+        ≡ signed_sum (posted_by title meant) (opening_postings i)
+        +ℤ posted title meant (between 0 day (transactions n lines i)) }
 {}
 
 /// Two spans of days that meet come to the whole.
@@ -101,4 +118,5 @@ pub fn worked_books()
     ensures answers { answers (map (λ row. row.0) worked_days) (newly_made january) ≡ map (λ row. row.1) worked_days }
     ensures transactions { transactions 0 (map (λ row. row.0) worked_days) (newly_made january) ≡ worked_transactions }
     ensures cash { balance Cash everything (last (map (λ row. row.0) worked_days) (newly_made january)) ≡ pos 3333 }
+    ensures opening { opening_postings (last (map (λ row. row.0) worked_days) (newly_made january)) ≡ worked_opening }
 {}

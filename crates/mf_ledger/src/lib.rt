@@ -4,7 +4,9 @@
 
 mod books;
 pub mod laws;
+mod opening;
 mod text;
 
 pub use books::{BookAccount, LoanSums, Posting, Title, Transaction, postings};
+pub use opening::opening_postings;
 pub use text::transaction_text;
