@@ -6,7 +6,7 @@ ghost use Rattle.mf_account.specs.Change.{account_by_replay};
 ghost use Rattle.mf_model.specs.Accounts.{account_in};
 ghost use Rattle.mf_model.specs.Institution.{Catalogue, Ledger};
 ghost use Rattle.mf_model.specs.Sound.{IsSoundCatalogue, IsSoundLoan};
-ghost use Rattle.mf_ledger.specs.Books.{amount_on, posting_between, postings_between, sums_in, some_moves};
+ghost use Rattle.mf_ledger.specs.Books.{amount_on, posting_between, postings_between, sums_in};
 
 use mf_account::{Balances, LoanAccount};
 use mf_base::Day;
@@ -174,13 +174,4 @@ pub fn postings(office: OfficeNo, product: u32, before: &LoanSums, after: &LoanS
         posting_on(office, product, Title::Overpaid, before, after),
         posting_on(office, product, Title::WrittenOff, before, after),
     ]
-}
-
-impl Transaction {
-    /// Whether any amount isn't 0.
-    pub fn moves(&self) -> bool
-        ensures { result ≡ some_moves self.now.postings }
-    {
-        self.postings.iter().any(|posting| posting.amount != 0)
-    }
 }

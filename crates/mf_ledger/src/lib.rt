@@ -4,9 +4,15 @@
 
 mod books;
 pub mod laws;
+mod names;
+mod occasion;
 mod opening;
+mod sheet;
 mod text;
 
 pub use books::{BookAccount, LoanSums, Posting, Title, Transaction, postings};
+pub use names::{GivenName, Names, Program};
+pub use occasion::Occasion;
 pub use opening::opening_postings;
-pub use text::transaction_text;
+pub use sheet::{opening_sheet, sheet_columns, transaction_sheet};
+pub use text::{opening_text, preamble, transaction_text};
