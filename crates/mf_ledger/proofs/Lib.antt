@@ -4,4 +4,6 @@ pub mod StepBooks
 pub mod RunBooks
 pub mod OpeningLemmas
 pub mod TieLemmas
+pub mod RowLemmas
+pub mod SheetLemmas
 pub mod TextLemmas

@@ -5,3 +5,4 @@ pub mod Runs
 pub mod Sheet
 pub mod Text
 pub mod WorkedBooks
+pub mod WorkedTexts

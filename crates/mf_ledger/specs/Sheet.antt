@@ -1,6 +1,6 @@
 -- The postings of transactions as a sheet of comma-separated values, which spreadsheets, Odoo and ERPNext read: RFC 4180,
 -- https://www.rfc-editor.org/rfc/rfc4180
-use Rattle.std.specs.Prelude.{ℕ, ◌+◌, ℤ, pos, negsuc, List, [], ◌∷◌, ◌++◌, map, filter, codes, decimal, Option, Some, None}
+use Rattle.std.specs.Prelude.{ℕ, ◌+◌, ◌*◌, ◌^◌, ◌<◌, ℤ, pos, negsuc, List, [], ◌∷◌, map, filter, codes, decimal, Option, Some, None}
 use Rattle.std.specs.List.{flat_map}
 use Rattle.csv.specs.Writing.{default_writer, row_text, with_terminator}
 use Rattle.csv.specs.declared.parser.Terminator.TheVariants as terminator
@@ -8,6 +8,7 @@ use Rattle.csv.specs.declared.writer.WriterBuilder.{WriterBuilder}
 use Rattle.mf_base.specs.DayText.{day_text}
 use Rattle.mf_base.specs.Money.{money_text}
 use Rattle.mf_office.specs.declared.account.Account.{Account}
+use Rattle.mf_office.specs.Texts.{IsAccount}
 use Rattle.mf_office.specs.Written as written
 use Rattle.mf_ledger.specs.declared.books.Posting.{Posting}
 use Rattle.mf_ledger.specs.declared.books.Transaction.{Transaction}
@@ -62,3 +63,18 @@ transaction_rows gs t = rows_of gs (occasion_of t) t.postings
 -- the rows of the opening postings of a day
 abbrev pub opening_rows : List GivenName → ℕ → List Posting → List (List (List ℕ))
 opening_rows gs day postings = rows_of gs (opening_of day) postings
+
+-- a loan, if there is one, has the numbers of an account
+abbrev pub IsLoan : Option Account → Type 0
+IsLoan None = Unit {0}
+IsLoan (Some loan) = IsAccount loan
+
+-- what the books can be of: a number of 64 bits, and a loan
+pub record IsOccasion (o : Occasion) : Type 0 where
+  pub number : o.number < 2 ^ 64
+  pub loan : IsLoan o.loan
+
+-- an amount whose units fit 64 bits, as all of the books do
+abbrev pub IsWritten : ℤ → Type 0
+IsWritten (pos n) = n < 100 * 2 ^ 64
+IsWritten (negsuc n) = n + 1 < 100 * 2 ^ 64

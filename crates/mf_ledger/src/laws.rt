@@ -1,27 +1,38 @@
 //! What holds of the books, whatever is asked. Each function does nothing: its contract is the law that the sentence
 //! above it tells.
 
-ghost use Rattle.std.specs.Prelude.{◌≡◌, ◌≤◌, ◌+◌, ◌++◌, ℕ, pos, ◌+ℤ◌, ◌-ℤ◌, neg_ℤ, List, length, map, sum, sum_by};
+ghost use Rattle.std.specs.Prelude.{◌≡◌, ◌≤◌, ◌+◌, ◌++◌, ◌∷◌, ℕ, pos, ◌+ℤ◌, ◌-ℤ◌, neg_ℤ, List, [], codes, length, map, sum};
+ghost use Rattle.std.specs.Prelude.{sum_by};
 ghost use Rattle.std.specs.Prelude.{slice_index};
-ghost use Rattle.std.specs.List.{AllByRecursion};
+ghost use Rattle.std.specs.List.{AllByRecursion, flat_map};
+ghost use Rattle.csv.specs.Reading.{default_config, records};
 ghost use Rattle.mf_account.specs.Balance.{sum_repaid};
 ghost use Rattle.mf_model.specs.Accounts.{balances_in};
 ghost use Rattle.mf_model.specs.Institution.{Institution, Catalogue, Ledger, Office, newly_made};
 ghost use Rattle.mf_model.specs.Run.{Line, answers, last};
 ghost use Rattle.mf_model.specs.Sound.{IsSound, AreInRange};
 ghost use Rattle.mf_model.specs.Tree.{IsTree};
-ghost use Rattle.mf_statement.specs.WorkedRows.{january};
+ghost use Rattle.mf_statement.specs.WorkedRows.{january, march};
 ghost use Rattle.mf_journal.specs.Journal.{writes_of};
 ghost use Rattle.mf_ledger.specs.declared.books.Posting.{Posting};
 ghost use Rattle.mf_ledger.specs.declared.books.Title.{Title};
 ghost use Rattle.mf_ledger.specs.declared.books.Title.TheVariants.{Cash, Principal, Interest, Fees, Penalties};
 ghost use Rattle.mf_ledger.specs.declared.books.Title.TheVariants.{DisbursementFees, Overpaid, WrittenOff};
 ghost use Rattle.mf_ledger.specs.declared.books.Transaction.{Transaction};
+ghost use Rattle.mf_ledger.specs.declared.names.GivenName.{GivenName};
+ghost use Rattle.mf_ledger.specs.declared.names.Program.TheVariants.{Hledger, Beancount};
+ghost use Rattle.mf_ledger.specs.declared.occasion.Occasion.{Occasion};
 ghost use Rattle.mf_ledger.specs.Books.{signed_sum, titles, lent_on};
 ghost use Rattle.mf_ledger.specs.Runs.{Selection, everything, balance, office_balance, transactions, posted};
 ghost use Rattle.mf_ledger.specs.Runs.{posted_in_all, posted_by, between, at_end_of};
+ghost use Rattle.mf_ledger.specs.Names.{name_of};
 ghost use Rattle.mf_ledger.specs.Opening.{opening_postings};
+ghost use Rattle.mf_ledger.specs.Sheet.{columns, sheet_text, transaction_rows, opening_rows, fields_of};
+ghost use Rattle.mf_ledger.specs.Sheet.{IsOccasion, IsWritten};
+ghost use Rattle.mf_ledger.specs.Text.{preamble, transaction_text, opening_text};
 ghost use Rattle.mf_ledger.specs.WorkedBooks.{worked_days, worked_transactions, worked_opening};
+ghost use Rattle.mf_ledger.specs.WorkedTexts.{journal_of, sheet_of, till_names, chart_names, hledger_lines};
+ghost use Rattle.mf_ledger.specs.WorkedTexts.{beancount_lines, csv_lines, opening_lines};
 
 /// Whatever requests come, the postings of each transaction come to 0: what is debited is credited.
 pub fn each_transaction_comes_to_nothing()
@@ -112,6 +123,22 @@ pub fn books_tie_to_an_audit()
         +ℤ pos (sum_by (λ (l : Ledger). (balances_in k l).refunded) office.rows.loans)) }
 {}
 
+/// A reader of comma-separated values by RFC 4180 reads from a sheet of any transactions, by whatever names, each row as
+/// it was written.
+pub fn sheets_are_read_back()
+    ensures { (names : List GivenName) (transactions : List Transaction) →
+        records default_config (sheet_text (columns ∷ flat_map (transaction_rows names) transactions))
+        ≡ columns ∷ flat_map (transaction_rows names) transactions }
+{}
+
+/// A row tells its posting: two postings with one row are of one day, one line of the journal and one loan, on accounts
+/// of one name, and move one amount.
+pub fn one_row_one_posting()
+    ensures { (names : List GivenName) (o q : Occasion) (p r : Posting) → IsOccasion o → IsOccasion q →
+        IsWritten p.amount → IsWritten r.amount → fields_of names o p ≡ fields_of names q r →
+        (o ≡ q) × (name_of Hledger names p.account ≡ name_of Hledger names r.account) × (p.amount ≡ r.amount) }
+{}
+
 /// Worked out, line by line: a loan that is paid out with a fee kept, a waiver, a repayment that counts from an earlier
 /// day and its reversal, a write-off and its reversal, an overpayment and its refund.
 pub fn worked_books()
@@ -119,4 +146,21 @@ pub fn worked_books()
     ensures transactions { transactions 0 (map (λ row. row.0) worked_days) (newly_made january) ≡ worked_transactions }
     ensures cash { balance Cash everything (last (map (λ row. row.0) worked_days) (newly_made january)) ≡ pos 3333 }
     ensures opening { opening_postings (last (map (λ row. row.0) worked_days) (newly_made january)) ≡ worked_opening }
+{}
+
+/// The same as each program reads it, line by line: for hledger, for beancount and as a sheet, these two by names of a
+/// chart; and the opening of books that begin after it. In the file of names the more exact name and the first line are
+/// taken, and a line without `=` gives none.
+pub fn worked_texts()
+    ensures hledger { preamble Hledger ++ flat_map (transaction_text Hledger []) worked_transactions
+        ≡ journal_of hledger_lines }
+    ensures beancount { preamble Beancount ++ flat_map (transaction_text Beancount till_names) worked_transactions
+        ≡ journal_of beancount_lines }
+    ensures sheet { sheet_text (columns ∷ flat_map (transaction_rows chart_names) worked_transactions)
+        ≡ sheet_of csv_lines }
+    ensures opening { opening_text Hledger [] march worked_opening ≡ journal_of opening_lines }
+    ensures opening_sheet { sheet_text (opening_rows [] march worked_opening)
+        ≡ sheet_of (codes "2024-03-31,0,,assets:cash:office-0001:product-001,33.33,"
+        ∷ codes "2024-03-31,0,,income:interest:office-0001:product-001,,13.33"
+        ∷ codes "2024-03-31,0,,income:disbursement-fees:office-0001:product-001,,20.00" ∷ []) }
 {}

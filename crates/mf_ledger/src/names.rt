@@ -1,6 +1,7 @@
 //! The names of accounts: those that the books give them, and those of an institution's own chart.
 
-ghost use Rattle.std.specs.Prelude.{◌≡◌, ◌==◌, option_map, string_bytes, IfOk, IsOkUnless};
+ghost use Rattle.std.specs.Prelude.{◌≡◌, ◌++◌, [], string_bytes, IfOk, OnOk, IsOkUnless};
+ghost use Rattle.std.specs.List.{cons_option};
 ghost use Rattle.mf_ledger.specs.Names as spec;
 
 use crate::books::{BookAccount, Title};
@@ -151,6 +152,17 @@ fn name_in(alloc: Global, line: &str) -> Result<Option<GivenName>, Fault>
     }
 }
 
+/// Adds what a line of a file of names gives. Its only error is F20.
+fn push_name(alloc: Global, given: &mut Vec<GivenName>, line: &str) -> Result<(), Fault>
+    ensures names { OnOk result (given.new.items ≡ given.old.items ++ cons_option (spec.name_in line.now) []) }
+    ensures only { IsOkUnless result Fault.F20 }
+{
+    if let Some(name) = name_in(alloc, line)? {
+        given.push(name)?;
+    }
+    Ok(())
+}
+
 impl Names {
     ghost use Rattle.std.specs.Prelude.{◌≡◌, [], option_map, IfOk, IsOkUnless, string_bytes};
     ghost use Rattle.std.specs.Option.{option_or};
@@ -173,9 +185,7 @@ impl Names {
     {
         let mut given = Vec::new(alloc);
         for line in text.lines() {
-            if let Some(name) = name_in(alloc, line)? {
-                given.push(name)?;
-            }
+            push_name(alloc, &mut given, line)?;
         }
         Ok(Names { given })
     }
@@ -208,7 +218,12 @@ impl Names {
 
     /// The name by which an account is written: what is given for it, or else for its title in its office, or else for
     /// its title, and its own where nothing is given. Its only error is F20.
-    pub fn name_of(&self, alloc: Global, program: Program, account: &BookAccount) -> Result<String, Fault>
+    pub fn name_of(
+        &self,
+        alloc: Global,
+        program: Program,
+        account: &BookAccount,
+    ) -> Result<String, Fault>
         ensures text { IfOk result (λ text. string_bytes text ≡ spec.name_of program self.now account.now) }
         ensures only { IsOkUnless result Fault.F20 }
     {

@@ -1,4 +1,4 @@
-use Rattle.std.proofs.Common.{◌≡◌, ◌++◌, List, ℕ, ap, ◌∙◌}
+use Rattle.std.proofs.Common.{◌≡◌, ap, ◌∙◌}
 use Rattle.std.specs.Fmt.{styled_decimal}
 use Rattle.mf_office.specs.Written.{zero_padded}
 use Rattle.mf_office.proofs.ReadLemmas.{four_digits}

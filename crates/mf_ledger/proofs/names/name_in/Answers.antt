@@ -1,8 +1,7 @@
-use Rattle.std.proofs.Common.{◌≡◌, ◌+◌, ℕ, Bool, true, false, cond, List, [], ◌∷◌, length, ap, ◌∙◌, sym, refl, arith}
+use Rattle.std.proofs.Common.{◌≡◌, ◌+◌, Bool, true, false, cond, List, [], ◌∷◌, length, ap, sym, refl, arith}
 use Rattle.std.specs.Prelude.{not, ◌||◌, None, Some}
 use Rattle.std.specs.List.{list_any, position_or_len, before_first, after_first}
-use Rattle.mf_ledger.specs.declared.names.GivenName.{GivenName}
-use Rattle.mf_ledger.specs.Names.{is_equals_sign, name_in}
+use Rattle.mf_ledger.specs.Names.{is_equals_sign}
 use Rattle.mf_ledger.proofs.names.name_in.Goals as goal
 
 -- where the first that passes is the end, none passes
@@ -19,5 +18,7 @@ pub returns-in-None-clause-name : goal.returns-in-None-clause-name
 returns-in-None-clause-name c =
     let none : position_or_len is_equals_sign c.args.line.now ≡ length c.args.line.now =
     c.in-None.ensures.byte (omega arith) (λ w o x. x) in
-    sym (ap (λ (b : Bool). cond b (Some (record { ours = before_first is_equals_sign c.args.line.now;
-    theirs = after_first is_equals_sign c.args.line.now })) None) (none_passes is_equals_sign c.args.line.now none))
+    sym (ap (λ (b : Bool). cond b (Some (record {
+      ours = before_first is_equals_sign c.args.line.now;
+      theirs = after_first is_equals_sign c.args.line.now;
+    })) None) (none_passes is_equals_sign c.args.line.now none))

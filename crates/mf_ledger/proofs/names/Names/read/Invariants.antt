@@ -1,6 +1,5 @@
 use Rattle.std.proofs.Common.{◌≡◌, ℕ, Bor, List, map}
 use Rattle.std.specs.List.{filter_map}
-
 use Rattle.mf_ledger.specs.Names.{name_in}
 use Rattle.mf_ledger.proofs.names.Names.read.Given as goal
 
