@@ -1,7 +1,7 @@
 -- The opening postings of an institution come to its balances.
 use Rattle.std.proofs.Common.{◌≡◌, ◌≤◌, ◌<◌, ◌+◌, ℕ, zero, suc, Bool, true, false, List, [], ◌∷◌, length}
 use Rattle.std.proofs.Common.{Option, Some, None, refl, sym, ap, ◌∙◌, arith, map}
-use Rattle.std.specs.Prelude.{◌==◌, ◌&&◌, filter, ℤ, pos, ◌+ℤ◌}
+use Rattle.std.specs.Prelude.{◌==◌, filter, ℤ, pos, ◌+ℤ◌}
 use Rattle.std.specs.List.{flat_map, range_with_len}
 use Rattle.std.proofs.lemmas.Bool.Decides.{nat_tests}
 use Rattle.std.proofs.lemmas.Int.{ints}
@@ -16,7 +16,10 @@ use Rattle.mf_ledger.specs.declared.books.Posting.{Posting}
 use Rattle.mf_ledger.specs.declared.books.Title.{Title}
 use Rattle.mf_ledger.specs.declared.books.Title.TheVariants.{Cash, Principal, Interest, Fees, Penalties}
 use Rattle.mf_ledger.specs.declared.books.Title.TheVariants.{DisbursementFees, Overpaid, WrittenOff}
-use Rattle.mf_ledger.specs.Books.{is_title, signed_sum, titles, sums_in, amount_on}
+use Rattle.mf_ledger.specs.declared.books.Title.TheVariants.{InterestReceivable, FeesReceivable, PenaltiesReceivable}
+use Rattle.mf_ledger.specs.declared.books.Title.TheVariants.{InterestWaived, FeesWaived, PenaltiesWaived}
+use Rattle.mf_ledger.specs.declared.books.Title.TheVariants.{InterestWrittenOff, FeesWrittenOff, PenaltiesWrittenOff}
+use Rattle.mf_ledger.specs.Books.{signed_sum, titles, sums_in, amount_on}
 use Rattle.mf_ledger.specs.Runs.{Selection, everything, where_meant, loan_balance, office_balance, balance, posted_by}
 use Rattle.mf_ledger.specs.Opening.{opening_on, sums_of_product, product_numbers, office_opening, opening_postings}
 use Rattle.mf_ledger.proofs.SignedSums.{sum-append, sum-same, sum-filter}
@@ -98,6 +101,11 @@ product_within k n principal periods h = go (item_numbered k.products n) refl
 
 -- ---- the opening postings on the accounts of a title
 
+-- nothing stands on an account that only accrual has
+unposted : (b : Bool) (loans : List LoanSums) → pos 0 ≡ where_meant b (signed_sum (λ s. pos 0) loans)
+unposted true loans = sym (sum-zero (λ s. pos 0) (λ s. refl) loans)
+unposted false loans = refl
+
 posted_on : (title : Title) (meant : Selection) (office product : ℕ) (loans : List LoanSums)
     → signed_sum (posted_by title meant) (opening_on office product loans)
     ≡ where_meant (meant office product) (signed_sum (amount_on title) loans)
@@ -109,6 +117,15 @@ posted_on Penalties meant office product loans = omega (arith, ints)
 posted_on DisbursementFees meant office product loans = omega (arith, ints)
 posted_on Overpaid meant office product loans = omega (arith, ints)
 posted_on WrittenOff meant office product loans = omega (arith, ints)
+posted_on InterestReceivable meant office product loans = unposted (meant office product) loans
+posted_on FeesReceivable meant office product loans = unposted (meant office product) loans
+posted_on PenaltiesReceivable meant office product loans = unposted (meant office product) loans
+posted_on InterestWaived meant office product loans = unposted (meant office product) loans
+posted_on FeesWaived meant office product loans = unposted (meant office product) loans
+posted_on PenaltiesWaived meant office product loans = unposted (meant office product) loans
+posted_on InterestWrittenOff meant office product loans = unposted (meant office product) loans
+posted_on FeesWrittenOff meant office product loans = unposted (meant office product) loans
+posted_on PenaltiesWrittenOff meant office product loans = unposted (meant office product) loans
 
 module _ (title : Title) (meant : Selection) where
   -- what a loan has, where its product is this one and is meant
@@ -172,27 +189,41 @@ module _ (title : Title) (meant : Selection) where
       (λ f. signed_sum (posted_by title meant) (office_opening i.catalogue f)) (office_balance title meant i.catalogue)
       (λ f is. office_is i.catalogue (is_staff i.offices) f is) i.offices s.each
 
--- a posting is on the account of one title
-one_title : (p : Posting) → p.amount ≡ signed_sum (λ title. posted_by title everything p) titles
-one_title p = go p.account.title
-  where
-    go : (title : Title) → p.amount ≡ signed_sum (λ t. where_meant (is_title title t && true) p.amount) titles
-    go Cash = omega (arith, ints)
-    go Principal = omega (arith, ints)
-    go Interest = omega (arith, ints)
-    go Fees = omega (arith, ints)
-    go Penalties = omega (arith, ints)
-    go DisbursementFees = omega (arith, ints)
-    go Overpaid = omega (arith, ints)
-    go WrittenOff = omega (arith, ints)
+-- what the opening postings of loans come to is what these have on all accounts
+opening_in_all : (office product : ℕ) (loans : List LoanSums)
+    → signed_sum (λ (p : Posting). p.amount) (opening_on office product loans)
+    ≡ signed_sum (λ title. signed_sum (posted_by title everything) (opening_on office product loans)) titles
+opening_in_all office product loans = omega (arith, ints)
+
+-- the opening postings of a product of an office
+abbrev part : Catalogue → Office → ℕ → List Posting
+part k f product = opening_on f.number product (sums_of_product k product f.rows.loans)
+
+-- and so of an office
+office_in_titles : (k : Catalogue) (f : Office)
+    → signed_sum (λ (p : Posting). p.amount) (office_opening k f)
+    ≡ signed_sum (λ title. signed_sum (posted_by title everything) (office_opening k f)) titles
+office_in_titles k f =
+    sum-flat (λ (p : Posting). p.amount) (part k f) (product_numbers k)
+    ∙ each-same (λ product. signed_sum (λ (p : Posting). p.amount) (part k f product))
+    (λ product. signed_sum (λ title. signed_sum (posted_by title everything) (part k f product)) titles)
+    (λ product. opening_in_all f.number product (sums_of_product k product f.rows.loans)) (product_numbers k)
+    ∙ sum-swap (λ product title. signed_sum (posted_by title everything) (part k f product)) (product_numbers k) titles
+    ∙ each-same (λ title. signed_sum (λ product. signed_sum (posted_by title everything) (part k f product))
+    (product_numbers k)) (λ title. signed_sum (posted_by title everything) (office_opening k f))
+    (λ title. sym (sum-flat (posted_by title everything) (part k f) (product_numbers k))) titles
 
 -- and they come to nothing
 pub opening_nothing : (i : Institution) → IsSound i
     → signed_sum (λ (p : Posting). p.amount) (opening_postings i) ≡ pos 0
 opening_nothing i s =
-    each-same (λ (p : Posting). p.amount) (λ p. signed_sum (λ title. posted_by title everything p) titles) one_title
-    (opening_postings i)
-    ∙ sum-swap (λ p title. posted_by title everything p) (opening_postings i) titles
-    ∙ each-same (λ title. signed_sum (posted_by title everything) (opening_postings i))
-    (λ title. balance title everything i) (λ title. opening_is title everything i s) titles
+    sum-flat (λ (p : Posting). p.amount) (office_opening i.catalogue) i.offices
+    ∙ each-same (λ f. signed_sum (λ (p : Posting). p.amount) (office_opening i.catalogue f))
+    (λ f. signed_sum (λ title. signed_sum (posted_by title everything) (office_opening i.catalogue f)) titles)
+    (office_in_titles i.catalogue) i.offices
+    ∙ sum-swap (λ f title. signed_sum (posted_by title everything) (office_opening i.catalogue f)) i.offices titles
+    ∙ each-same (λ title. signed_sum (λ f. signed_sum (posted_by title everything) (office_opening i.catalogue f))
+    i.offices) (λ title. balance title everything i)
+    (λ title. sym (sum-flat (posted_by title everything) (office_opening i.catalogue) i.offices)
+    ∙ opening_is title everything i s) titles
     ∙ all_in_all everything i s

@@ -1,3 +1,4 @@
+pub mod Accrual
 pub mod Books
 pub mod Names
 pub mod Opening

@@ -9,6 +9,9 @@ use Rattle.mf_ledger.specs.declared.books.BookAccount.{BookAccount}
 use Rattle.mf_ledger.specs.declared.books.Title.{Title}
 use Rattle.mf_ledger.specs.declared.books.Title.TheVariants.{Cash, Principal, Interest, Fees, Penalties}
 use Rattle.mf_ledger.specs.declared.books.Title.TheVariants.{DisbursementFees, Overpaid, WrittenOff}
+use Rattle.mf_ledger.specs.declared.books.Title.TheVariants.{InterestReceivable, FeesReceivable, PenaltiesReceivable}
+use Rattle.mf_ledger.specs.declared.books.Title.TheVariants.{InterestWaived, FeesWaived, PenaltiesWaived}
+use Rattle.mf_ledger.specs.declared.books.Title.TheVariants.{InterestWrittenOff, FeesWrittenOff, PenaltiesWrittenOff}
 use Rattle.mf_ledger.specs.declared.names.GivenName.{GivenName}
 use Rattle.mf_ledger.specs.declared.names.Program.{Program}
 use Rattle.mf_ledger.specs.declared.names.Program.TheVariants.{Hledger, Beancount}
@@ -23,6 +26,15 @@ hledger_title Penalties = codes "income:penalties"
 hledger_title DisbursementFees = codes "income:disbursement-fees"
 hledger_title Overpaid = codes "liabilities:overpaid"
 hledger_title WrittenOff = codes "expenses:written-off"
+hledger_title InterestReceivable = codes "assets:interest-receivable"
+hledger_title FeesReceivable = codes "assets:fees-receivable"
+hledger_title PenaltiesReceivable = codes "assets:penalties-receivable"
+hledger_title InterestWaived = codes "expenses:interest-waived"
+hledger_title FeesWaived = codes "expenses:fees-waived"
+hledger_title PenaltiesWaived = codes "expenses:penalties-waived"
+hledger_title InterestWrittenOff = codes "expenses:interest-written-off"
+hledger_title FeesWrittenOff = codes "expenses:fees-written-off"
+hledger_title PenaltiesWrittenOff = codes "expenses:penalties-written-off"
 
 -- the same for beancount, where each part begins with a capital letter
 abbrev pub beancount_title : Title → List ℕ
@@ -34,6 +46,15 @@ beancount_title Penalties = codes "Income:Penalties"
 beancount_title DisbursementFees = codes "Income:Disbursement-Fees"
 beancount_title Overpaid = codes "Liabilities:Overpaid"
 beancount_title WrittenOff = codes "Expenses:Written-Off"
+beancount_title InterestReceivable = codes "Assets:Interest-Receivable"
+beancount_title FeesReceivable = codes "Assets:Fees-Receivable"
+beancount_title PenaltiesReceivable = codes "Assets:Penalties-Receivable"
+beancount_title InterestWaived = codes "Expenses:Interest-Waived"
+beancount_title FeesWaived = codes "Expenses:Fees-Waived"
+beancount_title PenaltiesWaived = codes "Expenses:Penalties-Waived"
+beancount_title InterestWrittenOff = codes "Expenses:Interest-Written-Off"
+beancount_title FeesWrittenOff = codes "Expenses:Fees-Written-Off"
+beancount_title PenaltiesWrittenOff = codes "Expenses:Penalties-Written-Off"
 
 -- the name of a title for a program
 abbrev pub title_text : Program → Title → List ℕ

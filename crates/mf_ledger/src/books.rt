@@ -32,6 +32,24 @@ pub enum Title {
     Overpaid,
     /// Principal that is written off: an expense.
     WrittenOff,
+    /// Interest that fell due and is outstanding: an asset of books on an accrual basis.
+    InterestReceivable,
+    /// Fees that fell due and are outstanding, on an accrual basis.
+    FeesReceivable,
+    /// Penalties that fell due and are outstanding, on an accrual basis.
+    PenaltiesReceivable,
+    /// Interest that was waived: an expense on an accrual basis.
+    InterestWaived,
+    /// Fees that were waived, on an accrual basis.
+    FeesWaived,
+    /// Penalties that were waived, on an accrual basis.
+    PenaltiesWaived,
+    /// Interest that is written off: an expense on an accrual basis.
+    InterestWrittenOff,
+    /// Fees that are written off, on an accrual basis.
+    FeesWrittenOff,
+    /// Penalties that are written off, on an accrual basis.
+    PenaltiesWrittenOff,
 }
 
 /// An account of the books.
@@ -135,6 +153,7 @@ impl Title {
             Title::DisbursementFees => -i128::from(balances.disbursement_fee),
             Title::Overpaid => -i128::from(balances.overpaid),
             Title::WrittenOff => i128::from(balances.written_off[3]),
+            _ => 0,
         }
     }
 }

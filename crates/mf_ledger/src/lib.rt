@@ -2,6 +2,7 @@
 //! hledger. All is read off the accounts of loans; nothing is kept for the books alone.
 #![tactic(auto)]
 
+mod accrual;
 mod books;
 pub mod laws;
 mod names;
@@ -10,6 +11,7 @@ mod opening;
 mod sheet;
 mod text;
 
+pub use accrual::{AccruedSums, adjusting_postings};
 pub use books::{BookAccount, LoanSums, Posting, Title, Transaction, postings};
 pub use names::{GivenName, Names, Program};
 pub use occasion::Occasion;

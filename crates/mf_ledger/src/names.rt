@@ -35,6 +35,15 @@ impl Title {
             Title::DisbursementFees => "income:disbursement-fees",
             Title::Overpaid => "liabilities:overpaid",
             Title::WrittenOff => "expenses:written-off",
+            Title::InterestReceivable => "assets:interest-receivable",
+            Title::FeesReceivable => "assets:fees-receivable",
+            Title::PenaltiesReceivable => "assets:penalties-receivable",
+            Title::InterestWaived => "expenses:interest-waived",
+            Title::FeesWaived => "expenses:fees-waived",
+            Title::PenaltiesWaived => "expenses:penalties-waived",
+            Title::InterestWrittenOff => "expenses:interest-written-off",
+            Title::FeesWrittenOff => "expenses:fees-written-off",
+            Title::PenaltiesWrittenOff => "expenses:penalties-written-off",
         }
     }
 
@@ -51,6 +60,15 @@ impl Title {
             Title::DisbursementFees => "Income:Disbursement-Fees",
             Title::Overpaid => "Liabilities:Overpaid",
             Title::WrittenOff => "Expenses:Written-Off",
+            Title::InterestReceivable => "Assets:Interest-Receivable",
+            Title::FeesReceivable => "Assets:Fees-Receivable",
+            Title::PenaltiesReceivable => "Assets:Penalties-Receivable",
+            Title::InterestWaived => "Expenses:Interest-Waived",
+            Title::FeesWaived => "Expenses:Fees-Waived",
+            Title::PenaltiesWaived => "Expenses:Penalties-Waived",
+            Title::InterestWrittenOff => "Expenses:Interest-Written-Off",
+            Title::FeesWrittenOff => "Expenses:Fees-Written-Off",
+            Title::PenaltiesWrittenOff => "Expenses:Penalties-Written-Off",
         }
     }
 
