@@ -3,6 +3,7 @@ pub mod LoanBooks
 pub mod StepBooks
 pub mod RunBooks
 pub mod OpeningLemmas
+pub mod AccrualBooks
 pub mod TieLemmas
 pub mod RowLemmas
 pub mod SheetLemmas

@@ -37,7 +37,7 @@ pub sum-map : {X Y : Type 0} (read : Y → ℤ) (made : X → Y) (xs : List X)
 sum-map read made [] = refl
 sum-map read made (x ∷ xs) = ap (λ z. read (made x) +ℤ z) (sum-map read made xs)
 
-each-same : {X : Type 0} (f g : X → ℤ) → ((x : X) → f x ≡ g x) → (xs : List X) → signed_sum f xs ≡ signed_sum g xs
+pub each-same : {X : Type 0} (f g : X → ℤ) → ((x : X) → f x ≡ g x) → (xs : List X) → signed_sum f xs ≡ signed_sum g xs
 each-same f g each [] = refl
 each-same f g each (x ∷ xs) =
     let here = each x in

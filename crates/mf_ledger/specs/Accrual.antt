@@ -4,7 +4,6 @@
 use Rattle.std.specs.Prelude.{ℕ, ◌+◌, ◌-◌, nat_le, cond, ℤ, pos, ◌+ℤ◌, ◌-ℤ◌, neg_ℤ, List, [], ◌∷◌, ◌++◌, map, filter}
 use Rattle.std.specs.Prelude.{slice_index, is_some, Option, Some, None}
 use Rattle.std.specs.List.{flat_map, range_with_len}
-use Rattle.mf_office.specs.declared.account.Account.{Account}
 use Rattle.mf_alloc.specs.Sums.{Instalment}
 use Rattle.mf_account.specs.Balance.{open_in}
 use Rattle.mf_account.specs.Loan.{DisbursedLoan, state_of_loan}

@@ -2,11 +2,12 @@
 //! above it tells.
 
 ghost use Rattle.std.specs.Prelude.{◌≡◌, ◌≤◌, ◌+◌, ◌++◌, ◌∷◌, ℕ, pos, ◌+ℤ◌, ◌-ℤ◌, neg_ℤ, List, [], codes, length, map, sum};
-ghost use Rattle.std.specs.Prelude.{sum_by};
+ghost use Rattle.std.specs.Prelude.{filter, sum_by};
 ghost use Rattle.std.specs.Prelude.{slice_index};
 ghost use Rattle.std.specs.List.{AllByRecursion, flat_map};
 ghost use Rattle.csv.specs.Reading.{default_config, records};
-ghost use Rattle.mf_account.specs.Balance.{sum_repaid};
+ghost use Rattle.mf_alloc.specs.Sums.{Instalment};
+ghost use Rattle.mf_account.specs.Balance.{sum_repaid, open_in};
 ghost use Rattle.mf_model.specs.Accounts.{balances_in};
 ghost use Rattle.mf_model.specs.Institution.{Institution, Catalogue, Ledger, Office, newly_made};
 ghost use Rattle.mf_model.specs.Run.{Line, answers, last};
@@ -18,11 +19,14 @@ ghost use Rattle.mf_ledger.specs.declared.books.Posting.{Posting};
 ghost use Rattle.mf_ledger.specs.declared.books.Title.{Title};
 ghost use Rattle.mf_ledger.specs.declared.books.Title.TheVariants.{Cash, Principal, Interest, Fees, Penalties};
 ghost use Rattle.mf_ledger.specs.declared.books.Title.TheVariants.{DisbursementFees, Overpaid, WrittenOff};
+ghost use Rattle.mf_ledger.specs.declared.books.Title.TheVariants.{InterestReceivable, InterestWaived};
+ghost use Rattle.mf_ledger.specs.declared.books.Title.TheVariants.{InterestWrittenOff};
 ghost use Rattle.mf_ledger.specs.declared.books.Transaction.{Transaction};
 ghost use Rattle.mf_ledger.specs.declared.names.GivenName.{GivenName};
 ghost use Rattle.mf_ledger.specs.declared.names.Program.TheVariants.{Hledger, Beancount};
 ghost use Rattle.mf_ledger.specs.declared.occasion.Occasion.{Occasion};
-ghost use Rattle.mf_ledger.specs.Books.{signed_sum, titles, lent_on};
+ghost use Rattle.mf_ledger.specs.Accrual.{accrued, accrued_in, office_accrued, due_open, adjustments};
+ghost use Rattle.mf_ledger.specs.Books.{signed_sum, some_moves, titles, lent_on};
 ghost use Rattle.mf_ledger.specs.Runs.{Selection, everything, balance, office_balance, transactions, posted};
 ghost use Rattle.mf_ledger.specs.Runs.{posted_in_all, posted_by, between, at_end_of};
 ghost use Rattle.mf_ledger.specs.Names.{name_of};
@@ -31,6 +35,7 @@ ghost use Rattle.mf_ledger.specs.Sheet.{columns, sheet_text, transaction_rows, o
 ghost use Rattle.mf_ledger.specs.Sheet.{IsOccasion, IsWritten};
 ghost use Rattle.mf_ledger.specs.Text.{preamble, transaction_text, opening_text};
 ghost use Rattle.mf_ledger.specs.WorkedBooks.{worked_days, worked_transactions, worked_opening};
+ghost use Rattle.mf_ledger.specs.WorkedBooks.{worked_adjustments};
 ghost use Rattle.mf_ledger.specs.WorkedTexts.{journal_of, sheet_of, till_names, chart_names, hledger_lines};
 ghost use Rattle.mf_ledger.specs.WorkedTexts.{beancount_lines, csv_lines, opening_lines};
 
@@ -123,6 +128,44 @@ pub fn books_tie_to_an_audit()
         +ℤ pos (sum_by (λ (l : Ledger). (balances_in k l).refunded) office.rows.loans)) }
 {}
 
+/// On an accrual basis: each adjusting transaction comes to 0, and what accrual adds to an account, over any offices and
+/// products, is exactly what it added there and all that was adjusted since, by requests and by the days that passed. A
+/// new institution has nothing adjusted. That spans which meet come to the whole is said of any transactions.
+pub fn adjustments_come_to_the_accruals()
+    ensures nothing { (i : Institution) (lines : List Line) (n : ℕ) →
+        AllByRecursion (λ (t : Transaction). posted_in_all t ≡ pos 0) (adjustments n lines i) }
+    ensures since { (i : Institution) (lines : List Line) (n : ℕ) (title : Title) (meant : Selection) →
+        IsSound i → AreInRange lines →
+        accrued title meant (last lines i).catalogue.day (last lines i)
+        ≡ accrued title meant i.catalogue.day i +ℤ posted title meant (adjustments n lines i) }
+    ensures founding { (day : ℕ) (title : Title) (meant : Selection) →
+        accrued title meant day (newly_made day) ≡ pos 0 }
+{}
+
+/// What is receivable of a portion is what is outstanding of it in the instalments that fell due: at most what is
+/// outstanding, and all of that once each instalment fell due. By office, what accrual adds is the sum of what its loans
+/// have outstanding of what fell due, waived and written off, and with what was paid it is the income.
+pub fn accruals_tie_to_the_loans()
+    ensures at_most { (day p : ℕ) (rows : List Instalment) → due_open day rows p ≤ open_in p rows }
+    ensures all_due { (day p : ℕ) (rows : List Instalment) → AllByRecursion (λ (row : Instalment). row.due ≤ day) rows →
+        due_open day rows p ≡ open_in p rows }
+    ensures receivable { (day : ℕ) (k : Catalogue) (office : Office) →
+        office_accrued InterestReceivable everything day k office
+        ≡ pos (sum_by (λ (l : Ledger). slice_index (accrued_in day k l).due 2) office.rows.loans) }
+    ensures waived { (day : ℕ) (k : Catalogue) (office : Office) →
+        office_accrued InterestWaived everything day k office
+        ≡ pos (sum_by (λ (l : Ledger). slice_index (balances_in k l).waived 2) office.rows.loans) }
+    ensures written_off { (day : ℕ) (k : Catalogue) (office : Office) →
+        office_accrued InterestWrittenOff everything day k office
+        ≡ pos (sum_by (λ (l : Ledger). slice_index (balances_in k l).written_off 2) office.rows.loans) }
+    ensures paid { (day : ℕ) (k : Catalogue) (office : Office) →
+        ((office_balance Interest everything k office +ℤ office_accrued Interest everything day k office)
+        +ℤ office_accrued InterestReceivable everything day k office)
+        +ℤ (office_accrued InterestWaived everything day k office
+        +ℤ office_accrued InterestWrittenOff everything day k office)
+        ≡ neg_ℤ (pos (sum_by (λ (l : Ledger). slice_index (balances_in k l).paid 2) office.rows.loans)) }
+{}
+
 /// A reader of comma-separated values by RFC 4180 reads from a sheet of any transactions, by whatever names, each row as
 /// it was written.
 pub fn sheets_are_read_back()
@@ -140,12 +183,15 @@ pub fn one_row_one_posting()
 {}
 
 /// Worked out, line by line: a loan that is paid out with a fee kept, a waiver, a repayment that counts from an earlier
-/// day and its reversal, a write-off and its reversal, an overpayment and its refund.
+/// day and its reversal, a write-off and its reversal, an overpayment and its refund; the opening of books that begin
+/// then, and what an accrual basis adds.
 pub fn worked_books()
     ensures answers { answers (map (λ row. row.0) worked_days) (newly_made january) ≡ map (λ row. row.1) worked_days }
     ensures transactions { transactions 0 (map (λ row. row.0) worked_days) (newly_made january) ≡ worked_transactions }
     ensures cash { balance Cash everything (last (map (λ row. row.0) worked_days) (newly_made january)) ≡ pos 3333 }
     ensures opening { opening_postings (last (map (λ row. row.0) worked_days) (newly_made january)) ≡ worked_opening }
+    ensures adjustments { filter (λ (t : Transaction). some_moves t.postings)
+        (adjustments 0 (map (λ row. row.0) worked_days) (newly_made january)) ≡ worked_adjustments }
 {}
 
 /// The same as each program reads it, line by line: for hledger, for beancount and as a sheet, these two by names of a

@@ -44,16 +44,32 @@ fn names(alloc: Global) -> Result<Names, Fail> {
     Ok(Names::read(alloc, text)?)
 }
 
-/// The repayment.
-fn repayment() -> Result<Transaction, Fail> {
+/// The repayment, for a program.
+fn repayment_text(alloc: Global, program: Program, names: &Names) -> Result<String, Fail> {
     let [before, after] = before_and_after();
     let loan = Account::parse(b"0001-000001").ok_or("a loan")?;
-    Ok(Transaction {
+    let day = Day::parse(b"2024-03-31").ok_or("a day")?;
+    let transaction = Transaction {
         number: 13,
-        day: Day::parse(b"2024-03-31").ok_or("a day")?,
+        day,
         loan,
         postings: postings(loan.office, 1, &before, &after),
-    })
+    };
+    Ok(transaction_text(alloc, program, names, &transaction)?)
+}
+
+/// The repayment, as a sheet.
+fn repayment_sheet(alloc: Global, names: &Names) -> Result<Vec<u8>, Fail> {
+    let [before, after] = before_and_after();
+    let loan = Account::parse(b"0001-000001").ok_or("a loan")?;
+    let day = Day::parse(b"2024-03-31").ok_or("a day")?;
+    let transaction = Transaction {
+        number: 13,
+        day,
+        loan,
+        postings: postings(loan.office, 1, &before, &after),
+    };
+    Ok(transaction_sheet(alloc, names, &transaction)?)
 }
 
 const HLEDGER: &str = concat!(
@@ -83,13 +99,13 @@ const SHEET: &str = concat!(
 
 #[test]
 fn writes_a_transaction(rt: HostRuntime) -> Result<(), Fail> {
-    let repayment = repayment()?;
-    let (none, chart) = (Names::none(rt.alloc()), names(rt.alloc())?);
-    let text = transaction_text(rt.alloc(), Program::Hledger, &none, &repayment)?;
+    let none = Names::none(rt.alloc());
+    let chart = names(rt.alloc())?;
+    let text = repayment_text(rt.alloc(), Program::Hledger, &none)?;
     assert_eq!(rt; text.as_str(), HLEDGER);
-    let text = transaction_text(rt.alloc(), Program::Beancount, &chart, &repayment)?;
+    let text = repayment_text(rt.alloc(), Program::Beancount, &chart)?;
     assert_eq!(rt; text.as_str(), BEANCOUNT);
-    let sheet = transaction_sheet(rt.alloc(), &chart, &repayment)?;
+    let sheet = repayment_sheet(rt.alloc(), &chart)?;
     assert!(rt; sheet.as_slice() == SHEET.as_bytes());
     Ok(())
 }

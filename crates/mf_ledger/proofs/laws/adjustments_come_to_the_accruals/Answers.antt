@@ -1,0 +1,12 @@
+use Rattle.std.proofs.Common.{refl}
+use Rattle.mf_ledger.proofs.AccrualBooks.{run_adds, each_null}
+use Rattle.mf_ledger.proofs.laws.adjustments_come_to_the_accruals.Goals as goal
+
+pub returns-clause-nothing : goal.returns-clause-nothing
+returns-clause-nothing c = λ i lines n. each_null lines n i
+
+pub returns-clause-since : goal.returns-clause-since
+returns-clause-since c = λ i lines n title meant sound in_range. run_adds title meant lines n i sound in_range
+
+pub returns-clause-founding : goal.returns-clause-founding
+returns-clause-founding c = λ day title meant. refl
