@@ -1,9 +1,13 @@
 //! Books on an accrual basis: what they add to those on a cash basis.
 
-ghost use Rattle.std.specs.Prelude.{◌≡◌, ◌≤ℤ◌, ◌^◌, ◌*◌, pos, neg_ℤ};
-ghost use Rattle.mf_ledger.specs.Accrual.{accrued_on, adjusting_posting, adjusting_between};
+ghost use Rattle.std.specs.Prelude.{◌≡◌, ◌<◌, ◌≤ℤ◌, ◌^◌, ◌*◌, pos, neg_ℤ};
+ghost use Rattle.mf_alloc.specs.Rows.{place_in_row};
+ghost use Rattle.mf_ledger.specs.Accrual.{accrued_on, adjusting_posting, adjusting_between, due_open};
 
 use crate::books::{BookAccount, Posting, Title};
+use mf_account::LoanAccount;
+use mf_alloc::{Instalment, Portion};
+use mf_base::Day;
 use mf_office::OfficeNo;
 
 /// What accrual reads of a loan at the end of a day, in cents, by portion: penalties, fees, interest, principal.
@@ -17,9 +21,56 @@ pub struct AccruedSums {
     pub written_off: [u64; 4],
 }
 
+/// What is outstanding of a portion in the instalments that fell due by the end of a day.
+fn due_outstanding(rows: &[Instalment], portion: Portion, day: Day) -> u64
+    requires { due_open day rows.now (place_in_row portion) < 2 ^ 64 }
+    ensures { result ≡ due_open day rows.now (place_in_row portion) }
+{
+    let mut due = 0;
+    for row in rows {
+        if row.due <= day {
+            due += row.outstanding(portion);
+        }
+    }
+    due
+}
+
 impl AccruedSums {
-    ghost use Rattle.std.specs.Prelude.{◌≡◌, ◌<◌, ◌≤ℤ◌, ◌^◌, ◌*◌, pos, neg_ℤ};
-    ghost use Rattle.mf_ledger.specs.Accrual.{unpaid_income};
+    ghost use Rattle.std.specs.Prelude.{◌≡◌, ◌<◌, ◌≤ℤ◌, ◌^◌, ◌*◌, pos, neg_ℤ, option_map};
+    ghost use Rattle.mf_account.specs.Change.{account_by_replay};
+    ghost use Rattle.mf_model.specs.Accounts.{account_in};
+    ghost use Rattle.mf_model.specs.Institution.{Catalogue, Ledger};
+    ghost use Rattle.mf_ledger.specs.Accrual.{accrued_in, unpaid_income};
+
+    /// What accrual reads of a loan at the end of a day, with its account where it is disbursed.
+    pub fn of(account: &Option<LoanAccount>, day: Day) -> AccruedSums
+        ensures { (k : Catalogue) (l : Ledger) → account.now ≡ option_map account_by_replay (account_in k l) →
+            result ≡ accrued_in day k l }
+    {
+        match account {
+            None => AccruedSums {
+                due: [0; 4],
+                waived: [0; 4],
+                written_off: [0; 4],
+            },
+            Some(account) => {
+                let balances = account.balances();
+                let rows = account.rows();
+                let due = [
+                    due_outstanding(rows, Portion::Penalty, day),
+                    due_outstanding(rows, Portion::Fee, day),
+                    due_outstanding(rows, Portion::Interest, day),
+                    due_outstanding(rows, Portion::Principal, day),
+                ];
+                let (waived, written_off) = (balances.waived, balances.written_off);
+                AccruedSums {
+                    due,
+                    waived,
+                    written_off,
+                }
+            }
+        }
+    }
 
     /// The income of a portion that was not paid.
     fn unpaid_income(&self, portion: usize) -> i128
