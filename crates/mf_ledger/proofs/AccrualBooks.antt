@@ -1,6 +1,6 @@
 -- Books on an accrual basis along a run.
 use Rattle.std.proofs.Common.{◌≡◌, ◌≤◌, ◌+◌, ◌-◌, ℕ, zero, suc, Bool, true, false, cond, List, [], ◌∷◌, ◌++◌, Option, Some, None}
-use Rattle.std.proofs.Common.{Result, Ok, Err, refl, sym, ap, ◌∙◌, subst, arith}
+use Rattle.std.proofs.Common.{Result, Ok, Err, length, refl, sym, ap, ◌∙◌, subst, arith, append_assoc}
 use Rattle.std.specs.Prelude.{is_some, ℤ, pos, ◌+ℤ◌, ◌-ℤ◌}
 use Rattle.std.specs.List.{AllByRecursion, flat_map, range_with_len}
 use Rattle.std.proofs.lemmas.Int.{ints}
@@ -29,6 +29,8 @@ use Rattle.mf_model.specs.Tree.{IsTree}
 use Rattle.mf_model.proofs.Growing.{Grows}
 use Rattle.mf_model.proofs.SoundLemmas.{IsSoundChange, by_sound, next_sound}
 use Rattle.mf_model.proofs.Steps.{known_line, catalogue_change}
+use Rattle.mf_model.proofs.Runs.{IsTree_next}
+use Rattle.mf_journal.specs.Journal.{write_of, writes_of}
 use Rattle.mf_guarantees.proofs.LoanSteps.{IsPermitted, permitted, loan_changes, some_same}
 use Rattle.mf_ledger.specs.declared.accrual.AccruedSums.{AccruedSums}
 use Rattle.mf_ledger.specs.declared.books.Posting.{Posting}
@@ -49,7 +51,7 @@ use Rattle.mf_ledger.proofs.SignedSums.{office_put_in}
 use Rattle.mf_ledger.proofs.LoanBooks.{same_account}
 use Rattle.mf_ledger.proofs.StepBooks.{product_kept, told_keeps, IsNothing, AddsNothing, adds_nothing}
 use Rattle.mf_ledger.proofs.StepBooks.{ledgers_at, found_number, meant_sum, loan_sums, office_sums}
-use Rattle.mf_ledger.proofs.RunBooks.{posted_in, kept, all-both, day_grows}
+use Rattle.mf_ledger.proofs.RunBooks.{posted_in, kept, all-both, day_grows, IsFrom, later_from}
 use Rattle.mf_ledger.proofs.OpeningLemmas.{sum-flat, each-same}
 
 -- ---- one loan
@@ -453,4 +455,83 @@ each_null (l ∷ ls) n i = go (is_some (change_of_line l i)) (λ m. each_null ls
         (adjustments n ls (next l i)))
     go true rest = all-both IsNull (adjustments_of (n + 1) l.call.request i (next l i))
         (adjustments (n + 1) ls (next l i)) (line_null (n + 1) l.call.request i (next l i)) (rest (n + 1))
+    go false rest = rest n
+
+-- ---- a longer run, and the days of adjusting transactions
+
+pub longer : (ls ks : List Line) (n : ℕ) (i : Institution) → adjustments n (ls ++ ks) i
+    ≡ adjustments n ls i ++ adjustments (n + length (writes_of ls i)) ks (last ls i)
+longer [] ks n i = let same : n ≡ n + 0 = omega arith in ap (λ m. adjustments m ks i) same
+longer (l ∷ ls) ks n i = go (is_some (change_of_line l i)) (λ m. longer ls ks m (next l i))
+  where
+    go : (b : Bool)
+        → ((m : ℕ) → adjustments m (ls ++ ks) (next l i) ≡ adjustments m ls (next l i)
+        ++ adjustments (m + length (writes_of ls (next l i))) ks (last ls (next l i)))
+        → cond b
+        (adjustments_of (n + 1) l.call.request i (next l i) ++ adjustments (n + 1) (ls ++ ks) (next l i))
+        (adjustments n (ls ++ ks) (next l i))
+        ≡ cond b (adjustments_of (n + 1) l.call.request i (next l i) ++ adjustments (n + 1) ls (next l i))
+        (adjustments n ls (next l i))
+        ++ adjustments (n + length (cond b (write_of l i ∷ writes_of ls (next l i)) (writes_of ls (next l i)))) ks
+        (last ls (next l i))
+    go true rest =
+        let number : n + 1 + length (writes_of ls (next l i)) ≡ n + length (write_of l i ∷ writes_of ls (next l i)) =
+        omega arith in
+        ap (λ ts. adjustments_of (n + 1) l.call.request i (next l i) ++ ts) (rest (n + 1))
+        ∙ sym (append_assoc (adjustments_of (n + 1) l.call.request i (next l i)) (adjustments (n + 1) ls (next l i))
+        (adjustments (n + 1 + length (writes_of ls (next l i))) ks (last ls (next l i))))
+        ∙ ap (λ m. (adjustments_of (n + 1) l.call.request i (next l i) ++ adjustments (n + 1) ls (next l i))
+        ++ adjustments m ks (last ls (next l i))) number
+    go false rest = rest n
+
+request_from : (n : ℕ) (r : Request) (i j : Institution)
+    → AllByRecursion (IsFrom i.catalogue.day) (adjusting_of n r i j)
+request_from n (request.Unreadable flaw) i j = tt
+request_from n (request.Catalogue asked) i j = tt
+request_from n (request.Office x asked) i j = tt
+request_from n (request.Loan loan asked) i j = (omega arith, tt)
+request_from n request.SeenOffices i j = tt
+request_from n request.SeenArrears i j = tt
+request_from n (request.NewOffice number parent name) i j = tt
+
+loans_from : (a n day : ℕ) (k : Catalogue) (office m : ℕ) (ls : List Ledger) → a ≤ day
+    → AllByRecursion (IsFrom a) (due_of_loans n day k office m ls)
+loans_from a n day k office m [] h = tt
+loans_from a n day k office m (l ∷ ls) h = (h, loans_from a n day k office (m + 1) ls h)
+
+offices_from : (a n day : ℕ) (k : Catalogue) (fs : List Office) → a ≤ day
+    → AllByRecursion (IsFrom a) (flat_map (λ (f : Office). due_of_loans n day k f.number 1 f.rows.loans) fs)
+offices_from a n day k [] h = tt
+offices_from a n day k (f ∷ fs) h =
+    all-both (IsFrom a) (due_of_loans n day k f.number 1 f.rows.loans)
+    (flat_map (λ (g : Office). due_of_loans n day k g.number 1 g.rows.loans) fs)
+    (loans_from a n day k f.number 1 f.rows.loans h) (offices_from a n day k fs h)
+
+days_from : (a n first count : ℕ) (i : Institution) → a ≤ first
+    → AllByRecursion (IsFrom a) (flat_map (due_on n i) (range_with_len first count))
+days_from a n first zero i h = tt
+days_from a n first (suc count) i h =
+    all-both (IsFrom a) (due_on n i first) (flat_map (due_on n i) (range_with_len (first + 1) count))
+    (offices_from a n first i.catalogue i.offices h) (days_from a n (first + 1) count i (omega (arith, h)))
+
+line_from : (n : ℕ) (r : Request) (i j : Institution)
+    → AllByRecursion (IsFrom i.catalogue.day) (adjustments_of n r i j)
+line_from n r i j =
+    all-both (IsFrom i.catalogue.day) (adjusting_of n r i j) (due_between n i.catalogue.day j.catalogue.day j)
+    (request_from n r i j)
+    (days_from i.catalogue.day n (i.catalogue.day + 1) (j.catalogue.day - i.catalogue.day) j (omega arith))
+
+pub each_dated : (ls : List Line) (n : ℕ) (i : Institution) → IsTree i.offices
+    → AllByRecursion (IsFrom i.catalogue.day) (adjustments n ls i)
+each_dated [] n i t = tt
+each_dated (l ∷ ls) n i t = go (is_some (change_of_line l i))
+    (λ m. later_from i.catalogue.day (next l i).catalogue.day (day_grows l i t) (adjustments m ls (next l i))
+    (each_dated ls m (next l i) (IsTree_next l i t)))
+  where
+    go : (b : Bool) → ((m : ℕ) → AllByRecursion (IsFrom i.catalogue.day) (adjustments m ls (next l i)))
+        → AllByRecursion (IsFrom i.catalogue.day) (cond b
+        (adjustments_of (n + 1) l.call.request i (next l i) ++ adjustments (n + 1) ls (next l i))
+        (adjustments n ls (next l i)))
+    go true rest = all-both (IsFrom i.catalogue.day) (adjustments_of (n + 1) l.call.request i (next l i))
+        (adjustments (n + 1) ls (next l i)) (line_from (n + 1) l.call.request i (next l i)) (rest (n + 1))
     go false rest = rest n

@@ -1,7 +1,7 @@
 -- Books on an accrual basis: what they add to those on a cash basis. Interest, fees and penalties are income on the day on
 -- which they fall due, or are paid, waived or written off before; what fell due and is outstanding is receivable, and what
 -- is waived or written off is an expense.
-use Rattle.std.specs.Prelude.{ℕ, ◌+◌, ◌-◌, nat_le, cond, ℤ, pos, ◌+ℤ◌, ◌-ℤ◌, neg_ℤ, List, [], ◌∷◌, ◌++◌, map, filter}
+use Rattle.std.specs.Prelude.{ℕ, zero, suc, ◌+◌, ◌-◌, nat_le, cond, ℤ, pos, ◌+ℤ◌, ◌-ℤ◌, neg_ℤ, List, [], ◌∷◌, ◌++◌, map, filter}
 use Rattle.std.specs.Prelude.{slice_index, is_some, Option, Some, None}
 use Rattle.std.specs.List.{flat_map, range_with_len}
 use Rattle.mf_alloc.specs.Sums.{Instalment}
@@ -69,6 +69,30 @@ accrued_on Interest s = unpaid_income 2 s
 accrued_on Fees s = unpaid_income 1 s
 accrued_on Penalties s = unpaid_income 0 s
 accrued_on _ s = pos 0
+
+-- the titles of a portion: of penalties, fees and interest, the portions 0 to 2
+abbrev pub receivable_of : ℕ → Title
+receivable_of zero = PenaltiesReceivable
+receivable_of (suc zero) = FeesReceivable
+receivable_of (suc (suc p)) = InterestReceivable
+
+-- what of it is waived
+abbrev pub waived_of : ℕ → Title
+waived_of zero = PenaltiesWaived
+waived_of (suc zero) = FeesWaived
+waived_of (suc (suc p)) = InterestWaived
+
+-- what of it is written off
+abbrev pub written_off_of : ℕ → Title
+written_off_of zero = PenaltiesWrittenOff
+written_off_of (suc zero) = FeesWrittenOff
+written_off_of (suc (suc p)) = InterestWrittenOff
+
+-- its income
+abbrev pub income_of : ℕ → Title
+income_of zero = Penalties
+income_of (suc zero) = Fees
+income_of (suc (suc p)) = Interest
 
 -- what a change, or a day, adds to the account of a title: what is there afterwards, less what was there before
 abbrev pub adjusting_posting : ℕ → ℕ → AccruedSums → AccruedSums → Title → Posting

@@ -1,7 +1,7 @@
 //! What holds of the books, whatever is asked. Each function does nothing: its contract is the law that the sentence
 //! above it tells.
 
-ghost use Rattle.std.specs.Prelude.{◌≡◌, ◌≤◌, ◌+◌, ◌++◌, ◌∷◌, ℕ, pos, ◌+ℤ◌, ◌-ℤ◌, neg_ℤ, List, [], codes, length, map, sum};
+ghost use Rattle.std.specs.Prelude.{◌≡◌, ◌≤◌, ◌<◌, ◌+◌, ◌++◌, ◌∷◌, ℕ, pos, ◌+ℤ◌, ◌-ℤ◌, neg_ℤ, List, [], codes, length, map, sum};
 ghost use Rattle.std.specs.Prelude.{filter, sum_by};
 ghost use Rattle.std.specs.Prelude.{slice_index};
 ghost use Rattle.std.specs.List.{AllByRecursion, flat_map};
@@ -19,13 +19,12 @@ ghost use Rattle.mf_ledger.specs.declared.books.Posting.{Posting};
 ghost use Rattle.mf_ledger.specs.declared.books.Title.{Title};
 ghost use Rattle.mf_ledger.specs.declared.books.Title.TheVariants.{Cash, Principal, Interest, Fees, Penalties};
 ghost use Rattle.mf_ledger.specs.declared.books.Title.TheVariants.{DisbursementFees, Overpaid, WrittenOff};
-ghost use Rattle.mf_ledger.specs.declared.books.Title.TheVariants.{InterestReceivable, InterestWaived};
-ghost use Rattle.mf_ledger.specs.declared.books.Title.TheVariants.{InterestWrittenOff};
 ghost use Rattle.mf_ledger.specs.declared.books.Transaction.{Transaction};
 ghost use Rattle.mf_ledger.specs.declared.names.GivenName.{GivenName};
 ghost use Rattle.mf_ledger.specs.declared.names.Program.TheVariants.{Hledger, Beancount};
 ghost use Rattle.mf_ledger.specs.declared.occasion.Occasion.{Occasion};
 ghost use Rattle.mf_ledger.specs.Accrual.{accrued, accrued_in, office_accrued, due_open, adjustments};
+ghost use Rattle.mf_ledger.specs.Accrual.{receivable_of, waived_of, written_off_of, income_of};
 ghost use Rattle.mf_ledger.specs.Books.{signed_sum, some_moves, titles, lent_on};
 ghost use Rattle.mf_ledger.specs.Runs.{Selection, everything, balance, office_balance, transactions, posted};
 ghost use Rattle.mf_ledger.specs.Runs.{posted_in_all, posted_by, between, at_end_of};
@@ -130,7 +129,9 @@ pub fn books_tie_to_an_audit()
 
 /// On an accrual basis: each adjusting transaction comes to 0, and what accrual adds to an account, over any offices and
 /// products, is exactly what it added there and all that was adjusted since, by requests and by the days that passed. A
-/// new institution has nothing adjusted. That spans which meet come to the whole is said of any transactions.
+/// new institution has nothing adjusted. Later requests leave each adjusting transaction as it was, and those that they
+/// add are dated no earlier than the business day on which they come. That spans which meet come to the whole is said of
+/// any transactions.
 pub fn adjustments_come_to_the_accruals()
     ensures nothing { (i : Institution) (lines : List Line) (n : ℕ) →
         AllByRecursion (λ (t : Transaction). posted_in_all t ≡ pos 0) (adjustments n lines i) }
@@ -140,6 +141,11 @@ pub fn adjustments_come_to_the_accruals()
         ≡ accrued title meant i.catalogue.day i +ℤ posted title meant (adjustments n lines i) }
     ensures founding { (day : ℕ) (title : Title) (meant : Selection) →
         accrued title meant day (newly_made day) ≡ pos 0 }
+    ensures kept { (i : Institution) (lines more : List Line) (n : ℕ) →
+        adjustments n (lines ++ more) i
+        ≡ adjustments n lines i ++ adjustments (n + length (writes_of lines i)) more (last lines i) }
+    ensures dated { (i : Institution) (lines : List Line) (n : ℕ) → IsTree i.offices →
+        AllByRecursion (λ (t : Transaction). i.catalogue.day ≤ t.day) (adjustments n lines i) }
 {}
 
 /// What is receivable of a portion is what is outstanding of it in the instalments that fell due: at most what is
@@ -149,21 +155,21 @@ pub fn accruals_tie_to_the_loans()
     ensures at_most { (day p : ℕ) (rows : List Instalment) → due_open day rows p ≤ open_in p rows }
     ensures all_due { (day p : ℕ) (rows : List Instalment) → AllByRecursion (λ (row : Instalment). row.due ≤ day) rows →
         due_open day rows p ≡ open_in p rows }
-    ensures receivable { (day : ℕ) (k : Catalogue) (office : Office) →
-        office_accrued InterestReceivable everything day k office
-        ≡ pos (sum_by (λ (l : Ledger). slice_index (accrued_in day k l).due 2) office.rows.loans) }
-    ensures waived { (day : ℕ) (k : Catalogue) (office : Office) →
-        office_accrued InterestWaived everything day k office
-        ≡ pos (sum_by (λ (l : Ledger). slice_index (balances_in k l).waived 2) office.rows.loans) }
-    ensures written_off { (day : ℕ) (k : Catalogue) (office : Office) →
-        office_accrued InterestWrittenOff everything day k office
-        ≡ pos (sum_by (λ (l : Ledger). slice_index (balances_in k l).written_off 2) office.rows.loans) }
-    ensures paid { (day : ℕ) (k : Catalogue) (office : Office) →
-        ((office_balance Interest everything k office +ℤ office_accrued Interest everything day k office)
-        +ℤ office_accrued InterestReceivable everything day k office)
-        +ℤ (office_accrued InterestWaived everything day k office
-        +ℤ office_accrued InterestWrittenOff everything day k office)
-        ≡ neg_ℤ (pos (sum_by (λ (l : Ledger). slice_index (balances_in k l).paid 2) office.rows.loans)) }
+    ensures receivable { (day p : ℕ) (k : Catalogue) (office : Office) → p < 3 →
+        office_accrued (receivable_of p) everything day k office
+        ≡ pos (sum_by (λ (l : Ledger). slice_index (accrued_in day k l).due p) office.rows.loans) }
+    ensures waived { (day p : ℕ) (k : Catalogue) (office : Office) → p < 3 →
+        office_accrued (waived_of p) everything day k office
+        ≡ pos (sum_by (λ (l : Ledger). slice_index (balances_in k l).waived p) office.rows.loans) }
+    ensures written_off { (day p : ℕ) (k : Catalogue) (office : Office) → p < 3 →
+        office_accrued (written_off_of p) everything day k office
+        ≡ pos (sum_by (λ (l : Ledger). slice_index (balances_in k l).written_off p) office.rows.loans) }
+    ensures paid { (day p : ℕ) (k : Catalogue) (office : Office) → p < 3 →
+        ((office_balance (income_of p) everything k office +ℤ office_accrued (income_of p) everything day k office)
+        +ℤ office_accrued (receivable_of p) everything day k office)
+        +ℤ (office_accrued (waived_of p) everything day k office
+        +ℤ office_accrued (written_off_of p) everything day k office)
+        ≡ neg_ℤ (pos (sum_by (λ (l : Ledger). slice_index (balances_in k l).paid p) office.rows.loans)) }
 {}
 
 /// A reader of comma-separated values by RFC 4180 reads from a sheet of any transactions, by whatever names, each row as
