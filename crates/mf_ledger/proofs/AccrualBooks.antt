@@ -1,5 +1,6 @@
 -- Books on an accrual basis along a run.
-use Rattle.std.proofs.Common.{◌≡◌, ◌≤◌, ◌+◌, ◌-◌, ℕ, zero, suc, Bool, true, false, cond, List, [], ◌∷◌, ◌++◌, Option, Some, None}
+use Rattle.std.proofs.Common.{◌≡◌, ◌≤◌, ◌+◌, ◌-◌, ℕ, zero, suc, Bool, true, false, cond, List, [], ◌∷◌, ◌++◌, Option}
+use Rattle.std.proofs.Common.{Some, None}
 use Rattle.std.proofs.Common.{Result, Ok, Err, length, refl, sym, ap, ◌∙◌, subst, arith, append_assoc}
 use Rattle.std.specs.Prelude.{is_some, ℤ, pos, ◌+ℤ◌, ◌-ℤ◌}
 use Rattle.std.specs.List.{AllByRecursion, flat_map, range_with_len}
@@ -194,8 +195,8 @@ module _ (title : Title) (meant : Selection) (day : ℕ) where
       let own = same (loan_accrued title meant day i.catalogue f.number) (new_is_nothing i.catalogue f.number) in
       ap (λ (c : Change). accrued title meant day (after_noted noted c i)) (sym is)
       ∙ office_sums (accrued title meant day (after_noted noted (Rows_become x new) i)) (accrued title meant day i)
-      (office_accrued title meant day i.catalogue f) (office_accrued title meant day i.catalogue (record f { rows = new }))
-      offices own
+      (office_accrued title meant day i.catalogue f)
+      (office_accrued title meant day i.catalogue (record f { rows = new })) offices own
 
   office_adds : (i : Institution) (change : Change) (x : ℕ) (asked : OfficeRequest) (noted : Noted)
       (o : Option Office) → IsTree i.offices → office_at x i.offices ≡ o
@@ -312,7 +313,8 @@ module _ (title : Title) (meant : Selection) where
   due_day : (n : ℕ) (i : Institution) (day : ℕ) → posted title meant (due_on n i day)
       ≡ accrued title meant day i -ℤ accrued title meant (day - 1) i
   due_day n i day =
-      sum-flat (posted_in title meant) (λ (f : Office). due_of_loans n day i.catalogue f.number 1 f.rows.loans) i.offices
+      sum-flat (posted_in title meant) (λ (f : Office). due_of_loans n day i.catalogue f.number 1 f.rows.loans)
+      i.offices
       ∙ each-same
       (λ (f : Office). posted title meant (due_of_loans n day i.catalogue f.number 1 f.rows.loans))
       (λ f. office_accrued title meant day i.catalogue f -ℤ office_accrued title meant (day - 1) i.catalogue f)
@@ -384,8 +386,9 @@ module _ (title : Title) (meant : Selection) where
           (adjustments_of (n + 1) l.call.request i (next l i) ++ adjustments (n + 1) ls (next l i))
           (adjustments n ls (next l i)))) e in
           let leaves = line_leaves l i e in
-          rest n ∙ sums (accrued title meant (next l i).catalogue.day (next l i)) (accrued title meant i.catalogue.day i)
-          (posted title meant (adjustments n ls (next l i))) (posted title meant (adjustments n (l ∷ ls) i)) leaves which
+          rest n ∙ sums (accrued title meant (next l i).catalogue.day (next l i))
+          (accrued title meant i.catalogue.day i) (posted title meant (adjustments n ls (next l i)))
+          (posted title meant (adjustments n (l ∷ ls) i)) leaves which
         where
           sums : (x y p q : ℤ) → x ≡ y → q ≡ p → x +ℤ p ≡ y +ℤ q
           sums x y p q a b = omega (arith, ints, a, b)

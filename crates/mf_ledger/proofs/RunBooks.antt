@@ -176,7 +176,8 @@ longer (l ∷ ls) ks n i = go (is_some (change_of_line l i)) (λ m. longer ls ks
 abbrev pub IsFrom : ℕ → Transaction → Type 0
 IsFrom day t = day ≤ t.day
 
-pub later_from : (a b : ℕ) → a ≤ b → (ts : List Transaction) → AllByRecursion (IsFrom b) ts → AllByRecursion (IsFrom a) ts
+pub later_from : (a b : ℕ) → a ≤ b → (ts : List Transaction) → AllByRecursion (IsFrom b) ts
+    → AllByRecursion (IsFrom a) ts
 later_from a b h [] all = tt
 later_from a b h (t ∷ ts) all = let first = all.0 in (omega (arith, h, first), later_from a b h ts all.1)
 

@@ -1,7 +1,8 @@
--- Books on an accrual basis: what they add to those on a cash basis. Interest, fees and penalties are income on the day on
--- which they fall due, or are paid, waived or written off before; what fell due and is outstanding is receivable, and what
--- is waived or written off is an expense.
-use Rattle.std.specs.Prelude.{ℕ, zero, suc, ◌+◌, ◌-◌, nat_le, cond, ℤ, pos, ◌+ℤ◌, ◌-ℤ◌, neg_ℤ, List, [], ◌∷◌, ◌++◌, map, filter}
+-- Books on an accrual basis: what they add to those on a cash basis. Interest, fees and penalties are income on the day
+-- on which they fall due, or are paid, waived or written off before; what fell due and is outstanding is receivable,
+-- and what is waived or written off is an expense.
+use Rattle.std.specs.Prelude.{ℕ, zero, suc, ◌+◌, ◌-◌, nat_le, cond, ℤ, pos, ◌+ℤ◌, ◌-ℤ◌, neg_ℤ, List, [], ◌∷◌, ◌++◌, map}
+use Rattle.std.specs.Prelude.{filter}
 use Rattle.std.specs.Prelude.{slice_index, is_some, Option, Some, None}
 use Rattle.std.specs.List.{flat_map, range_with_len}
 use Rattle.mf_alloc.specs.Sums.{Instalment}
@@ -163,8 +164,8 @@ due_on n i day =
 abbrev pub due_between : ℕ → ℕ → ℕ → Institution → List Transaction
 due_between n first last i = flat_map (due_on n i) (range_with_len (first + 1) (last - first))
 
--- the adjusting transactions of the line of the journal of this number: that of its loan, and what falls due on the days
--- by which it moves the business day
+-- the adjusting transactions of the line of the journal of this number: that of its loan, and what falls due on the
+-- days by which it moves the business day
 abbrev pub adjustments_of : ℕ → Request → Institution → Institution → List Transaction
 adjustments_of n r i j = adjusting_of n r i j ++ due_between n i.catalogue.day j.catalogue.day j
 

@@ -1,6 +1,7 @@
--- The postings of transactions as a sheet of comma-separated values, which spreadsheets, Odoo and ERPNext read: RFC 4180,
--- https://www.rfc-editor.org/rfc/rfc4180
-use Rattle.std.specs.Prelude.{ℕ, ◌+◌, ◌*◌, ◌^◌, ◌<◌, ℤ, pos, negsuc, List, [], ◌∷◌, map, filter, codes, decimal, Option, Some, None}
+-- The postings of transactions as a sheet of comma-separated values, which spreadsheets, Odoo and ERPNext read:
+-- RFC 4180, https://www.rfc-editor.org/rfc/rfc4180
+use Rattle.std.specs.Prelude.{ℕ, ◌+◌, ◌*◌, ◌^◌, ◌<◌, ℤ, pos, negsuc, List, [], ◌∷◌, map, filter, codes, decimal, Option}
+use Rattle.std.specs.Prelude.{Some, None}
 use Rattle.std.specs.List.{flat_map}
 use Rattle.csv.specs.Writing.{default_writer, row_text, with_terminator}
 use Rattle.csv.specs.declared.parser.Terminator.TheVariants as terminator

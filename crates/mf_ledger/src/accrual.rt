@@ -89,8 +89,8 @@ impl Title {
     ghost use Rattle.std.specs.Prelude.{◌≡◌, ◌≤ℤ◌, ◌^◌, ◌*◌, pos, neg_ℤ};
     ghost use Rattle.mf_ledger.specs.Accrual.{accrued_on};
 
-    /// What accrual adds on the account for a loan with these sums, in cents; a debit is positive. It is at most 3 times
-    /// 2^64, and no sum overflows.
+    /// What accrual adds on the account for a loan with these sums, in cents; a debit is positive. It is at most 3
+    /// times 2^64, and no sum overflows.
     pub fn accrued(self, sums: &AccruedSums) -> i128
         ensures value { result ≡ accrued_on self sums.now }
         ensures least { neg_ℤ (pos (3 * 2 ^ 64)) ≤ℤ result }
@@ -134,8 +134,8 @@ fn adjusting_posting(
     }
 }
 
-/// The adjusting postings of a loan between two states of it, or between two days: what books on an accrual basis add to
-/// those on a cash basis. They are exact for any sums: no sum overflows.
+/// The adjusting postings of a loan between two states of it, or between two days: what books on an accrual basis add
+/// to those on a cash basis. They are exact for any sums: no sum overflows.
 pub fn adjusting_postings(
     office: OfficeNo,
     product: u32,

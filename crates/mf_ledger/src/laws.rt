@@ -1,9 +1,8 @@
 //! What holds of the books, whatever is asked. Each function does nothing: its contract is the law that the sentence
 //! above it tells.
 
-ghost use Rattle.std.specs.Prelude.{◌≡◌, ◌≤◌, ◌<◌, ◌+◌, ◌++◌, ◌∷◌, ℕ, pos, ◌+ℤ◌, ◌-ℤ◌, neg_ℤ, List, [], codes, length, map, sum};
-ghost use Rattle.std.specs.Prelude.{filter, sum_by};
-ghost use Rattle.std.specs.Prelude.{slice_index};
+ghost use Rattle.std.specs.Prelude.{◌≡◌, ◌≤◌, ◌<◌, ◌+◌, ◌++◌, ◌∷◌, ℕ, pos, ◌+ℤ◌, ◌-ℤ◌, neg_ℤ, List, [], codes};
+ghost use Rattle.std.specs.Prelude.{length, map, filter, sum, sum_by, slice_index};
 ghost use Rattle.std.specs.List.{AllByRecursion, flat_map};
 ghost use Rattle.csv.specs.Reading.{default_config, records};
 ghost use Rattle.mf_alloc.specs.Sums.{Instalment};
@@ -68,9 +67,9 @@ pub fn postings_up_to_a_day_come_to_its_balances()
         ≡ balance title meant i +ℤ posted title meant (between 0 day (transactions n lines i)) }
 {}
 
-/// The opening postings of a sound institution have what stands on each account, and come to 0. With the postings of all
-/// business days up to one they come to what the institution had on each account at the end of that day. So books that
-/// begin with an opening go on as if they had been there from the founding on.
+/// The opening postings of a sound institution have what stands on each account, and come to 0. With the postings of
+/// all business days up to one they come to what the institution had on each account at the end of that day. So books
+/// that begin with an opening go on as if they had been there from the founding on.
 pub fn books_begin_with_an_opening()
     ensures opening { (i : Institution) (title : Title) (meant : Selection) → IsSound i →
         signed_sum (posted_by title meant) (opening_postings i) ≡ balance title meant i }
@@ -127,11 +126,11 @@ pub fn books_tie_to_an_audit()
         +ℤ pos (sum_by (λ (l : Ledger). (balances_in k l).refunded) office.rows.loans)) }
 {}
 
-/// On an accrual basis: each adjusting transaction comes to 0, and what accrual adds to an account, over any offices and
-/// products, is exactly what it added there and all that was adjusted since, by requests and by the days that passed. A
-/// new institution has nothing adjusted. Later requests leave each adjusting transaction as it was, and those that they
-/// add are dated no earlier than the business day on which they come. That spans which meet come to the whole is said of
-/// any transactions.
+/// On an accrual basis: each adjusting transaction comes to 0, and what accrual adds to an account, over any offices
+/// and products, is exactly what it added there and all that was adjusted since, by requests and by the days that
+/// passed. A new institution has nothing adjusted. Later requests leave each adjusting transaction as it was, and those
+/// that they add are dated no earlier than the business day on which they come. That spans which meet come to the whole
+/// is said of any transactions.
 pub fn adjustments_come_to_the_accruals()
     ensures nothing { (i : Institution) (lines : List Line) (n : ℕ) →
         AllByRecursion (λ (t : Transaction). posted_in_all t ≡ pos 0) (adjustments n lines i) }
@@ -149,8 +148,8 @@ pub fn adjustments_come_to_the_accruals()
 {}
 
 /// What is receivable of a portion is what is outstanding of it in the instalments that fell due: at most what is
-/// outstanding, and all of that once each instalment fell due. By office, what accrual adds is the sum of what its loans
-/// have outstanding of what fell due, waived and written off, and with what was paid it is the income.
+/// outstanding, and all of that once each instalment fell due. By office, what accrual adds is the sum of what its
+/// loans have outstanding of what fell due, waived and written off, and with what was paid it is the income.
 pub fn accruals_tie_to_the_loans()
     ensures at_most { (day p : ℕ) (rows : List Instalment) → due_open day rows p ≤ open_in p rows }
     ensures all_due { (day p : ℕ) (rows : List Instalment) → AllByRecursion (λ (row : Instalment). row.due ≤ day) rows →
@@ -172,8 +171,8 @@ pub fn accruals_tie_to_the_loans()
         ≡ neg_ℤ (pos (sum_by (λ (l : Ledger). slice_index (balances_in k l).paid p) office.rows.loans)) }
 {}
 
-/// A reader of comma-separated values by RFC 4180 reads from a sheet of any transactions, by whatever names, each row as
-/// it was written.
+/// A reader of comma-separated values by RFC 4180 reads from a sheet of any transactions, by whatever names, each row
+/// as it was written.
 pub fn sheets_are_read_back()
     ensures { (names : List GivenName) (transactions : List Transaction) →
         records default_config (sheet_text (columns ∷ flat_map (transaction_rows names) transactions))

@@ -114,9 +114,9 @@ fn sheet_of(
     Ok(text)
 }
 
-/// The lines of a transaction in a sheet of comma-separated values: for each amount that isn't 0 the date, the number of
-/// the line of the journal, the loan, the account by the names that are given, and what is debited or credited. Its only
-/// error is F20, out of memory.
+/// The lines of a transaction in a sheet of comma-separated values: for each amount that isn't 0 the date, the number
+/// of the line of the journal, the loan, the account by the names that are given, and what is debited or credited. Its
+/// only error is F20, out of memory.
 pub fn transaction_sheet(
     alloc: Global,
     names: &Names,

@@ -186,9 +186,9 @@ fn booked_text(
     Ok(text)
 }
 
-/// A transaction as the journal of a program has it: its date, the number of the line of the journal and the loan, then
-/// a line for each amount that isn't 0, and an empty line. Nothing where no amount is moved. Accounts are written by the
-/// names that are given. Its only error is F20, out of memory.
+/// A transaction as the journal of a program has it: its date, the number of the line of the journal and the loan,
+/// then a line for each amount that isn't 0, and an empty line. Nothing where no amount is moved. Accounts are written
+/// by the names that are given. Its only error is F20, out of memory.
 pub fn transaction_text(
     alloc: Global,
     program: Program,

@@ -13,7 +13,13 @@ unfolding day_of
 january_number = refl
 
 january_date : IsDate (record { year = 2024; month = 1; day = 31 })
-january_date = record { year = omega arith; first_month = omega arith; last_month = omega arith; first_day = omega arith; last_day = omega arith }
+january_date = record {
+  year = omega arith;
+  first_month = omega arith;
+  last_month = omega arith;
+  first_day = omega arith;
+  last_day = omega arith;
+}
 
 january_text : day_text january ≡ codes "2024-01-31"
 january_text = ap day_text (sym january_number) ∙ day_text-is (record { year = 2024; month = 1; day = 31 }) january_date
@@ -23,7 +29,13 @@ unfolding day_of
 march_number = refl
 
 march_date : IsDate (record { year = 2024; month = 3; day = 31 })
-march_date = record { year = omega arith; first_month = omega arith; last_month = omega arith; first_day = omega arith; last_day = omega arith }
+march_date = record {
+  year = omega arith;
+  first_month = omega arith;
+  last_month = omega arith;
+  first_day = omega arith;
+  last_day = omega arith;
+}
 
 march_text : day_text march ≡ codes "2024-03-31"
 march_text = ap day_text (sym march_number) ∙ day_text-is (record { year = 2024; month = 3; day = 31 }) march_date

@@ -19,22 +19,26 @@ pub due_outstanding-requires : goal.due_outstanding-requires
 due_outstanding-requires c =
     let small : slice_index c.balances-balances.result.outstanding 0 < 2 ^ 64 = search rules in
     fits c.args.day 0 (slice_index c.balances-balances.result.outstanding 0) c.rows-rows.result.now _
-    c.rows-rows.ensures.rows (ap (λ (b : Balances). slice_index b.outstanding 0) c.balances-balances.ensures.value) small
+    c.rows-rows.ensures.rows (ap (λ (b : Balances). slice_index b.outstanding 0) c.balances-balances.ensures.value)
+    small
 
 pub due_outstanding-requires-in-Some : goal.due_outstanding-requires-in-Some
 due_outstanding-requires-in-Some c =
     let small : slice_index c.balances-balances.result.outstanding 1 < 2 ^ 64 = search rules in
     fits c.args.day 1 (slice_index c.balances-balances.result.outstanding 1) c.rows-rows.result.now _
-    c.rows-rows.ensures.rows (ap (λ (b : Balances). slice_index b.outstanding 1) c.balances-balances.ensures.value) small
+    c.rows-rows.ensures.rows (ap (λ (b : Balances). slice_index b.outstanding 1) c.balances-balances.ensures.value)
+    small
 
 pub due_outstanding-requires-in-Some-2 : goal.due_outstanding-requires-in-Some-2
 due_outstanding-requires-in-Some-2 c =
     let small : slice_index c.balances-balances.result.outstanding 2 < 2 ^ 64 = search rules in
     fits c.args.day 2 (slice_index c.balances-balances.result.outstanding 2) c.rows-rows.result.now _
-    c.rows-rows.ensures.rows (ap (λ (b : Balances). slice_index b.outstanding 2) c.balances-balances.ensures.value) small
+    c.rows-rows.ensures.rows (ap (λ (b : Balances). slice_index b.outstanding 2) c.balances-balances.ensures.value)
+    small
 
 pub due_outstanding-requires-in-Some-3 : goal.due_outstanding-requires-in-Some-3
 due_outstanding-requires-in-Some-3 c =
     let small : slice_index c.balances-balances.result.outstanding 3 < 2 ^ 64 = search rules in
     fits c.args.day 3 (slice_index c.balances-balances.result.outstanding 3) c.rows-rows.result.now _
-    c.rows-rows.ensures.rows (ap (λ (b : Balances). slice_index b.outstanding 3) c.balances-balances.ensures.value) small
+    c.rows-rows.ensures.rows (ap (λ (b : Balances). slice_index b.outstanding 3) c.balances-balances.ensures.value)
+    small

@@ -24,7 +24,8 @@ loop-line-preserved c =
 
 pub returns-clause-names : goal.returns-clause-names
 returns-clause-names c =
-    let rest = ap (λ l. l.rest.now) c.into_iter-line-iterator.ensures.into_iter_gives ∙ c.lines-line-items.ensures.rest in
+    let rest = ap (λ l. l.rest.now) c.into_iter-line-iterator.ensures.into_iter_gives
+    ∙ c.lines-line-items.ensures.rest in
     let all = YieldsList-end (YieldsList-from_lines c.args.text.now rest) c.loop-line.yielded _ c.loop-line.yielded_by
     _ _ c.in-None.is c.next.ensures.steps in
     c.loop-line.invariant ∙ ap (filter_map name_in) all.0
