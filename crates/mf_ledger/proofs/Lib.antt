@@ -2,5 +2,9 @@ pub mod SignedSums
 pub mod LoanBooks
 pub mod StepBooks
 pub mod RunBooks
+pub mod OpeningLemmas
+pub mod AccrualBooks
 pub mod TieLemmas
+pub mod RowLemmas
+pub mod SheetLemmas
 pub mod TextLemmas

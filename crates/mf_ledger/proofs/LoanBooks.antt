@@ -1,5 +1,6 @@
 -- The books of one loan: what it has on all accounts comes to nothing, and the catalogue's growing moves nothing of it.
-use Rattle.std.proofs.Common.{◌≡◌, ◌+◌, ◌<◌, ◌^◌, ℕ, Bool, List, [], Option, Some, None, refl, sym, ap, ◌∙◌}
+use Rattle.std.proofs.Common.{◌≡◌, ◌+◌, ◌<◌, ◌^◌, ℕ, Bool, true, false, List, [], Option, Some, None, refl, sym, ap}
+use Rattle.std.proofs.Common.{◌∙◌}
 use Rattle.std.proofs.Common.{subst, arith, sum}
 use Rattle.std.specs.Prelude.{ℤ, pos, ◌+ℤ◌, ◌-ℤ◌, neg_ℤ, slice_index}
 use Rattle.std.proofs.lemmas.Int.{ints}
@@ -21,6 +22,9 @@ use Rattle.mf_ledger.specs.declared.books.LoanSums.{LoanSums}
 use Rattle.mf_ledger.specs.declared.books.Title.{Title}
 use Rattle.mf_ledger.specs.declared.books.Title.TheVariants.{Cash, Principal, Interest, Fees, Penalties}
 use Rattle.mf_ledger.specs.declared.books.Title.TheVariants.{DisbursementFees, Overpaid, WrittenOff}
+use Rattle.mf_ledger.specs.declared.books.Title.TheVariants.{InterestReceivable, FeesReceivable, PenaltiesReceivable}
+use Rattle.mf_ledger.specs.declared.books.Title.TheVariants.{InterestWaived, FeesWaived, PenaltiesWaived}
+use Rattle.mf_ledger.specs.declared.books.Title.TheVariants.{InterestWrittenOff, FeesWrittenOff, PenaltiesWrittenOff}
 use Rattle.mf_ledger.specs.Books.{signed_sum, titles, amount_on, lent_on, sums_in, postings_between}
 use Rattle.mf_ledger.specs.Runs.{Selection, where_meant, posted_by}
 
@@ -101,6 +105,11 @@ same_sums k m l same = ap (λ (o : Option DisbursedLoan). sums_from o (sum_repai
 
 -- ---- the postings of a change on the accounts of a title
 
+-- nothing is meant where nothing is moved
+unposted : (b : Bool) → pos 0 ≡ where_meant b (pos 0 -ℤ pos 0)
+unposted true = refl
+unposted false = refl
+
 pub posted_at : (title : Title) (meant : Selection) (office product : ℕ) (s t : LoanSums)
     → signed_sum (posted_by title meant) (postings_between office product s t)
     ≡ where_meant (meant office product) (amount_on title t -ℤ amount_on title s)
@@ -112,6 +121,15 @@ posted_at Penalties meant office product s t = omega (arith, ints)
 posted_at DisbursementFees meant office product s t = omega (arith, ints)
 posted_at Overpaid meant office product s t = omega (arith, ints)
 posted_at WrittenOff meant office product s t = omega (arith, ints)
+posted_at InterestReceivable meant office product s t = unposted (meant office product)
+posted_at FeesReceivable meant office product s t = unposted (meant office product)
+posted_at PenaltiesReceivable meant office product s t = unposted (meant office product)
+posted_at InterestWaived meant office product s t = unposted (meant office product)
+posted_at FeesWaived meant office product s t = unposted (meant office product)
+posted_at PenaltiesWaived meant office product s t = unposted (meant office product)
+posted_at InterestWrittenOff meant office product s t = unposted (meant office product)
+posted_at FeesWrittenOff meant office product s t = unposted (meant office product)
+posted_at PenaltiesWrittenOff meant office product s t = unposted (meant office product)
 
 pub nothing_yet : (title : Title) → amount_on title (record { lent = 0; repaid = 0; balances = no_balances }) ≡ pos 0
 nothing_yet Cash = refl
@@ -122,6 +140,15 @@ nothing_yet Penalties = refl
 nothing_yet DisbursementFees = refl
 nothing_yet Overpaid = refl
 nothing_yet WrittenOff = refl
+nothing_yet InterestReceivable = refl
+nothing_yet FeesReceivable = refl
+nothing_yet PenaltiesReceivable = refl
+nothing_yet InterestWaived = refl
+nothing_yet FeesWaived = refl
+nothing_yet PenaltiesWaived = refl
+nothing_yet InterestWrittenOff = refl
+nothing_yet FeesWrittenOff = refl
+nothing_yet PenaltiesWrittenOff = refl
 
 -- ---- what the books read of a loan
 

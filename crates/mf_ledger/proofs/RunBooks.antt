@@ -33,11 +33,11 @@ use Rattle.mf_ledger.proofs.StepBooks.{Moves, call_moves}
 
 -- ---- one line
 
-kept : (g : Bool) (c : Option Change) (change : Change) → cond g None c ≡ Some change → c ≡ Some change
+pub kept : (g : Bool) (c : Option Change) (change : Change) → cond g None c ≡ Some change → c ≡ Some change
 kept true c change h = absurd (cc)
 kept false c change h = h
 
-abbrev posted_in : Title → Selection → Transaction → ℤ
+abbrev pub posted_in : Title → Selection → Transaction → ℤ
 posted_in title meant t = signed_sum (posted_by title meant) t.postings
 
 module _ (title : Title) (meant : Selection) where
@@ -176,11 +176,12 @@ longer (l ∷ ls) ks n i = go (is_some (change_of_line l i)) (λ m. longer ls ks
 abbrev pub IsFrom : ℕ → Transaction → Type 0
 IsFrom day t = day ≤ t.day
 
-later_from : (a b : ℕ) → a ≤ b → (ts : List Transaction) → AllByRecursion (IsFrom b) ts → AllByRecursion (IsFrom a) ts
+pub later_from : (a b : ℕ) → a ≤ b → (ts : List Transaction) → AllByRecursion (IsFrom b) ts
+    → AllByRecursion (IsFrom a) ts
 later_from a b h [] all = tt
 later_from a b h (t ∷ ts) all = let first = all.0 in (omega (arith, h, first), later_from a b h ts all.1)
 
-day_grows : (l : Line) (i : Institution) → IsTree i.offices → i.catalogue.day ≤ (next l i).catalogue.day
+pub day_grows : (l : Line) (i : Institution) → IsTree i.offices → i.catalogue.day ≤ (next l i).catalogue.day
 day_grows l i t = (run_keeps (l ∷ []) i t).catalogue.day
 
 request_from : (n : ℕ) (r : Request) (i j : Institution)
@@ -348,7 +349,7 @@ module _ (title : Title) (meant : Selection) where
 
 -- ---- all accounts together
 
-sum-zero : {X : Type 0} (read : X → ℤ) → ((x : X) → read x ≡ pos 0) → (xs : List X) → signed_sum read xs ≡ pos 0
+pub sum-zero : {X : Type 0} (read : X → ℤ) → ((x : X) → read x ≡ pos 0) → (xs : List X) → signed_sum read xs ≡ pos 0
 sum-zero read each [] = refl
 sum-zero read each (x ∷ xs) =
     let here = each x in

@@ -60,7 +60,7 @@ use Rattle.mf_ledger.proofs.LoanBooks.{same_account, same_sums, posted_at, nothi
 
 -- ---- what becomes of a loan leaves its product
 
-abbrev KeepsProduct : Result (LoanReply × Option LedgerChange) Fault → Type 0
+abbrev pub KeepsProduct : Result (LoanReply × Option LedgerChange) Fault → Type 0
 KeepsProduct (Err fault) = Unit {0}
 KeepsProduct (Ok (told, None)) = Unit {0}
 KeepsProduct (Ok (told, Some change)) = (l : Ledger) → (change l).loan.product ≡ l.loan.product
@@ -99,7 +99,7 @@ reversing : (seq : ℕ) (account : Option DisbursedLoan) → KeepsProduct (rever
 reversing seq None = tt
 reversing seq (Some a) = unless (reversal_refused a.entries seq) _ (with_reversal seq) (λ l. refl)
 
-product_kept : (asked : LoanRequest) (c : Caller) (k : Catalogue) (rows : Rows) (n : ℕ) (l : Ledger)
+pub product_kept : (asked : LoanRequest) (c : Caller) (k : Catalogue) (rows : Rows) (n : ℕ) (l : Ledger)
     → KeepsProduct (on_loan asked c k rows n l)
 product_kept Show c k rows n l = tt
 product_kept ShowInstalments c k rows n l = tt
@@ -110,7 +110,7 @@ product_kept (ChargeFee charge due) c k rows n l = charging due c k l (charge_in
 product_kept (Post asked) c k rows n l = entering none_first (posting asked c) k (account_in k l)
 product_kept (Reverse seq) c k rows n l = reversing seq (account_in k l)
 
-told_keeps : (r : Result (LoanReply × Option LedgerChange) Fault) (becomes : LedgerChange) (l : Ledger)
+pub told_keeps : (r : Result (LoanReply × Option LedgerChange) Fault) (becomes : LedgerChange) (l : Ledger)
     → KeepsProduct r → change_told r ≡ Some becomes → (becomes l).loan.product ≡ l.loan.product
 told_keeps (Err fault) becomes l keeps h = absurd (cc)
 told_keeps (Ok (told, None)) becomes l keeps h = absurd (cc)
@@ -120,10 +120,10 @@ told_keeps (Ok (told, Some change)) becomes l keeps h =
 
 -- ---- requests on offices add at most a loan, which has nothing on any account
 
-abbrev IsNothing : (Ledger → ℤ) → Type 0
+abbrev pub IsNothing : (Ledger → ℤ) → Type 0
 IsNothing read = (asked : Application) → read (record { loan = new_loan asked; entries = [] }) ≡ pos 0
 
-abbrev AddsNothing : Rows → Result (Reply × Option Rows) Fault → Type 0
+abbrev pub AddsNothing : Rows → Result (Reply × Option Rows) Fault → Type 0
 AddsNothing rows (Err fault) = Unit {0}
 AddsNothing rows (Ok (told, None)) = Unit {0}
 AddsNothing rows (Ok (told, Some new)) =
@@ -162,7 +162,7 @@ submitted : (office : ℕ) (asked : Application) (k : Catalogue) (rows : Rows) (
 submitted office asked k rows None = tt
 submitted office asked k rows (Some name) = lent office asked rows (product_in k asked.product)
 
-adds_nothing : (asked : OfficeRequest) (office : ℕ) (k : Catalogue) (rows : Rows)
+pub adds_nothing : (asked : OfficeRequest) (office : ℕ) (k : Catalogue) (rows : Rows)
     → AddsNothing rows (on_office asked office k rows)
 adds_nothing (AddStaff name role) office k rows =
     counted rows (next_of (length rows.staff) 9999) _ (staff_added name role rows) (λ read none. refl)
@@ -175,7 +175,7 @@ adds_nothing (ListLoans above) office k rows = tt
 
 -- ---- the balances after a change
 
-found_number : (x : ℕ) (fs : List Office) (f : Office) → office_at x fs ≡ Some f → f.number ≡ x
+pub found_number : (x : ℕ) (fs : List Office) (f : Office) → office_at x fs ≡ Some f → f.number ≡ x
 found_number x [] f h = absurd (cc)
 found_number x (g ∷ fs) f h = go (g.number == x) refl (found_number x fs f) h
   where
@@ -187,25 +187,25 @@ found_number x (g ∷ fs) f h = go (g.number == x) refl (found_number x fs f) h
         ap (λ (o : Office). o.number) (sym same) ∙ number
     go false e rest h = rest h
 
-meant_sum : (b : Bool) (old new : ℤ) → where_meant b old +ℤ where_meant b (new -ℤ old) ≡ where_meant b new
+pub meant_sum : (b : Bool) (old new : ℤ) → where_meant b old +ℤ where_meant b (new -ℤ old) ≡ where_meant b new
 meant_sum true old new = omega (arith, ints)
 meant_sum false old new = omega (arith, ints)
 
-loan_sums : (after before old_office new_office old_loan new_loan old new posted moved : ℤ)
+pub loan_sums : (after before old_office new_office old_loan new_loan old new posted moved : ℤ)
     → after +ℤ old_office ≡ before +ℤ new_office → new_office +ℤ old_loan ≡ old_office +ℤ new_loan → old_loan ≡ old
     → new_loan ≡ new → posted ≡ moved → old +ℤ moved ≡ new → after ≡ before +ℤ (posted +ℤ pos 0)
 loan_sums after before old_office new_office old_loan new_loan old new posted moved a b c d e f =
     omega (arith, ints, a, b, c, d, e, f)
 
-office_sums : (after before old new : ℤ) → after +ℤ old ≡ before +ℤ new → new ≡ old → after ≡ before
+pub office_sums : (after before old new : ℤ) → after +ℤ old ≡ before +ℤ new → new ≡ old → after ≡ before
 office_sums after before old new a b = omega (arith, ints, a, b)
 
 -- a request on a loan
-record LedgersAt (loan : Account) (l m : Ledger) (i j : Institution) : Type 0 where
-  before : ledger_at loan i ≡ Some l
-  now : ledger_at loan j ≡ Some m
+pub record LedgersAt (loan : Account) (l m : Ledger) (i j : Institution) : Type 0 where
+  pub before : ledger_at loan i ≡ Some l
+  pub now : ledger_at loan j ≡ Some m
 
-ledgers_at : (loan : Account) (i : Institution) (f : Office) (l : Ledger) (becomes : LedgerChange) (noted : Noted)
+pub ledgers_at : (loan : Account) (i : Institution) (f : Office) (l : Ledger) (becomes : LedgerChange) (noted : Noted)
     → office_at loan.office i.offices ≡ Some f → item_numbered f.rows.loans loan.number ≡ Some l
     → LedgersAt loan l (becomes l) i
     (after_noted noted (Rows_become loan.office (loan_changed loan.number becomes f.rows)) i)

@@ -10,12 +10,15 @@ use Rattle.mf_ledger.specs.declared.books.Posting.{Posting}
 use Rattle.mf_ledger.specs.declared.books.Title.{Title}
 use Rattle.mf_ledger.specs.declared.books.Title.TheVariants.{Cash, Principal, Interest, Fees, Penalties}
 use Rattle.mf_ledger.specs.declared.books.Title.TheVariants.{DisbursementFees, Overpaid, WrittenOff}
+use Rattle.mf_ledger.specs.declared.books.Title.TheVariants.{InterestReceivable, FeesReceivable, PenaltiesReceivable}
+use Rattle.mf_ledger.specs.declared.books.Title.TheVariants.{InterestWaived, FeesWaived, PenaltiesWaived}
+use Rattle.mf_ledger.specs.declared.books.Title.TheVariants.{InterestWrittenOff, FeesWrittenOff, PenaltiesWrittenOff}
 
--- the titles in their order
+-- the titles of the books on a cash basis, in their order
 abbrev pub titles : List Title
 titles = Cash ∷ Principal ∷ Interest ∷ Fees ∷ Penalties ∷ DisbursementFees ∷ Overpaid ∷ WrittenOff ∷ []
 
--- the number of a title in that order
+-- the number of a title; those that only books on an accrual basis have come last
 abbrev pub title_number : Title → ℕ
 title_number Cash = 0
 title_number Principal = 1
@@ -25,6 +28,15 @@ title_number Penalties = 4
 title_number DisbursementFees = 5
 title_number Overpaid = 6
 title_number WrittenOff = 7
+title_number InterestReceivable = 8
+title_number FeesReceivable = 9
+title_number PenaltiesReceivable = 10
+title_number InterestWaived = 11
+title_number FeesWaived = 12
+title_number PenaltiesWaived = 13
+title_number InterestWrittenOff = 14
+title_number FeesWrittenOff = 15
+title_number PenaltiesWrittenOff = 16
 
 -- they are one title
 abbrev pub is_title : Title → Title → Bool
@@ -50,7 +62,8 @@ abbrev pub cash : LoanSums → ℤ
 cash s = (pos s.repaid +ℤ pos s.balances.disbursement_fee) -ℤ (pos s.lent +ℤ pos s.balances.refunded)
 
 -- what a loan with these sums has on the account of a title, in cents; a debit is positive. Penalties, fees, interest
--- and principal are the portions 0 to 3
+-- and principal are the portions 0 to 3. On a
+-- cash basis there are no receivables and no waivers
 abbrev pub amount_on : Title → LoanSums → ℤ
 amount_on Cash s = cash s
 amount_on Principal s = pos (slice_index s.balances.outstanding 3)
@@ -60,6 +73,7 @@ amount_on Penalties s = neg_ℤ (pos (slice_index s.balances.paid 0))
 amount_on DisbursementFees s = neg_ℤ (pos s.balances.disbursement_fee)
 amount_on Overpaid s = neg_ℤ (pos s.balances.overpaid)
 amount_on WrittenOff s = pos (slice_index s.balances.written_off 3)
+amount_on _ s = pos 0
 
 -- what a change moves on the account of a title: what its loan has there afterwards, less what it had before
 abbrev pub posting_between : ℕ → ℕ → LoanSums → LoanSums → Title → Posting

@@ -20,6 +20,9 @@ use Rattle.mf_ledger.specs.declared.books.Posting.{Posting}
 use Rattle.mf_ledger.specs.declared.books.Title.{Title}
 use Rattle.mf_ledger.specs.declared.books.Title.TheVariants.{Cash, Principal, Interest, Fees, Penalties}
 use Rattle.mf_ledger.specs.declared.books.Title.TheVariants.{DisbursementFees, Overpaid, WrittenOff}
+use Rattle.mf_ledger.specs.declared.books.Title.TheVariants.{InterestReceivable, FeesReceivable, PenaltiesReceivable}
+use Rattle.mf_ledger.specs.declared.books.Title.TheVariants.{InterestWaived, FeesWaived, PenaltiesWaived}
+use Rattle.mf_ledger.specs.declared.books.Title.TheVariants.{InterestWrittenOff, FeesWrittenOff, PenaltiesWrittenOff}
 use Rattle.mf_ledger.specs.declared.books.Transaction.{Transaction}
 
 -- The loan is paid out, and the business day becomes 2024-03-31. Then the second instalment's interest is waived. A
@@ -103,3 +106,39 @@ refunded_row = worked 14 march (credit 8667) (pos 0) (pos 0) (pos 0) (debit 8667
 abbrev pub worked_transactions : List Transaction
 worked_transactions = approved_row ∷ paid_out_row ∷ waived_row ∷ repaid_row ∷ taken_back_row ∷ written_off_row
     ∷ reinstated_row ∷ overpaid_row ∷ refunded_row ∷ []
+
+-- Books that begin after these days open with 33.33 of cash: what was repaid and not refunded, less what was lent.
+-- Interest of 13.33 and the fee of 20.00 are its income.
+abbrev pub worked_opening : List Posting
+worked_opening = moved Cash (debit 3333) ∷ moved Principal (pos 0) ∷ moved Interest (credit 1333) ∷ moved Fees (pos 0)
+    ∷ moved Penalties (pos 0) ∷ moved DisbursementFees (credit 2000) ∷ moved Overpaid (pos 0)
+    ∷ moved WrittenOff (pos 0) ∷ []
+
+-- ---- on an accrual basis
+
+-- an adjusting transaction of the loan that moves interest alone
+abbrev pub adjusted : ℕ → ℕ → ℤ → ℤ → ℤ → ℤ → Transaction
+adjusted number day receivable waived written_off interest = record {
+  number = number;
+  day = day;
+  loan = account 1 1;
+  postings = moved InterestReceivable receivable ∷ moved InterestWaived waived ∷ moved InterestWrittenOff written_off
+      ∷ moved Interest interest ∷ moved FeesReceivable (pos 0) ∷ moved FeesWaived (pos 0)
+      ∷ moved FeesWrittenOff (pos 0) ∷ moved Fees (pos 0) ∷ moved PenaltiesReceivable (pos 0)
+      ∷ moved PenaltiesWaived (pos 0) ∷ moved PenaltiesWrittenOff (pos 0) ∷ moved Penalties (pos 0) ∷ [];
+}
+
+-- Interest of 10.00 and of 6.67 falls due while the business day moves to 2024-03-31. 6.67 is waived, which becomes an
+-- expense. The repayment pays both, so that nothing is receivable and nothing waived, until it is taken back. The
+-- write-off takes 3.33 with it that is not yet due. At last 13.33 is paid, 3.33 of it ahead of time.
+abbrev pub worked_adjustments : List Transaction
+worked_adjustments =
+    adjusted 7 february (debit 1000) (pos 0) (pos 0) (credit 1000)
+    ∷ adjusted 7 march (debit 667) (pos 0) (pos 0) (credit 667)
+    ∷ adjusted 8 march (credit 667) (debit 667) (pos 0) (pos 0)
+    ∷ adjusted 9 march (credit 1000) (credit 667) (pos 0) (debit 1667)
+    ∷ adjusted 10 march (debit 1000) (debit 667) (pos 0) (credit 1667)
+    ∷ adjusted 11 march (credit 1000) (pos 0) (debit 1333) (credit 333)
+    ∷ adjusted 12 march (debit 1000) (pos 0) (credit 1333) (debit 333)
+    ∷ adjusted 13 march (credit 1000) (pos 0) (pos 0) (debit 1000)
+    ∷ []

@@ -6,7 +6,7 @@ ghost use Rattle.mf_account.specs.Change.{account_by_replay};
 ghost use Rattle.mf_model.specs.Accounts.{account_in};
 ghost use Rattle.mf_model.specs.Institution.{Catalogue, Ledger};
 ghost use Rattle.mf_model.specs.Sound.{IsSoundCatalogue, IsSoundLoan};
-ghost use Rattle.mf_ledger.specs.Books.{amount_on, posting_between, postings_between, sums_in, some_moves};
+ghost use Rattle.mf_ledger.specs.Books.{amount_on, posting_between, postings_between, sums_in};
 
 use mf_account::{Balances, LoanAccount};
 use mf_base::Day;
@@ -32,6 +32,24 @@ pub enum Title {
     Overpaid,
     /// Principal that is written off: an expense.
     WrittenOff,
+    /// Interest that fell due and is outstanding: an asset of books on an accrual basis.
+    InterestReceivable,
+    /// Fees that fell due and are outstanding, on an accrual basis.
+    FeesReceivable,
+    /// Penalties that fell due and are outstanding, on an accrual basis.
+    PenaltiesReceivable,
+    /// Interest that was waived: an expense on an accrual basis.
+    InterestWaived,
+    /// Fees that were waived, on an accrual basis.
+    FeesWaived,
+    /// Penalties that were waived, on an accrual basis.
+    PenaltiesWaived,
+    /// Interest that is written off: an expense on an accrual basis.
+    InterestWrittenOff,
+    /// Fees that are written off, on an accrual basis.
+    FeesWrittenOff,
+    /// Penalties that are written off, on an accrual basis.
+    PenaltiesWrittenOff,
 }
 
 /// An account of the books.
@@ -135,6 +153,7 @@ impl Title {
             Title::DisbursementFees => -i128::from(balances.disbursement_fee),
             Title::Overpaid => -i128::from(balances.overpaid),
             Title::WrittenOff => i128::from(balances.written_off[3]),
+            _ => 0,
         }
     }
 }
@@ -174,13 +193,4 @@ pub fn postings(office: OfficeNo, product: u32, before: &LoanSums, after: &LoanS
         posting_on(office, product, Title::Overpaid, before, after),
         posting_on(office, product, Title::WrittenOff, before, after),
     ]
-}
-
-impl Transaction {
-    /// Whether any amount isn't 0.
-    pub fn moves(&self) -> bool
-        ensures { result ≡ some_moves self.now.postings }
-    {
-        self.postings.iter().any(|posting| posting.amount != 0)
-    }
 }

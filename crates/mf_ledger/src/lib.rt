@@ -2,9 +2,19 @@
 //! hledger. All is read off the accounts of loans; nothing is kept for the books alone.
 #![tactic(auto)]
 
+mod accrual;
 mod books;
 pub mod laws;
+mod names;
+mod occasion;
+mod opening;
+mod sheet;
 mod text;
 
+pub use accrual::{AccruedSums, adjusting_postings};
 pub use books::{BookAccount, LoanSums, Posting, Title, Transaction, postings};
-pub use text::transaction_text;
+pub use names::{GivenName, Names, Program};
+pub use occasion::Occasion;
+pub use opening::opening_postings;
+pub use sheet::{opening_sheet, sheet_columns, transaction_sheet};
+pub use text::{opening_text, preamble, transaction_text};

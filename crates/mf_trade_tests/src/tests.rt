@@ -1,4 +1,5 @@
 //! No clause says that a call succeeds, or which cents come out.
 
 mod accounts;
+mod books;
 mod worked;

@@ -14,3 +14,11 @@ returns-clause-transactions c = refl
 pub returns-clause-cash : goal.returns-clause-cash
 unfolding is_at_or_below is_within day_of date_of
 returns-clause-cash c = refl
+
+pub returns-clause-opening : goal.returns-clause-opening
+unfolding is_at_or_below is_within day_of date_of
+returns-clause-opening c = refl
+
+pub returns-clause-adjustments : goal.returns-clause-adjustments
+unfolding is_at_or_below is_within day_of date_of
+returns-clause-adjustments c = refl

@@ -4,5 +4,5 @@ use Rattle.mf_ledger.proofs.text.push_postings.Given as goal
 
 abbrev pub invariant-loop-posting : goal.invariant-loop-posting
 invariant-loop-posting l =
-    string_bytes l.text ++ postings_text (drop l.posting-index l.postings)
-    ≡ string_bytes l.initial.text ++ postings_text l.postings
+    string_bytes l.text ++ postings_text l.program l.names (drop l.posting-index l.postings)
+    ≡ string_bytes l.initial.text ++ postings_text l.program l.names l.postings
