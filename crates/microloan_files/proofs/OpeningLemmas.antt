@@ -36,5 +36,13 @@ still_held may image left i (v, h) kept found there database =
           holds = subst (λ (t : Trees). HoldsAt v t (tables_at v i)) (sym is) h.holds;
         },
       )
-      | inr now ↦ (Second, record { trees = found; database = database; sound = h.sound; holds = now })
+      | inr now ↦ (
+        Second,
+        record {
+          trees = found;
+          database = database;
+          sound = h.sound;
+          holds = record { sound = now.sound; all = now.all };
+        },
+      )
     ]
