@@ -1,6 +1,6 @@
-//! An institution that keeps no journal is given one.
+//! Journals that begin: of a new institution, and of one that keeps none.
 
-ghost use Rattle.std.specs.Prelude.{◌≡◌, ◌≤◌, ◌⊎◌, ℕ, List, [], ◌∷◌, None, Some, false, IsTrue, OnOk, OnErr, IfOk, IfErr};
+ghost use Rattle.std.specs.Prelude.{◌≡◌, ◌≤◌, ◌⊎◌, ℕ, [], ◌∷◌, None, Some, false, IsTrue, OnOk, OnErr, IfOk, IfErr};
 ghost use Rattle.mf_base.specs.declared.fault.Fault.TheVariants.{F20};
 ghost use Rattle.sqlite.specs.Held.{state};
 ghost use Rattle.sqlite.specs.State.{HasCleanDisk};
@@ -130,20 +130,20 @@ fn found_with<S: Alter>(
     ensures shuts { OnlyFaultsShut (state S.Store connection.old) (state S.Store connection.new) }
     ensures open { HasCleanDisk (state S.Store connection.new)
         → OnOk result (IsTrue (state S.Store connection.new).is_open) }
-    ensures made { HasCleanDisk (state S.Store connection.new) → OnOk result ((day : ℕ) → IsSound (newly_made day) → Begins writes.now day
-        → meta.now ≡ PutMeta (meta_kept (Some begins) day) → Serves schema_of Holds
-        (state S.Store connection.old).now None
+    ensures made { HasCleanDisk (state S.Store connection.new) → OnOk result ((day : ℕ)
+        → IsSound (newly_made day) → Begins writes.now day → meta.now ≡ PutMeta (meta_kept (Some begins) day)
+        → Serves schema_of Holds (state S.Store connection.old).now None
         → IsKeptIn S.Store (Some begins) connection.new (journaled (newly_made day))) }
-    ensures left { HasCleanDisk (state S.Store connection.new) → OnOk result ((day : ℕ) → IsSound (newly_made day) → Begins writes.now day
-        → meta.now ≡ PutMeta (meta_kept (Some begins) day) → Serves schema_of Holds
-        (state S.Store connection.old).now None
+    ensures left { HasCleanDisk (state S.Store connection.new) → OnOk result ((day : ℕ)
+        → IsSound (newly_made day) → Begins writes.now day → meta.now ≡ PutMeta (meta_kept (Some begins) day)
+        → Serves schema_of Holds (state S.Store connection.old).now None
         → LeavesKept S.Store (Some begins) connection.new (journaled (newly_made day) ∷ [])) }
     ensures same { HasCleanDisk (state S.Store connection.new) → IsTrue (state S.Store connection.new).is_open
         → OnErr result ((state S.Store connection.new).now ≡ (state S.Store connection.old).now) }
 
     // A stop leaves what it could leave before, or the new institution with its journal, whole.
-    ensures stop { HasCleanDisk (state S.Store connection.new) → (day : ℕ) → IsSound (newly_made day) → Begins writes.now day
-        → meta.now ≡ PutMeta (meta_kept (Some begins) day) → Serves schema_of Holds
+    ensures stop { HasCleanDisk (state S.Store connection.new) → (day : ℕ) → IsSound (newly_made day)
+        → Begins writes.now day → meta.now ≡ PutMeta (meta_kept (Some begins) day) → Serves schema_of Holds
         (state S.Store connection.old).now None → (trees : Trees)
         → (state S.Store connection.new).may_leave trees → (state S.Store connection.old).may_leave trees
         ⊎ Holds trees (Some (tables_kept (Some begins) (journaled (newly_made day)))) }
