@@ -1,5 +1,5 @@
 -- What stands after a new institution's writes.
-use Rattle.std.proofs.Common.{◌≡◌, ℕ, inl, inr, None, List, IsTrue, subst, arith}
+use Rattle.std.proofs.Common.{◌≡◌, ℕ, inl, inr, None, refl, List, IsTrue, subst, arith}
 use Rattle.sqlite.specs.State.{State, HasCleanDisk, Survives}
 use Rattle.sqlite.specs.Held.{Held, state}
 use Rattle.sqlite.specs.Steps.{IsEmpty}
@@ -11,16 +11,19 @@ use Rattle.mf_model.specs.Sound.{IsSound}
 use Rattle.mf_store_schema.specs.Writes.{schema_of, Holds, after_write, FitsLists}
 use Rattle.mf_store_schema.specs.declared.writes.StoreWrite.{StoreWrite}
 use Rattle.mf_store_schema.proofs.CallLemmas.{only_faults_shut}
-use Rattle.mf_store_commits.specs.Tabled.{IsTabled, IsUnfounded}
+use Rattle.mf_store_noted.specs.Tabled.{IsTabled, IsUnfounded}
 use Rattle.mf_store_commits.specs.Becoming.{Begins}
 
 module _ {S : Type 0} (g : Ghosts S) (old new : Held S) (writes : List StoreWrite) (day : ℕ) where
   pub founded_stands : Begins writes day → IsSound (newly_made day) → Turns (Serves schema_of Holds)
       (AllFit after_write FitsLists writes) (after_all after_write writes) (state g old).now (state g new).now
-      → Serves schema_of Holds (state g old).now None → IsTabled g new (newly_made day)
+      → Serves schema_of Holds (state g old).now None → IsTabled g None new (newly_made day)
   founded_stands b sound turns none = record {
-    sound = sound;
-    serves = λ live. subst (λ lists. Serves schema_of Holds (state g new).now lists) b.is (turns None none b.fits);
+    kept = record {
+      sound = sound;
+      serves = λ live. subst (λ lists. Serves schema_of Holds (state g new).now lists) b.is (turns None none b.fits);
+    };
+    keeps = refl;
   }
 
   -- the writes that failed may have been committed, all of them

@@ -25,29 +25,31 @@ use Rattle.mf_office.specs.declared.account.Account.{Account}
 use Rattle.mf_account.specs.Change.{KeptAccount}
 use Rattle.mf_base.specs.declared.fault.Fault.{Fault}
 use Rattle.mf_base.specs.declared.fault.Fault.TheVariants.{F20}
-use Rattle.mf_model.specs.declared.commit.Commit.{Commit}
-use Rattle.mf_model.specs.Store.{CommitsUnnoted, IsAdmitted, after_commit, account_at, counts_at, catalogue_counts}
+use Rattle.mf_model.specs.Store.{account_at, counts_at, catalogue_counts}
 use Rattle.mf_store.specs.Facts.{Facts, KnownStore, AreTrueOf, account_key, same_key, nothing_known}
 use Rattle.mf_store.proofs.CatalogueLemmas.{some_is}
 use Rattle.mf_store.specs.Learning.{Tells, counts_told, catalogue_told, day_told}
 use Rattle.mf_store.specs.declared.known.News.{News}
 use Rattle.mf_store.specs.declared.known.News.TheVariants.{OfficeCounts, BusinessDay}
 use Rattle.mf_store.specs.declared.known.News.TheVariants as news
-use Rattle.mf_store_commits.specs.Tabled.{IsTabled, HasGoodDisk, LeavesTables}
-use Rattle.mf_store_commits.proofs.StandLemmas.{unchanged_stays}
+use Rattle.mf_store_noted.specs.Kept.{IsJournalOf, begins_of}
+use Rattle.mf_store_noted.specs.Tabled.{IsKeptIn, IsTabled, HasGoodDisk, LeavesTables}
+use Rattle.mf_store_noted.specs.declared.journal.Journal.{Journal}
+use Rattle.mf_store_noted.proofs.TurnedLemmas.{unchanged_stays}
 use Rattle.mf_store_schema.specs.Calls.{IsAsBefore, OnlyFaultsShut}
 use Rattle.mf_store.specs.Stands.{StandsFor, IsClean, Leaves, IsOpen, IsOpenUntil, Stays, AsksTables, MayAskTables}
 
 module _ {S : Type 0} (g : Ghosts S) where
-  pub tabled : (k : KnownStore S) (i : Institution) → StandsFor g k i → IsTabled g k.connection i
-  tabled k i s = record { sound = s.sound; serves = s.serves }
+  pub tabled : (k : KnownStore S) (i : Institution) → StandsFor g k i → IsTabled g k.journal k.connection i
+  tabled k i s = record { kept = record { sound = s.sound; serves = s.serves }; keeps = s.journal }
 
   pub stays_same : (h : KnownStore S) → Stays g h h
-  stays_same h = record { premise = λ c. c; shuts = λ n o. o; same = λ c i s. s; stop = λ c is l. l }
+  stays_same h = record { premise = λ c. c; journal = refl; shuts = λ n o. o; same = λ c i s. s; stop = λ c is l. l }
 
   pub stays_then : (a b c : KnownStore S) → Stays g a b → Stays g b c → Stays g a c
   stays_then a b c p q = record {
     premise = λ clean. p.premise (q.premise clean);
+    journal = q.journal ∙ p.journal;
     shuts = λ n o. q.shuts n (p.shuts n o);
     same = λ clean i s. q.same clean i (p.same (q.premise clean) i s);
     stop = λ clean is l. q.stop clean is (p.stop (q.premise clean) is l);
@@ -253,11 +255,9 @@ told n i counts catalogue day = record {
   accounts = λ a x t h. h;
 }
 
--- what holds where a call gave up
-unmade : {A E : Type 0} {P Q : Type 0} (r : Result A E) → (((C : Type 0) → IsTrue (is_ok r) → C) → P → Q) → OnErr r P
-    → OnErr r Q
-unmade (Ok x) f p = tt
-unmade (Err e) f p = f (λ C made. absurd (true≢false (sym made))) p
+-- a loan's account may be another, though it isn't
+pub account_told : (loan : Account) (i : Institution) → Tells (news.Account loan) i i
+account_told loan i = told (news.Account loan) i (λ x. refl) refl refl
 
 -- what holds anyway holds where a call answers
 pub any_ok : {A E : Type 0} (r : Result A E) (P : Type 0) → P → OnOk r P
@@ -271,56 +271,41 @@ module _ {S : Type 0} (g : Ghosts S) where
   shuts_alike old new h n o = (o.0, h n o.0 o.1)
 
   -- the tables stay, and what is known
-  pub known_stays : (old new : Held S) (f : Facts) → IsAsBefore (state g old) (state g new)
-      → Stays g (record { connection = old; known = f }) (record { connection = new; known = f })
-  known_stays old new f u =
+  pub known_stays : (old new : Held S) (f : Facts) (j : Option Journal) → IsAsBefore (state g old) (state g new)
+      → Stays g (record { connection = old; known = f; journal = j }) (record {
+        connection = new;
+        known = f;
+        journal = j;
+      })
+  known_stays old new f j u =
       let t = unchanged_stays g old new u in
       record {
         premise = t.premise;
+        journal = refl;
         shuts = shuts_alike old new t.shuts;
-        same = λ clean i s. let k = t.same clean i (tabled g (record { connection = old; known = f }) i s) in
-            record { sound = k.sound; serves = k.serves; knows = s.knows };
+        same = λ clean i s. let k = t.same clean (begins_of j) i (record { sound = s.sound; serves = s.serves }) in
+            record { sound = k.sound; serves = k.serves; journal = s.journal; knows = s.knows };
         stop = t.stop;
       }
 
-  pub known_asks : {R : Type 0} (old new : Held S) (f : Facts) (r : Result R Fault) → IsAsBefore (state g old)
-      (state g new) → IfErr r (λ fault. fault ≡ F20) → (HasGoodDisk g new → OnOk r (IsTrue (state g new).is_open))
-      → AsksTables g (record { connection = old; known = f }) (record { connection = new; known = f }) r
-  known_asks old new f r u gives_up is_open =
-      record { kept = known_stays old new f u; gives_up = gives_up; stays_open = is_open }
-
-  -- a commit over the tables that may change a loan's account, which is known then where the commit was made
-  pub account_commits : (commit : Commit) (loan : Account) (account : KeptAccount) (old new : Held S) (f e : Facts)
-      (r : Result (Unit {0}) Fault) → ((i : Institution) → Tells (news.Account loan) i (after_commit commit i))
-      → ((i : Institution) → IsAdmitted commit i → account_at loan (after_commit commit i) ≡ Some account)
-      → ((i j : Institution) → AreTrueOf f i → Tells (news.Account loan) i j → (IsTrue (is_ok r) → account_at loan j
-      ≡ Some account) → AreTrueOf e j) → CommitsUnnoted (IsTabled g) (HasGoodDisk g) (LeavesTables g) commit old new r
-      → CommitsUnnoted (StandsFor g) (IsClean g) (Leaves g) commit (record { connection = old; known = f })
-      (record { connection = new; known = e }) r
-  account_commits commit loan account old new f e r tells is learns c = record {
-    premise = c.premise;
-    made = λ clean i s admitted. on_ok_weaker r (λ t. record {
-      sound = t.sound;
-      serves = t.serves;
-      knows = learns i (after_commit commit i) s.knows (tells i) (λ _. is i admitted);
-    }) (c.made clean i (tabled g (record { connection = old; known = f }) i s) admitted);
-    kept = λ clean i s admitted. c.kept clean i (tabled g (record { connection = old; known = f }) i s) admitted;
-    same = λ clean i s. unmade r (λ never t. record {
-      sound = t.sound;
-      serves = t.serves;
-      knows = learns i i s.knows (told (news.Account loan) i (λ x. refl) refl refl) (λ made. never _ made);
-    }) (c.same clean i (tabled g (record { connection = old; known = f }) i s));
-    gives_up = c.gives_up;
-    stop = λ clean i is s admitted l. c.stop clean i is (tabled g (record { connection = old; known = f }) i s) admitted
-        l;
-  }
+  pub known_asks : {R : Type 0} (old new : Held S) (f : Facts) (j : Option Journal) (r : Result R Fault)
+      → IsAsBefore (state g old) (state g new) → IfErr r (λ fault. fault ≡ F20)
+      → (HasGoodDisk g new → OnOk r (IsTrue (state g new).is_open))
+      → AsksTables g (record { connection = old; known = f; journal = j }) (record {
+        connection = new;
+        known = f;
+        journal = j;
+      }) r
+  known_asks old new f j r u gives_up is_open =
+      record { kept = known_stays old new f j u; gives_up = gives_up; stays_open = is_open }
 
   -- nothing is known at first
-  pub first_known : (h : Held S) (f : Facts) (i : Institution) → f ≡ nothing_known → IsTabled g h i
-      → StandsFor g (record { connection = h; known = f }) i
+  pub first_known : (h : Held S) (f : Facts) (i : Institution) → f ≡ nothing_known → IsTabled g None h i
+      → StandsFor g (record { connection = h; known = f; journal = None }) i
   first_known h f i is t = record {
-    sound = t.sound;
-    serves = t.serves;
+    sound = t.kept.sound;
+    serves = t.kept.serves;
+    journal = t.keeps;
     knows = subst (λ k. AreTrueOf k i) (sym is) (record {
       counts = λ x c e. absurd (let k : None ≡ Some c = e in cc);
       catalogue = λ c e. absurd (let k : None ≡ Some c = e in cc);
@@ -336,10 +321,11 @@ module _ {S : Type 0} (g : Ghosts S) where
   clean_before mid new tables clean = subst (λ h. HasGoodDisk g h) tables clean
 
   -- what is known beside the same tables is less
-  pub learnt_stays : (old new : KnownStore S) → new.connection ≡ old.connection → ((i : Institution) → StandsFor g old i
-      → StandsFor g new i) → Stays g old new
-  learnt_stays old new tables same = record {
+  pub learnt_stays : (old new : KnownStore S) → new.connection ≡ old.connection → new.journal ≡ old.journal
+      → ((i : Institution) → StandsFor g old i → StandsFor g new i) → Stays g old new
+  learnt_stays old new tables journal same = record {
     premise = λ clean. clean_before old.connection new.connection tables clean;
+    journal = journal;
     shuts = λ n o. subst (λ h. IsOpenUntil g n h) (sym tables) o;
     same = λ clean i s. same i s;
     stop = λ clean is l. subst (λ h. LeavesTables g h is) (sym tables) l;
@@ -349,11 +335,13 @@ module _ {S : Type 0} (g : Ghosts S) where
   pub learnt_asks : {R : Type 0} {x : R} (old mid new : KnownStore S) (IsSo : Institution → Type 0) → Stays g old mid
       → (IsClean g mid → IsOpen g old → IsOpen g mid) → ((i : Institution) → StandsFor g mid i → IsSo i
       → StandsFor g new i)
-      → new.connection ≡ mid.connection → (IsClean g mid → (i : Institution) → StandsFor g old i → IsSo i)
+      → new.connection ≡ mid.connection → new.journal ≡ mid.journal
+      → (IsClean g mid → (i : Institution) → StandsFor g old i → IsSo i)
       → MayAskTables g old new (Ok x)
-  learnt_asks old mid new IsSo kept is_open learns tables told = record {
+  learnt_asks old mid new IsSo kept is_open learns tables journal told = record {
     kept = record {
       premise = λ clean. kept.premise (now clean);
+      journal = journal ∙ kept.journal;
       shuts = λ n o. subst (λ h. IsOpenUntil g n h) (sym tables) (kept.shuts n o);
       same = λ clean i s. learns i (kept.same (now clean) i s) (told (now clean) i s);
       stop = λ clean is l. subst (λ h. LeavesTables g h is) (sym tables) (kept.stop (now clean) is l);

@@ -9,7 +9,6 @@ pub mod OfficeRowsLemmas
 pub mod ArrearsLemmas
 pub mod CatalogueLemmas
 pub mod LoanLemmas
-pub mod NotedLemmas
 pub mod OneInstitution
 pub mod InstalmentReadLemmas
 pub mod PartReadLemmas
@@ -18,3 +17,4 @@ pub mod OfficeLoansLemmas
 pub mod StatusLemmas
 pub mod MadeLemmas
 pub mod KnownAccountLemmas
+pub mod DayLemmas

@@ -18,6 +18,8 @@ use Rattle.mf_model.specs.contracts.store.CatalogueCounts as catalogue_row
 use Rattle.mf_model.specs.Institution.{Institution, product_in}
 use Rattle.mf_model.specs.Store.{counts_at, catalogue_counts, role_of, account_at}
 use Rattle.mf_store_values.specs.Flat.{key_at}
+use Rattle.mf_store_noted.specs.declared.journal.Journal.{Journal}
+use Rattle.mf_store_noted.specs.contracts.journal.Journal as journal_row
 
 -- the key of what is known of a caller: the office's number, and the staff number in it
 abbrev pub caller_key : Caller → ℕ × ℕ
@@ -75,15 +77,18 @@ facts_code =
       accounts = p.1.1.1.1.1.1;
     }) (λ _. refl)
 
--- a connection, and what is known beside it
+-- a connection, what is known beside it, and the journal that is kept, if one is
 pub record KnownStore (S : Type 0) : Type 0 where
   pub connection : Held S
   pub known : Facts
+  pub journal : Option Journal
 
 -- a store with its facts, coded
 abbrev pub kept_code : {S : Type 0} → Coded S → Coded (KnownStore S)
-kept_code {S} store = code_by (Held S × Facts) (coded× (held_code store) facts_code) (λ k. (k.connection, k.known))
-    (λ p. record { connection = p.0; known = p.1 }) (λ _. refl)
+kept_code {S} store = code_by (Held S × (Facts × Option Journal))
+    (coded× (held_code store) (coded× facts_code (coded_option journal_row.the_row.coded)))
+    (λ k. (k.connection, (k.known, k.journal)))
+    (λ p. record { connection = p.0; known = p.1.0; journal = p.1.1 }) (λ _. refl)
 
 -- what is known is so in this institution
 pub record AreTrueOf (f : Facts) (i : Institution) : Type 0 where

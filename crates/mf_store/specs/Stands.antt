@@ -1,27 +1,36 @@
 -- The institution that a store stands for.
-use Rattle.std.specs.Prelude.{◌≡◌, ◌<◌, ◌-◌, ◌^◌, ℕ, List, Some, IsTrue, Result, OnOk, IfErr}
+use Rattle.std.specs.Prelude.{◌≡◌, ◌<◌, ◌-◌, ◌^◌, ℕ, List, [], ◌∷◌, Some, IsTrue, Result, OnOk, OnErr, IfErr}
 use Rattle.mf_base.specs.declared.fault.Fault.{Fault}
 use Rattle.mf_base.specs.declared.fault.Fault.TheVariants.{F20}
 use Rattle.sqlite.specs.Held.{Held, state}
 use Rattle.sqlite_trees.specs.declared.store.Store.{Ghosts}
 use Rattle.mf_store_sql.specs.Writes.{Serves}
-use Rattle.mf_model.specs.Institution.{Institution}
+use Rattle.mf_model.specs.Institution.{Institution, Noted}
 use Rattle.mf_model.specs.Sound.{IsSound}
-use Rattle.mf_model.specs.Store.{CommitsUnnoted}
+use Rattle.mf_model.specs.Store.{Commits}
 use Rattle.mf_model.specs.declared.commit.Commit.{Commit}
 use Rattle.mf_store_schema.specs.Calls.{IsOpenUpTo}
 use Rattle.mf_store.specs.Facts.{KnownStore, AreTrueOf}
-use Rattle.mf_store_values.specs.Flat.{tables_of}
+use Rattle.mf_store_schema.specs.Rows.{Lists}
 use Rattle.mf_store_schema.specs.Writes.{schema_of, Holds}
-use Rattle.mf_store_commits.specs.Tabled.{HasGoodDisk, LeavesTables}
+use Rattle.mf_store_schema.specs.declared.writes.StoreWrite.{StoreWrite}
+use Rattle.mf_store_noted.specs.Becoming.{BecomesBeside}
+use Rattle.mf_store_noted.specs.Kept.{IsJournalOf, begins_of, tables_kept}
+use Rattle.mf_store_noted.specs.Tabled.{HasGoodDisk, IsTabled, LeavesTables}
+use Rattle.mf_store_noted.specs.Writing.{noted_after}
+
+-- what the store's tables keep of an institution, with its journal where the store keeps one
+abbrev pub kept_by : {S : Type 0} → KnownStore S → Institution → Lists
+kept_by k i = tables_kept (begins_of k.journal) i
 
 module _ {S : Type 0} (g : Ghosts S) where
-  -- The tables hold the institution's rows and nothing else, and it is sound; and what is known beside them is so in
-  -- it.
+  -- The tables hold the institution's rows, and its journal's where one is kept, and nothing else, and it is sound; and
+  -- what is known beside them is so in it.
   pub record StandsFor (k : KnownStore S) (i : Institution) : Type 0 where
     pub sound : IsSound i
     pub serves : IsTrue (state g k.connection).is_open → Serves schema_of Holds (state g k.connection).now
-        (Some (tables_of i))
+        (Some (kept_by k i))
+    pub journal : IsJournalOf k.journal i
     pub knows : AreTrueOf k.known i
 
   -- so far the disk has returned what was written
@@ -48,6 +57,7 @@ module _ {S : Type 0} (g : Ghosts S) where
   -- it stands for what it stood for, a stop leaves nothing more than before, and only a fault of the disk shuts it
   pub record Stays (old new : KnownStore S) : Type 0 where
     pub premise : IsClean new → IsClean old
+    pub journal : new.journal ≡ old.journal
     pub shuts : FaultsAloneShut old new
     pub same : IsClean new → (i : Institution) → StandsFor old i → StandsFor new i
     pub stop : IsClean new → (is : List Institution) → Leaves old is → Leaves new is
@@ -64,9 +74,27 @@ module _ {S : Type 0} (g : Ghosts S) where
     pub gives_up : IfErr result (λ fault. fault ≡ F20)
     pub stays_open : IsClean new → IsOpen old → OnOk result (IsOpen new)
 
-  -- A commit that is made whole or, giving up, not at all: where it is made the store is open, and only a fault of the
-  -- disk shuts it.
-  pub record MakesCommit (commit : Commit) (old new : KnownStore S) (result : Result (Unit {0}) Fault) : Type 0 where
-    pub commits : CommitsUnnoted StandsFor IsClean Leaves commit old new result
+  -- Writes are made with the line that notes their request, where a journal is kept, or, giving up, not at all. What is
+  -- known is so in the institution before them.
+  pub record WritesNoted (writes : List StoreWrite) (noted : Noted) (old new : KnownStore S)
+      (result : Result (Unit {0}) Fault) : Type 0 where
+    pub premise : IsClean new → IsClean old
+    pub gives_up : IfErr result (λ fault. fault ≡ F20)
+    pub shuts : FaultsAloneShut old new
+    pub stays_open : IsClean new → OnOk result (IsOpen new)
+    pub known : IsClean new → (i : Institution) → StandsFor old i → AreTrueOf new.known i
+    pub made : IsClean new → OnOk result ((i j : Institution) → StandsFor old i → BecomesBeside writes i j
+        → IsTabled g new.journal new.connection (noted_after noted i j))
+    pub left : IsClean new → OnOk result ((i j : Institution) → StandsFor old i → BecomesBeside writes i j
+        → Leaves new (noted_after noted i j ∷ []))
+    pub same : IsClean new → OnErr result ((i : Institution) → StandsFor old i → StandsFor new i)
+    pub stop : IsClean new → (i j : Institution) (is : List Institution) → StandsFor old i → BecomesBeside writes i j
+        → Leaves old is → Leaves new (noted_after noted i j ∷ is)
+
+  -- A commit that is made whole, with the line that notes its request where a journal is kept, or, giving up, not at
+  -- all: where it is made the store is open, and only a fault of the disk shuts it.
+  pub record MakesCommit (commit : Commit) (noted : Noted) (old new : KnownStore S)
+      (result : Result (Unit {0}) Fault) : Type 0 where
+    pub commits : Commits StandsFor IsClean Leaves commit noted old new result
     pub shuts : FaultsAloneShut old new
     pub stays_open : IsClean new → OnOk result (IsOpen new)

@@ -3,6 +3,7 @@
 ghost use Rattle.std.specs.Prelude.{◌≡◌, ◌+◌, ◌∷◌, [], length, IfOk, IfErr};
 ghost use Rattle.mf_base.specs.declared.fault.Fault.TheVariants.{F20};
 ghost use Rattle.mf_model.specs.Institution.{Institution, charge_in, product_in};
+ghost use Rattle.mf_model.specs.Notes.{noted_now};
 ghost use Rattle.mf_model.specs.Sound.{IsSound};
 ghost use Rattle.mf_model.specs.Store.{catalogue_counts, IsAdmitted};
 ghost use Rattle.mf_model.specs.declared.commit.Commit.TheVariants.{SetDay, AddCharge, AddProduct, RetireProduct};
@@ -13,9 +14,9 @@ use crate::known::News;
 use crate::store::Store;
 use mf_base::{Day, Fault, Name};
 use mf_catalog::{Calc, ChargeDef, ChargeKind, Product, ProductMembers};
-use mf_model::CatalogueCounts;
+use mf_model::{CatalogueCounts, Note};
 use mf_store_commits::{charge_row, product_row, retire};
-use mf_store_schema::{ChargeRow, MetaRow, ProductRow, SCHEMA, StoreWrite, Text};
+use mf_store_schema::{ChargeRow, MetaRow, ProductRow, StoreWrite, Text};
 use mf_store_values::{charge_from, product_from};
 use sqlite::Alter;
 use std::alloc::Global;
@@ -80,27 +81,35 @@ impl<S: Alter> Store<S> {
     }
 
     /// Makes this the business day.
-    pub fn set_day(&mut self, alloc: Global, day: Day) -> Result<(), Fault>
-        ensures { MakesCommit S.Store (SetDay day) self.old self.new result }
+    pub(crate) fn set_day(&mut self, alloc: Global, day: Day, note: &Note<'_>) -> Result<(), Fault>
+        ensures { MakesCommit S.Store (SetDay day) (noted_now note.now) self.old self.new result }
     {
         let text = day.text(alloc)?;
         let meta = MetaRow {
             one: 1,
-            schema: SCHEMA,
+            schema: self.schema_number(),
             day: Text::new(text),
         };
-        self.make(&[StoreWrite::PutMeta(meta)], News::BusinessDay(day))
+        self.make(
+            alloc,
+            &[StoreWrite::PutMeta(meta)],
+            News::BusinessDay(day),
+            note,
+        )
     }
 
     /// Adds a charge, under the next number.
-    pub fn add_charge(
+    pub(crate) fn add_charge(
         &mut self,
+        alloc: Global,
         name: Name,
         kind: ChargeKind,
         calc: Calc,
         value: u64,
+        note: &Note<'_>,
     ) -> Result<(), Fault>
-        ensures { MakesCommit S.Store (AddCharge name kind calc value) self.old self.new result }
+        ensures { MakesCommit S.Store (AddCharge name kind calc value) (noted_now note.now) self.old self.new
+            result }
     {
         let counts = self.catalogue_counts()?;
         if counts.charges > MOST {
@@ -112,12 +121,22 @@ impl<S: Alter> Store<S> {
             charges: number,
             ..counts
         };
-        self.make(&[StoreWrite::PutCharge(row)], News::Catalogue(now))
+        self.make(
+            alloc,
+            &[StoreWrite::PutCharge(row)],
+            News::Catalogue(now),
+            note,
+        )
     }
 
     /// Adds a product, under the next number.
-    pub fn add_product(&mut self, members: ProductMembers) -> Result<(), Fault>
-        ensures { MakesCommit S.Store (AddProduct members) self.old self.new result }
+    pub(crate) fn add_product(
+        &mut self,
+        alloc: Global,
+        members: ProductMembers,
+        note: &Note<'_>,
+    ) -> Result<(), Fault>
+        ensures { MakesCommit S.Store (AddProduct members) (noted_now note.now) self.old self.new result }
     {
         let counts = self.catalogue_counts()?;
         if counts.products > MOST {
@@ -129,7 +148,7 @@ impl<S: Alter> Store<S> {
             products: number,
             ..counts
         };
-        self.make(&[write], News::Catalogue(now))
+        self.make(alloc, &[write], News::Catalogue(now), note)
     }
 
     /// The write that retires a product that is there.
@@ -147,10 +166,15 @@ impl<S: Alter> Store<S> {
     }
 
     /// Retires a product that is there.
-    pub fn retire_product(&mut self, product: u32) -> Result<(), Fault>
-        ensures { MakesCommit S.Store (RetireProduct product) self.old self.new result }
+    pub(crate) fn retire_product(
+        &mut self,
+        alloc: Global,
+        product: u32,
+        note: &Note<'_>,
+    ) -> Result<(), Fault>
+        ensures { MakesCommit S.Store (RetireProduct product) (noted_now note.now) self.old self.new result }
     {
         let write = self.retirement(product)?;
-        self.make(&[write], News::Retirement)
+        self.make(alloc, &[write], News::Retirement, note)
     }
 }

@@ -3,6 +3,7 @@
 
 ghost use Rattle.std.specs.Prelude.{◌≡◌, IfOk};
 ghost use Rattle.mf_model.specs.Institution.{Institution};
+ghost use Rattle.mf_model.specs.Notes.{noted_now};
 ghost use Rattle.mf_model.specs.Tree.{is_there};
 ghost use Rattle.mf_model.specs.declared.commit.Commit.TheVariants.{AddOffice, AddStaff, AddClient};
 
@@ -10,7 +11,7 @@ use crate::counts::MOST;
 use crate::known::News;
 use crate::store::Store;
 use mf_base::{Choice, Fault};
-use mf_model::{Counts, laws};
+use mf_model::{Counts, Note, laws};
 use mf_office::{Name, OfficeNo, Role};
 use mf_store_schema::{ClientRow, OfficeRow, StaffRow, StoreWrite, Text};
 use sqlite::Alter;
@@ -32,14 +33,15 @@ impl<S: Alter> Store<S> {
     }
 
     /// Adds an office under a parent that is there. Its number is free; where it isn't, the call gives up.
-    pub fn add_office(
+    pub(crate) fn add_office(
         &mut self,
         alloc: Global,
         number: OfficeNo,
         parent: OfficeNo,
         name: Name,
+        note: &Note<'_>,
     ) -> Result<(), Fault>
-        ensures { MakesCommit S.Store (AddOffice number parent name) self.old self.new result }
+        ensures { MakesCommit S.Store (AddOffice number parent name) (noted_now note.now) self.old self.new result }
     {
         laws::tree_of_offices();
         let parent = parent.get();
@@ -57,12 +59,19 @@ impl<S: Alter> Store<S> {
             hkey: Text::new(key.into_text()),
             name: Text::of_name(name),
         };
-        self.make(&[StoreWrite::PutOffice(office)], News::Nothing)
+        self.make(alloc, &[StoreWrite::PutOffice(office)], News::Nothing, note)
     }
 
     /// Adds a member of staff of an office that is there, under the next number.
-    pub fn add_staff(&mut self, office: OfficeNo, name: Name, role: Role) -> Result<(), Fault>
-        ensures { MakesCommit S.Store (AddStaff office name role) self.old self.new result }
+    pub(crate) fn add_staff(
+        &mut self,
+        alloc: Global,
+        office: OfficeNo,
+        name: Name,
+        role: Role,
+        note: &Note<'_>,
+    ) -> Result<(), Fault>
+        ensures { MakesCommit S.Store (AddStaff office name role) (noted_now note.now) self.old self.new result }
     {
         let office = office.get();
         let counts = self.counts_there(office)?;
@@ -81,14 +90,22 @@ impl<S: Alter> Store<S> {
             ..counts
         };
         self.make(
+            alloc,
             &[StoreWrite::PutStaff(staff)],
             News::OfficeCounts(office, now),
+            note,
         )
     }
 
     /// Adds a client of an office that is there, under the next number.
-    pub fn add_client(&mut self, office: OfficeNo, name: Name) -> Result<(), Fault>
-        ensures { MakesCommit S.Store (AddClient office name) self.old self.new result }
+    pub(crate) fn add_client(
+        &mut self,
+        alloc: Global,
+        office: OfficeNo,
+        name: Name,
+        note: &Note<'_>,
+    ) -> Result<(), Fault>
+        ensures { MakesCommit S.Store (AddClient office name) (noted_now note.now) self.old self.new result }
     {
         let office = office.get();
         let counts = self.counts_there(office)?;
@@ -106,8 +123,10 @@ impl<S: Alter> Store<S> {
             ..counts
         };
         self.make(
+            alloc,
             &[StoreWrite::PutClient(client)],
             News::OfficeCounts(office, now),
+            note,
         )
     }
 }

@@ -2,6 +2,7 @@
 
 ghost use Rattle.std.specs.Prelude.{◌≡◌, IfOk};
 ghost use Rattle.mf_model.specs.Institution.{Institution};
+ghost use Rattle.mf_model.specs.Notes.{noted_now};
 
 use crate::store::Store;
 use mf_account::{LoanAccount, Receipt};
@@ -62,33 +63,35 @@ impl<S: Alter> Store<S> {
         }
     }
 
-    /// Makes a commit. No journal is kept, so nothing is noted of it.
-    fn commit_unnoted(&mut self, alloc: Global, commit: Commit) -> Result<(), Fault>
-        ensures { MakesCommit S.Store commit self.old self.new result }
+    /// Makes a commit, with the line that notes its request where a journal is kept.
+    fn make_commit(&mut self, alloc: Global, commit: Commit, note: &Note<'_>) -> Result<(), Fault>
+        ensures { MakesCommit S.Store commit (noted_now note.now) self.old self.new result }
     {
         match commit {
             Commit::AddOffice {
                 number,
                 parent,
                 name,
-            } => self.add_office(alloc, number, parent, name),
-            Commit::AddStaff { office, name, role } => self.add_staff(office, name, role),
-            Commit::AddClient { office, name } => self.add_client(office, name),
-            Commit::SetDay { day } => self.set_day(alloc, day),
+            } => self.add_office(alloc, number, parent, name, note),
+            Commit::AddStaff { office, name, role } => {
+                self.add_staff(alloc, office, name, role, note)
+            }
+            Commit::AddClient { office, name } => self.add_client(alloc, office, name, note),
+            Commit::SetDay { day } => self.set_day(alloc, day, note),
             Commit::AddCharge {
                 name,
                 kind,
                 calc,
                 value,
-            } => self.add_charge(name, kind, calc, value),
-            Commit::AddProduct { members } => self.add_product(members),
-            Commit::RetireProduct { product } => self.retire_product(product),
-            Commit::AddLoan { office, loan } => self.add_loan(alloc, office, loan),
-            Commit::SetStage { loan, stage } => self.set_stage(alloc, loan, stage),
-            Commit::AddEntry { loan, account } => self.add_entry(alloc, loan, account),
-            Commit::ReverseEntry { loan, seq, account } => self.reverse_entry(
-                alloc, loan, seq, account,
-            ),
+            } => self.add_charge(alloc, name, kind, calc, value, note),
+            Commit::AddProduct { members } => self.add_product(alloc, members, note),
+            Commit::RetireProduct { product } => self.retire_product(alloc, product, note),
+            Commit::AddLoan { office, loan } => self.add_loan(alloc, office, loan, note),
+            Commit::SetStage { loan, stage } => self.set_stage(alloc, loan, stage, note),
+            Commit::AddEntry { loan, account } => self.add_entry(alloc, loan, account, note),
+            Commit::ReverseEntry { loan, seq, account } => {
+                self.reverse_entry(alloc, loan, seq, account, note)
+            }
         }
     }
 }
@@ -188,8 +191,18 @@ impl<S: Alter> InstitutionStore for Store<S> {
         self.office_lines(alloc, to)
     }
 
-    fn commit(&mut self, alloc: Global, commit: Commit, _note: Note<'_>) -> Result<(), Fault> {
-        self.commit_unnoted(alloc, commit)
+    fn commit(&mut self, alloc: Global, commit: Commit, note: Note<'_>) -> Result<(), Fault> {
+        let Note {
+            caller,
+            text,
+            names,
+        } = note;
+        let noted = Note {
+            caller,
+            text,
+            names,
+        };
+        self.make_commit(alloc, commit, &noted)
     }
 
     ghost sound = { λ store i stands. stands.sound };

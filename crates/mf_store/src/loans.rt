@@ -3,6 +3,7 @@
 ghost use Rattle.std.specs.Prelude.{◌≡◌, ◌+◌, ◌<◌, [], ◌∷◌, length, true, Option, None, Some, IfOk, IfErr};
 ghost use Rattle.mf_base.specs.declared.fault.Fault.TheVariants.{F20};
 ghost use Rattle.mf_model.specs.Institution.{Institution};
+ghost use Rattle.mf_model.specs.Notes.{noted_now};
 ghost use Rattle.mf_model.specs.Sound.{IsSound};
 ghost use Rattle.mf_model.specs.Stages.{disbursed_on};
 ghost use Rattle.mf_model.specs.Store.{loan_at, rows_at, IsAdmitted};
@@ -14,7 +15,7 @@ use crate::counts::MOST;
 use crate::known::News;
 use crate::store::Store;
 use mf_base::Fault;
-use mf_model::{Counts, Loan, Stage};
+use mf_model::{Counts, Loan, Note, Stage};
 use mf_office::{Account, OfficeNo};
 use mf_store_commits::{loan_row, with_stage};
 use mf_store_schema::{LoanRow, StoreWrite};
@@ -51,8 +52,14 @@ impl<S: Alter> Store<S> {
 
     /// Adds a loan of an office that is there, under the next number. It is not disbursed; where it is, the call gives
     /// up.
-    pub fn add_loan(&mut self, alloc: Global, office: OfficeNo, loan: Loan) -> Result<(), Fault>
-        ensures { MakesCommit S.Store (AddLoan office loan) self.old self.new result }
+    pub(crate) fn add_loan(
+        &mut self,
+        alloc: Global,
+        office: OfficeNo,
+        loan: Loan,
+        note: &Note<'_>,
+    ) -> Result<(), Fault>
+        ensures { MakesCommit S.Store (AddLoan office loan) (noted_now note.now) self.old self.new result }
     {
         let office = office.get();
         let counts = self.counts_there(office)?;
@@ -65,7 +72,7 @@ impl<S: Alter> Store<S> {
             loans: number,
             ..counts
         };
-        self.make(&[write], News::OfficeCounts(office, now))
+        self.make(alloc, &[write], News::OfficeCounts(office, now), note)
     }
 
     /// The writes that bring a loan that is there to a stage: its row, and its instalments where that disburses it.
@@ -102,11 +109,22 @@ impl<S: Alter> Store<S> {
 
     /// Brings a loan that is there to a stage, and writes its instalments where that disburses it. Where it was
     /// disbursed before, the call gives up.
-    pub fn set_stage(&mut self, alloc: Global, loan: Account, stage: Stage) -> Result<(), Fault>
-        ensures { MakesCommit S.Store (SetStage loan stage) self.old self.new result }
+    pub(crate) fn set_stage(
+        &mut self,
+        alloc: Global,
+        loan: Account,
+        stage: Stage,
+        note: &Note<'_>,
+    ) -> Result<(), Fault>
+        ensures { MakesCommit S.Store (SetStage loan stage) (noted_now note.now) self.old self.new result }
     {
         let Account { office, number } = loan;
         let writes = self.stage_writes(alloc, Account { office, number }, stage)?;
-        self.make(&writes, News::Account(Account { office, number }))
+        self.make(
+            alloc,
+            &writes,
+            News::Account(Account { office, number }),
+            note,
+        )
     }
 }

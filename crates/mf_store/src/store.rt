@@ -1,6 +1,7 @@
 //! The store: what it reads of its tables and knows beside them, how it is made and given back.
 
-ghost use Rattle.std.specs.Prelude.{◌≡◌, ◌<◌, ◌≤◌, [], ◌∷◌, length, false, None, Some, IsTrue, IfOk, IfErr, IfSome};
+ghost use Rattle.std.specs.Prelude.{◌≡◌, ◌<◌, ◌≤◌, [], ◌∷◌, Option, length, false, None, Some, IsTrue};
+ghost use Rattle.std.specs.Prelude.{IfOk, IfErr, IfSome};
 ghost use Rattle.std.specs.Prelude.{map, filter, option_map, take};
 ghost use Rattle.mf_base.specs.declared.fault.Fault.TheVariants.{F20};
 ghost use Rattle.mf_base.specs.DayText.{last_entered_day};
@@ -11,24 +12,29 @@ ghost use Rattle.mf_model.specs.Store.{IsAdmitted, after_commit, role_of, use_at
 ghost use Rattle.mf_model.specs.declared.commit.Commit.{Commit};
 ghost use Rattle.mf_model.specs.declared.commit.Commit.TheVariants.{AddEntry, ReverseEntry};
 ghost use Rattle.mf_store_values.specs.Flat.{key_at, tables_of};
+ghost use Rattle.mf_journal.specs.declared.following.Head.{Head};
+ghost use Rattle.mf_model.specs.Notes.{noted_now};
+ghost use Rattle.mf_store_noted.specs.Becoming.{BecomesBeside};
+ghost use Rattle.mf_store_noted.specs.Kept.{IsBegun, IsToday, journal_at, number_kept};
+ghost use Rattle.mf_store_noted.specs.Tabled.{IsTabled, HasGoodDisk, IsUnfounded};
 ghost use Rattle.mf_store_values.specs.ReceiptRows.{receipt_in};
 ghost use Rattle.mf_store_schema.specs.Rows.{loan_row, office_row, is_loan_above, is_between_keys};
 ghost use Rattle.mf_store_schema.specs.Writes.{schema_of, Holds};
 ghost use Rattle.mf_store.specs.Facts.{KnownStore, AreTrueOf, nothing_known};
 ghost use Rattle.mf_store.specs.Learning.{Tells};
-ghost use Rattle.mf_store_commits.specs.Tabled.{IsTabled, HasGoodDisk, IsUnfounded};
-ghost use Rattle.mf_store.specs.Stands.{StandsFor, IsClean, Leaves, IsOpen, Stays, AsksTables, MakesCommit};
-ghost use Rattle.mf_store_commits.specs.Becoming.{Becomes};
+ghost use Rattle.mf_store.specs.Stands.{StandsFor, IsClean, Leaves, IsOpen, Stays, AsksTables, MayAskTables};
+ghost use Rattle.mf_store.specs.Stands.{MakesCommit, WritesNoted, kept_by};
 
 use crate::known::{Known, News};
 use mf_account::LoanAccount;
 use mf_base::{Day, Fault};
 use mf_catalog::Product;
-use mf_model::laws;
+use mf_model::{Note, laws};
 use mf_office::{Account, Caller, Key, Role};
-use mf_store_commits::{add_entry, first_writes, reverse_entry, write};
+use mf_store_commits::{entry_writes, first_writes, reversal_writes};
+use mf_store_noted::{JOURNALED_SCHEMA, Journal, Place, write_kept};
 use mf_store_schema::{
-    Listed, ReceiptRow, StoreWrite, find_receipt, list_rows, loans_above, offices_within,
+    Listed, ReceiptRow, SCHEMA, StoreWrite, find_receipt, list_rows, loans_above, offices_within,
 };
 use mf_store_sql::apply;
 use mf_store_values::see_open;
@@ -36,11 +42,13 @@ use sqlite::{Alter, Connection, Row};
 use std::alloc::Global;
 use std::marker::Model;
 
-/// An institution in tables, and what is known of it beside them. No transaction is open between calls.
+/// An institution in tables, what is known of it beside them, and its journal where one is kept. No transaction is open
+/// between calls.
 #[derive(Drop)]
 pub struct Store<S: Alter> {
     pub(crate) connection: Connection<S>,
     known: Known,
+    journal: Option<Journal>,
 }
 
 impl<S: Alter> Model for Store<S> {
@@ -51,7 +59,7 @@ impl<S: Alter> Model for Store<S> {
 
     ghost coded = { kept_code S.code };
 
-    ghost view = { λ s. record { connection = s.connection; known = s.known } };
+    ghost view = { λ s. record { connection = s.connection; known = s.known; journal = s.journal } };
 
     ghost invariant = { λ s. s.connection.in_transaction ≡ false };
 }
@@ -82,7 +90,7 @@ impl<S: Alter> Store<S> {
         ensures asks { AsksTables S.Store self.old self.new result }
         ensures rows { IsClean S.Store self.new → (i : Institution) → StandsFor S.Store self.old i
             → IfOk result (λ rows. rows.items ≡ map T.Table.stored (filter (T.is_in part)
-            (T.Table.list (tables_of i)))) }
+            (T.Table.list (kept_by self.old i)))) }
     {
         list_rows::<T, S>(&mut self.connection, part)
     }
@@ -137,35 +145,44 @@ impl<S: Alter> Store<S> {
             Err(fault) => return Err((fault, connection)),
         };
         match apply(&mut connection, &writes) {
-            Ok(()) => Ok(Store { connection, known }),
+            Ok(()) => Ok(Store {
+                connection,
+                known,
+                journal: None,
+            }),
             Err(_) => Err((Fault::F20, connection)),
         }
     }
 
-    /// A store over tables that hold an institution, which it doesn't ask for anything, with room for what it comes to
-    /// know of it.
+    /// A store over tables that hold an institution without a journal, which it doesn't ask for anything, with room for
+    /// what it comes to know of it.
     pub fn over(connection: Connection<S>, known: Known) -> Store<S>
         requires alone { connection.in_transaction ≡ false }
         requires nothing { known ≡ nothing_known }
         ensures same { result.connection ≡ connection }
-        ensures stands { (i : Institution) → IsTabled S.Store connection i → StandsFor S.Store result i }
-        ensures leaves { IsOpen S.Store result → (i : Institution) → IsTabled S.Store connection i
+        ensures stands { (i : Institution) → IsTabled S.Store None connection i → StandsFor S.Store result i }
+        ensures leaves { IsOpen S.Store result → (i : Institution) → IsTabled S.Store None connection i
             → Leaves S.Store result (i ∷ []) }
     {
         // With nothing to commit a stop leaves just the tables as they are; the call brings that into the proof.
         let _settled = connection.is_autocommit();
-        Store { connection, known }
+        Store {
+            connection,
+            known,
+            journal: None,
+        }
     }
 
     /// The connection to the tables, which hold what the store stood for.
     pub fn release(self) -> Connection<S>
         ensures same { result ≡ self.connection }
-        ensures holds { (i : Institution) → StandsFor S.Store self i → IsTabled S.Store result i }
+        ensures holds { (i : Institution) → StandsFor S.Store self i → IsTabled S.Store self.journal result i }
         ensures alone { result.in_transaction ≡ false }
     {
         let Store {
             connection,
             known: _,
+            journal: _,
         } = self;
         connection
     }
@@ -182,6 +199,7 @@ impl<S: Alter> Store<S> {
         ensures same { (i : Institution) → StandsFor S.Store self.old i → role_of caller i ≡ Some role
             → StandsFor S.Store self.new i }
         ensures tables { self.new.connection ≡ self.old.connection }
+        ensures journal { self.new.journal ≡ self.old.journal }
     {
         self.known.learn_role(caller, role);
     }
@@ -191,6 +209,7 @@ impl<S: Alter> Store<S> {
         ensures same { (i : Institution) → StandsFor S.Store self.old i → key_at office i ≡ Some key.now
             → StandsFor S.Store self.new i }
         ensures tables { self.new.connection ≡ self.old.connection }
+        ensures journal { self.new.journal ≡ self.old.journal }
     {
         self.known.learn_key(alloc, office, key);
     }
@@ -200,6 +219,7 @@ impl<S: Alter> Store<S> {
         ensures same { (i : Institution) → StandsFor S.Store self.old i → product_in i.catalogue number
             ≡ Some product.now → StandsFor S.Store self.new i }
         ensures tables { self.new.connection ≡ self.old.connection }
+        ensures journal { self.new.journal ≡ self.old.journal }
     {
         self.known.learn_product(number, product);
     }
@@ -210,6 +230,7 @@ impl<S: Alter> Store<S> {
             → IfSome result (λ account. account_at loan i ≡ Some account) }
         ensures same { (i : Institution) → StandsFor S.Store self.old i → StandsFor S.Store self.new i }
         ensures tables { self.new.connection ≡ self.old.connection }
+        ensures journal { self.new.journal ≡ self.old.journal }
     {
         self.known.take_account(loan)
     }
@@ -219,45 +240,81 @@ impl<S: Alter> Store<S> {
         ensures same { (i : Institution) → StandsFor S.Store self.old i → Tells news i i
             → StandsFor S.Store self.new i }
         ensures tables { self.new.connection ≡ self.old.connection }
+        ensures journal { self.new.journal ≡ self.old.journal }
     {
         self.known.learn(news);
     }
 
-    /// Makes the writes in one commit, and takes in what is new; or neither. Where they make a commit's change of each
-    /// institution that the store stood for before it was asked, the call makes the commit.
-    pub(crate) fn make(&mut self, writes: &[StoreWrite], news: News) -> Result<(), Fault>
+    /// The number of the schema, as the row of meta has it.
+    pub(crate) fn schema_number(&self) -> u32
+        ensures { (i : Institution) → StandsFor S.Store self.now i → (journal : Option Head) → IsBegun journal i
+            → result ≡ number_kept journal }
+    {
+        match &self.journal {
+            None => SCHEMA,
+            Some(_) => JOURNALED_SCHEMA,
+        }
+    }
+
+    /// Where the next line of the journal stands, if one is kept: its day is the business day.
+    fn next_place(&mut self) -> Result<Option<Place>, Fault>
+        ensures asks { MayAskTables S.Store self.old self.new result }
+        ensures journal { IfOk result (λ place. journal_at place ≡ self.new.journal) }
+        ensures today { IsClean S.Store self.new → (i : Institution) → StandsFor S.Store self.old i
+            → IfOk result (λ place. IsToday place i) }
+    {
+        let Some(journal) = self.journal else {
+            return Ok(None);
+        };
+        let day = self.business_day()?;
+        Ok(Some(Place { journal, day }))
+    }
+
+    /// Makes the writes in one commit, with the line that notes the request where a journal is kept; or none of it.
+    fn write(&mut self, alloc: Global, writes: &[StoreWrite], note: &Note<'_>) -> Result<(), Fault>
+        requires { 0 < length writes.now }
+        ensures { WritesNoted S.Store writes.now (noted_now note.now) self.old self.new result }
+    {
+        let place = self.next_place()?;
+        self.journal = write_kept(alloc, &mut self.connection, writes, place, note)?;
+        Ok(())
+    }
+
+    /// Makes the writes in one commit with the line that notes the request, and takes in what is new; or neither. Where
+    /// they make a commit's change of each institution that the store stood for before it was asked, the call makes the
+    /// commit.
+    pub(crate) fn make(
+        &mut self,
+        alloc: Global,
+        writes: &[StoreWrite],
+        news: News,
+        note: &Note<'_>,
+    ) -> Result<(), Fault>
         requires { 0 < length writes.now }
         ensures { (first : KnownStore S) (commit : Commit) → Stays S.Store first self.old
             → (IsClean S.Store self.old → (i : Institution) → StandsFor S.Store first i → IsAdmitted commit i
-            → Becomes writes.now i (after_commit commit i) × Tells news i (after_commit commit i))
-            → MakesCommit S.Store commit first self.new result }
+            → BecomesBeside writes.now i (after_commit commit i) × Tells news i (after_commit commit i))
+            → MakesCommit S.Store commit (noted_now note.now) first self.new result }
     {
-        match write(&mut self.connection, writes) {
-            Ok(()) => {
-                self.known.learn(news);
-                Ok(())
-            }
-            Err(fault) => Err(fault),
-        }
+        self.write(alloc, writes, note)?;
+        self.known.learn(news);
+        Ok(())
     }
 
     /// Adds the last entry of a loan's account to the loan, which has all the others and no more, and writes what that
     /// changed of the loan's instalments and shares. The account is known then.
-    pub fn add_entry(
+    pub(crate) fn add_entry(
         &mut self,
         alloc: Global,
         loan: Account,
         account: LoanAccount,
+        note: &Note<'_>,
     ) -> Result<(), Fault>
-        ensures { MakesCommit S.Store (AddEntry loan account) self.old self.new result }
+        ensures { MakesCommit S.Store (AddEntry loan account) (noted_now note.now) self.old self.new result }
     {
         let Account { office, number } = loan;
-        let made = add_entry(
-            alloc,
-            &mut self.connection,
-            Account { office, number },
-            &account,
-        );
+        let writes = entry_writes(alloc, Account { office, number }, &account)?;
+        let made = self.write(alloc, &writes, note);
         self.known
             .learn_commit(alloc, Account { office, number }, account, made.is_ok());
         made
@@ -266,23 +323,19 @@ impl<S: Alter> Store<S> {
     /// Writes an entry of a loan that is reversed in the loan's account, and what that changed of the loan's
     /// instalments and shares. All other entries are the same in both. The row of the entry's receipt stays as it is.
     /// The account is known then.
-    pub fn reverse_entry(
+    pub(crate) fn reverse_entry(
         &mut self,
         alloc: Global,
         loan: Account,
         seq: u32,
         account: LoanAccount,
+        note: &Note<'_>,
     ) -> Result<(), Fault>
-        ensures { MakesCommit S.Store (ReverseEntry loan seq account) self.old self.new result }
+        ensures { MakesCommit S.Store (ReverseEntry loan seq account) (noted_now note.now) self.old self.new result }
     {
         let Account { office, number } = loan;
-        let made = reverse_entry(
-            alloc,
-            &mut self.connection,
-            Account { office, number },
-            seq,
-            &account,
-        );
+        let writes = reversal_writes(alloc, Account { office, number }, seq, &account)?;
+        let made = self.write(alloc, &writes, note);
         self.known
             .learn_commit(alloc, Account { office, number }, account, made.is_ok());
         made

@@ -1,6 +1,6 @@
 -- What the writes of a change make of the rows that are kept of its loan.
 use Rattle.std.proofs.Common.{◌≡◌, ◌<◌, ◌≤◌, ◌+◌, ℕ, zero, suc, List, [], ◌∷◌, ◌++◌, map, length, Some, refl, sym, ap}
-use Rattle.std.proofs.Common.{◌∙◌, subst, arith, inl, inr, cond, ◌==◌, get_or, Option}
+use Rattle.std.proofs.Common.{◌∙◌, subst, arith, inl, inr, cond, ◌==◌, get_or, true, Option}
 use Rattle.std.proofs.lemmas.List.Elements.{All-contains}
 use Rattle.std.specs.List.{AllByRecursion}
 use mathlib.Core.HLevel.{Discrete}
@@ -32,6 +32,7 @@ use Rattle.mf_store_values.specs.Flat.{how_number, portion_number, instalment_in
 use Rattle.mf_store_values.specs.Flat.{instalments_kept, shares_kept}
 use Rattle.mf_store_commits.proofs.StepLemmas.{all_steps, loan_place, instalment_step, instalments_put_around}
 use Rattle.mf_store_commits.proofs.StepLemmas.{share_place, share_step, shares_replaced_around}
+use Rattle.mf_store_commits.specs.Becoming.{SpareMeta, spares_meta}
 use Rattle.mf_store_commits.specs.ChangeWrites.{schedule_put, instalments_put, shares_replaced, shares_put}
 use Rattle.mf_store_commits.specs.ChangeWrites.{change_writes}
 use Rattle.mf_store_commits.specs.Suiting.{SuitsRows, Suits, AllSuit}
@@ -207,3 +208,19 @@ change_plain x n a =
     (all-map IsPlain (λ k. PutInstalment (instalment_in x n (k, row_at rows k))) (λ k lists. (_, refl, refl, tt))
     a.change.rows) (all-flat_map IsPlain (shares_replaced x n a.settled) a.change.seqs
     (all_of (λ s. AllByRecursion IsPlain (shares_replaced x n a.settled s)) put a.change.seqs))
+
+-- they leave the row of meta
+pub schedule_spares : (x n : ℕ) (numbered : List (ℕ × Instalment)) → SpareMeta (schedule_put x n numbered)
+schedule_spares x n numbered =
+    all-map (λ w. spares_meta w ≡ true) (λ item. PutInstalment (instalment_in x n item)) (λ item. refl) numbered
+
+pub change_spares : (x n : ℕ) (a : KeptAccount) → SpareMeta (change_writes x n a)
+change_spares x n a =
+    let Spares : StoreWrite → Type 0 = λ w. spares_meta w ≡ true in
+    let rows = a.state.rows in
+    let put : (s : ℕ) → AllByRecursion Spares (shares_replaced x n a.settled s) =
+    λ s. (refl, all-map Spares (λ placed. PutShare (share_in x n placed)) (λ placed. refl) _) in
+    all-append Spares (instalments_put x n rows a.change.rows) (shares_put x n a.settled a.change.seqs)
+    (all-map Spares (λ k. PutInstalment (instalment_in x n (k, row_at rows k))) (λ k. refl) a.change.rows)
+    (all-flat_map Spares (shares_replaced x n a.settled) a.change.seqs
+    (all_of (λ s. AllByRecursion Spares (shares_replaced x n a.settled s)) put a.change.seqs))

@@ -7,4 +7,3 @@ pub mod CommitLemmas
 pub mod CatalogueLemmas
 pub mod EnteredLemmas
 pub mod LoanLemmas
-pub mod StandLemmas

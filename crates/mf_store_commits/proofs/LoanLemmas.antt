@@ -23,6 +23,7 @@ use Rattle.mf_model.specs.Tree.{is_there}
 use Rattle.mf_model.specs.declared.commit.Commit.TheVariants.{AddLoan, SetStage, AddEntry, ReverseEntry}
 use Rattle.mf_model.specs.declared.loan.Loan.{Loan}
 use Rattle.mf_model.specs.declared.loan.Stage.{Stage}
+use Rattle.sqlite_keyed.proofs.ListLemmas.{all-append}
 use Rattle.mf_store_sql.specs.Keep.{put_item}
 use Rattle.mf_store_sql.specs.Writes.{AllFit, after_all}
 use Rattle.mf_store_schema.specs.Rows.{Lists, by_loan, by_entry, IsNew, IsThere, is_row_of_loan}
@@ -40,13 +41,13 @@ use Rattle.mf_store_commits.proofs.AccountCommitLemmas.{IsChanged, change_writte
 use Rattle.mf_store_commits.proofs.AccountCommitLemmas.{none_before}
 use Rattle.mf_store_commits.proofs.CatalogueLemmas.{none_next}
 use Rattle.mf_store_commits.proofs.ChangedRowLemmas.{after_both, fit_both, all_fit, all_suit, change_plain}
-use Rattle.mf_store_commits.proofs.ChangedRowLemmas.{schedule_plain}
+use Rattle.mf_store_commits.proofs.ChangedRowLemmas.{schedule_plain, change_spares}
 use Rattle.mf_store_commits.proofs.CommitLemmas.{loans_become}
 use Rattle.mf_store_commits.proofs.EntryLemmas.{entry_by_number, number_free, number_there, AreEarlier, AreNumbered}
 use Rattle.mf_store_commits.proofs.EntryLemmas.{PutsEntry, puts_last, puts_reversed, entry_put}
 use Rattle.mf_store_commits.proofs.ReceiptRowLemmas.{receipt_free, receipt_found, same_receipts_of, no_receipt_put}
 use Rattle.mf_store_commits.proofs.ReceiptRowLemmas.{receipt_put}
-use Rattle.mf_store_commits.specs.Becoming.{Becomes}
+use Rattle.mf_store_commits.specs.Becoming.{Becomes, SpareMeta, spares_meta}
 use Rattle.mf_store_commits.specs.ChangeWrites.{schedule_put, change_writes}
 use Rattle.mf_store_commits.specs.Suiting.{Carries, AllSuit, Suits}
 use Rattle.mf_store_schema.specs.declared.writes.StoreWrite.TheVariants as write
@@ -179,10 +180,10 @@ module _ (loan : Account) (account : KeptAccount) (l : Ledger) (i : Institution)
   -- writes that make these rows of entries and receipts, and then those of the change
   with_change : {e : List EntryRow} {q : List ReceiptRow} (writes : List StoreWrite)
       → IsSound (after_commit (AddEntry loan account) i) → AllFit after_write FitsLists writes (Some (tables_of i))
-      → AllSuit writes (tables_of i)
+      → AllSuit writes (tables_of i) → SpareMeta writes
       → after_all after_write writes (Some (tables_of i)) ≡ Some (record (tables_of i) { entries = e; receipts = q })
       → e ≡ entry_rows now → q ≡ receipt_rows now → Carries (AddEntry loan account) (writes ++ change) i
-  with_change {e} {q} writes sound fits suits first entries receipts =
+  with_change {e} {q} writes sound fits suits spare first entries receipts =
       let lists : Lists = record (tables_of i) { entries = e; receipts = q } in
       let plain = change_plain x loan.number account in
       let up = before.tree.ascending in
@@ -197,6 +198,7 @@ module _ (loan : Account) (account : KeptAccount) (l : Ledger) (i : Institution)
               (map_changed loan_of (with_entries account.loan.entries) (λ l. l) (λ l. refl) loan.number loans
               ∙ none_changed loan.number (map loan_of loans))) entries receipts refl refl);
         };
+        spares = all-append (λ w. spares_meta w ≡ true) writes change spare (change_spares x loan.number account);
         suits = fit_both Suits writes change (Some (tables_of i)) suits (rw first (all_suit change plain lists));
       }
 
@@ -217,14 +219,14 @@ module _ (loan : Account) (account : KeptAccount) (l : Ledger) (i : Institution)
     row_carries : (o : Option (List ℕ)) → e.receipt ≡ o
         → Carries (AddEntry loan account) ((write.AddEntry row ∷ receipt_added row o) ++ change) i
     row_carries None none =
-        with_change (write.AddEntry row ∷ []) sound (refl, tt) (new_entry, tt) refl row_put (no_receipt_put x
+        with_change (write.AddEntry row ∷ []) sound (refl, tt) (new_entry, tt) (refl, tt) refl row_put (no_receipt_put x
         loan.number e account.loan.entries l new i.offices before.tree.ascending there refl are none)
     row_carries (Some r) some =
         let up = before.tree.ascending in
         let new_receipt = receipt_found x r i before ∙ ap (option_map (receipt_in x)) (receipt_free x loan.number e
         account.loan.entries l new i.offices up there refl are r some apart) in
         with_change (write.AddEntry row ∷ receipt_added row (Some r)) sound (refl, (refl, tt))
-        (new_entry, (new_receipt, tt)) refl row_put (receipt_put x loan.number e account.loan.entries l new i.offices up
+        (new_entry, (new_receipt, tt)) (refl, (refl, tt)) refl row_put (receipt_put x loan.number e account.loan.entries l new i.offices up
         there refl are r some apart)
 
     pub entry_carries : (r : EntryRow) → r ≡ row → Carries (AddEntry loan account) (entry_added r ++ change) i
@@ -260,7 +262,7 @@ module _ (loan : Account) (account : KeptAccount) (l : Ledger) (i : Institution)
     pub reversal_carries : (r : EntryRow) → r ≡ entry_in x loan.number entry
         → Carries (ReverseEntry loan seq account) (write.ChangeEntry r ∷ change) i
     reversal_carries r is =
-        let made = with_change (write.ChangeEntry (entry_in x loan.number entry) ∷ []) sound (refl, tt) (here, tt) refl
+        let made = with_change (write.ChangeEntry (entry_in x loan.number entry) ∷ []) sound (refl, tt) (here, tt) (refl, tt) refl
         (entry_put x loan.number entry account.loan.entries l new i.offices before.tree.ascending there refl puts)
         (same_receipts_of x new i.offices before.tree.ascending same_uses) in
-        rw is (record { becomes = made.becomes; suits = made.suits })
+        rw is (record { becomes = made.becomes; spares = made.spares; suits = made.suits })

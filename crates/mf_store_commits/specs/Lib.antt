@@ -1,4 +1,3 @@
 pub mod Becoming
 pub mod ChangeWrites
 pub mod Suiting
-pub mod Tabled

@@ -12,7 +12,7 @@ use Rattle.mf_store_schema.specs.declared.writes.StoreWrite.{StoreWrite}
 use Rattle.mf_store_schema.specs.declared.writes.StoreWrite.TheVariants.{PutOffice, PutStaff, PutClient, PutCharge}
 use Rattle.mf_store_schema.specs.declared.writes.StoreWrite.TheVariants.{AddProduct, PutProduct, AddLoan, PutLoan}
 use Rattle.mf_store_schema.specs.declared.writes.StoreWrite.TheVariants.{AddEntry, ChangeEntry, AddReceipt}
-use Rattle.mf_store_commits.specs.Becoming.{Becomes}
+use Rattle.mf_store_commits.specs.Becoming.{Becomes, SpareMeta}
 
 -- a write that adds a row adds a new one, and one that changes a product, a loan or an entry changes one that is there;
 -- the others put or remove rows, there or not
@@ -39,7 +39,8 @@ Suits write (Some lists) = SuitsRows lists write
 abbrev pub AllSuit : List StoreWrite → Lists → Type 0
 AllSuit writes lists = AllFit after_write Suits writes (Some lists)
 
--- the writes make the commit's change of the institution, and suit its rows
+-- the writes make the commit's change of the institution, leave the row of meta, and suit the institution's rows
 pub record Carries (commit : Commit) (writes : List StoreWrite) (i : Institution) : Type 0 where
   pub becomes : Becomes writes i (after_commit commit i)
+  pub spares : SpareMeta writes
   pub suits : AllSuit writes (tables_of i)

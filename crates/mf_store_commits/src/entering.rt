@@ -1,30 +1,27 @@
-//! An entry of a loan, and the reversal of one, each in one commit with what it changes of the loan's instalments and
+//! The writes of an entry of a loan, and of the reversal of one, with what either changes of the loan's instalments and
 //! shares.
 
-ghost use Rattle.std.specs.Prelude.{◌≡◌, ◌<◌, length, false, IsTrue, OnOk, IfOk, IfErr};
+ghost use Rattle.std.specs.Prelude.{◌≡◌, ◌<◌, length, IfOk, IfErr};
 ghost use Rattle.mf_base.specs.declared.fault.Fault.TheVariants.{F20};
-ghost use Rattle.sqlite.specs.Held.{state};
 ghost use Rattle.mf_model.specs.Institution.{Institution};
 ghost use Rattle.mf_model.specs.Sound.{IsSound};
-ghost use Rattle.mf_model.specs.Store.{CommitsUnnoted, IsAdmitted};
+ghost use Rattle.mf_model.specs.Store.{IsAdmitted};
 ghost use Rattle.mf_model.specs.declared.commit.Commit.TheVariants.{AddEntry, ReverseEntry};
-ghost use Rattle.mf_store_schema.specs.Calls.{OnlyFaultsShut};
 ghost use Rattle.mf_store_commits.specs.Suiting.{Carries};
-ghost use Rattle.mf_store_commits.specs.Tabled.{IsTabled, HasGoodDisk, LeavesTables};
 
 use crate::changes::put_change;
-use crate::commits::write;
 use crate::entries::row_of_entry;
 use crate::receipts::writes_of;
 use mf_account::LoanAccount;
 use mf_base::Fault;
 use mf_office::Account;
 use mf_store_schema::StoreWrite;
-use sqlite::{Alter, Connection};
 use std::alloc::Global;
 
-/// The writes that add the last entry of a loan's account.
-fn entry_writes(
+/// The writes that add the last entry of a loan's account to the loan, which has all the others and no more, with what
+/// that changed of the loan's instalments and shares. Where the entry carries a receipt, its row is added too. The error
+/// is F20.
+pub fn entry_writes(
     alloc: Global,
     loan: Account,
     account: &LoanAccount,
@@ -42,8 +39,10 @@ fn entry_writes(
     Ok(writes)
 }
 
-/// The writes that reverse an entry which is reversed in a loan's account.
-fn reversal_writes(
+/// The writes that reverse an entry which is reversed in a loan's account, with what that changed of the loan's
+/// instalments and shares. All other entries are the same in both, and the row of the entry's receipt stays as it is.
+/// The error is F20.
+pub fn reversal_writes(
     alloc: Global,
     loan: Account,
     seq: u32,
@@ -62,43 +61,4 @@ fn reversal_writes(
     writes.push(StoreWrite::ChangeEntry(row))?;
     put_change(alloc, office, loan, account, &mut writes)?;
     Ok(writes)
-}
-
-/// Adds the last entry of a loan's account to the loan, which has all the others and no more, and writes what that
-/// changed of the loan's instalments and shares. Where the entry carries a receipt, its row is added too.
-pub fn add_entry<S: Alter>(
-    alloc: Global,
-    connection: &mut Connection<S>,
-    loan: Account,
-    account: &LoanAccount,
-) -> Result<(), Fault>
-    requires alone { connection.old.in_transaction ≡ false }
-    ensures commits { CommitsUnnoted (IsTabled S.Store) (HasGoodDisk S.Store) (LeavesTables S.Store)
-        (AddEntry loan account.now) connection.old connection.new result }
-    ensures shuts { OnlyFaultsShut (state S.Store connection.old) (state S.Store connection.new) }
-    ensures open { HasGoodDisk S.Store connection.new → OnOk result (IsTrue (state S.Store connection.new).is_open) }
-    ensures mode { connection.new.in_transaction ≡ false }
-{
-    let writes = entry_writes(alloc, loan, account)?;
-    write(connection, &writes)
-}
-
-/// Writes an entry of a loan that is reversed in the loan's account, and what that changed of the loan's instalments
-/// and shares. All other entries are the same in both. The row of the entry's receipt stays as it is.
-pub fn reverse_entry<S: Alter>(
-    alloc: Global,
-    connection: &mut Connection<S>,
-    loan: Account,
-    seq: u32,
-    account: &LoanAccount,
-) -> Result<(), Fault>
-    requires alone { connection.old.in_transaction ≡ false }
-    ensures commits { CommitsUnnoted (IsTabled S.Store) (HasGoodDisk S.Store) (LeavesTables S.Store)
-        (ReverseEntry loan seq account.now) connection.old connection.new result }
-    ensures shuts { OnlyFaultsShut (state S.Store connection.old) (state S.Store connection.new) }
-    ensures open { HasGoodDisk S.Store connection.new → OnOk result (IsTrue (state S.Store connection.new).is_open) }
-    ensures mode { connection.new.in_transaction ≡ false }
-{
-    let writes = reversal_writes(alloc, loan, seq, account)?;
-    write(connection, &writes)
 }

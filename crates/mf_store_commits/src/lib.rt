@@ -1,13 +1,9 @@
-//! Commits over tables that hold an institution: the rows by which the tables keep what a change brings, the writes
-//! that
-//! put them, and the commit that makes these writes. Contracts speak of a connection; what is known beside its tables
-//! is
-//! `mf_store`'s.
+//! The writes of commits over tables that hold an institution: the rows by which the tables keep what a change brings.
+//! `mf_store_noted` makes them.
 #![tactic(auto)]
 
 mod catalogue;
 mod changes;
-mod commits;
 mod entering;
 mod entries;
 mod first;
@@ -16,8 +12,7 @@ mod receipts;
 
 pub use catalogue::{charge_row, product_row, retire};
 pub use changes::{put_change, put_schedule};
-pub use commits::write;
-pub use entering::{add_entry, reverse_entry};
+pub use entering::{entry_writes, reversal_writes};
 pub use entries::row_of_entry;
 pub use first::first_writes;
 pub use loans::{loan_row, with_stage};

@@ -1,5 +1,5 @@
 -- A store over tables that were judged, from the connection as it was before.
-use Rattle.std.proofs.Common.{◌≡◌, ◌⊎◌, inl, inr, [], ◌∷◌, Some, IsTrue, sym, ◌∙◌, subst}
+use Rattle.std.proofs.Common.{◌≡◌, ◌⊎◌, inl, inr, [], ◌∷◌, None, Some, IsTrue, sym, ◌∙◌, subst}
 use Rattle.sqlite.specs.Held.{Held, state}
 use Rattle.sqlite.specs.Tree.{Trees}
 use Rattle.sqlite_trees.specs.declared.store.Store.{Ghosts}
@@ -19,7 +19,7 @@ use Rattle.mf_store_sql.specs.Writes.{Serves}
 use Rattle.sqlite.specs.State.{State}
 use Rattle.mf_store_schema.specs.Upgraded.{IsKeepingAt}
 use Rattle.mf_store.specs.Facts.{KnownStore}
-use Rattle.mf_store_commits.specs.Tabled.{HasGoodDisk, IsTabled}
+use Rattle.mf_store_noted.specs.Tabled.{HasGoodDisk, IsTabled}
 use Rattle.mf_store.specs.Stands.{StandsFor, IsClean, IsOpen, Leaves}
 use Rattle.mf_store_files.specs.Versions.{IsTabledAt, IsLeftAt}
 use Rattle.mf_store_sound.specs.Held.{HoldsSoundAt}
@@ -40,23 +40,31 @@ module _ {S : Type 0} (g : Ghosts S) (v : Version) (old mid : Held S)
     are_its : HasGoodDisk g mid → (i : Institution) → IsTabledAt g v old i → tables_at v i ≡ lists
     are_its clean i was =
         let before = was.keeps (u.was_open clean (live clean)) in
-        rows clean before.schema_is (record { institution = i; sound = was.sound; holds = before.holds })
+        rows clean before.schema_is (record {
+          institution = i;
+          plain = was.plain;
+          sound = was.sound;
+          holds = before.holds;
+        })
 
     module _ (new : Held S) (premise : HasGoodDisk g new → HasGoodDisk g mid) where
       module _ (made : HasGoodDisk g new → (i : Institution) → IsSound i → tables_at v i ≡ lists
           → IsKeepingAt v (state g mid) (tables_at v i) → IsKeeping (state g new) (tables_of i)) where
-        pub brought_up : HasGoodDisk g new → (i : Institution) → IsTabledAt g v old i → IsTabled g new i
+        pub brought_up : HasGoodDisk g new → (i : Institution) → IsTabledAt g v old i → IsTabled g None new i
         brought_up clean i was = record {
-          sound = was.sound;
-          serves = made clean i was.sound (are_its (premise clean) i was) (still_keeps (premise clean) i was);
+          kept = record {
+            sound = was.sound;
+            serves = made clean i was.sound (are_its (premise clean) i was) (still_keeps (premise clean) i was);
+          };
+          keeps = was.plain;
         }
 
         module _ (store : KnownStore S) (same : store.connection ≡ new) where
-          pub stands_at : ((i : Institution) → IsTabled g new i → StandsFor g store i) → IsClean g store
+          pub stands_at : ((i : Institution) → IsTabled g None new i → StandsFor g store i) → IsClean g store
               → (i : Institution) → IsTabledAt g v old i → StandsFor g store i
           stands_at stands clean i was = stands i (brought_up (subst (HasGoodDisk g) same clean) i was)
 
-          pub leaves_at : (IsOpen g store → (i : Institution) → IsTabled g new i → Leaves g store (i ∷ []))
+          pub leaves_at : (IsOpen g store → (i : Institution) → IsTabled g None new i → Leaves g store (i ∷ []))
               → (HasGoodDisk g new → IsTrue (state g mid).is_open → IsTrue (state g new).is_open) → IsClean g store
               → (i : Institution) → IsTabledAt g v old i → Leaves g store (i ∷ [])
           leaves_at leaves is_live clean i was =

@@ -1,5 +1,5 @@
 -- Files that were closed, from the connection that held them.
-use Rattle.std.proofs.Common.{◌≡◌, [], List, Some, IsTrue, refl, subst, arith}
+use Rattle.std.proofs.Common.{◌≡◌, [], List, Option, Some, IsTrue, subst, arith}
 use Rattle.std.proofs.Math.Logic.{∥∥₁_map}
 use Rattle.sqlite.specs.Closing.{HoldsAlone, IsCopied}
 use Rattle.sqlite.specs.Effect.{Database}
@@ -14,37 +14,40 @@ use Rattle.sqlite_trees.specs.View.{IsClean}
 use Rattle.sqlite_wal.specs.Files.{outcomes}
 use Rattle.sqlite_wal.specs.Recovery.{Image}
 use Rattle.mf_model.specs.Institution.{Institution}
+use Rattle.mf_model.specs.Sound.{IsSound}
 use Rattle.mf_store_schema.specs.Writes.{Holds}
-use Rattle.mf_store_values.specs.Flat.{tables_of}
-use Rattle.mf_store_commits.specs.Tabled.{HasGoodDisk, IsTabled, LeavesTables, HoldsOneOf}
+use Rattle.mf_store_noted.specs.Kept.{begins_of, tables_kept}
+use Rattle.mf_store_noted.specs.Tabled.{HasGoodDisk, HoldsOneOf, HoldsRowsOf, IsTabled, LeavesTables}
+use Rattle.mf_store_noted.specs.declared.journal.Journal.{Journal}
+use Rattle.mf_store_noted.proofs.BesideLemmas.{begun_of}
 use Rattle.mf_store_files.specs.Closed.{HoldsInstitution, HoldsByItself}
-use Rattle.mf_store_sound.specs.Held.{HoldsSound}
 
-module _ (trees : Trees) (held : HoldsSound trees) where
-  holds_it : (image : Image) → ∥ HoldsDatabase image trees ∥₁ → HoldsInstitution image held.institution
-  holds_it image database = ∥∥₁_map database (λ stored. (trees, stored, held, refl))
+module _ (trees : Trees) (i : Institution) (sound : IsSound i) (held : HoldsRowsOf trees i) where
+  holds_it : (image : Image) → ∥ HoldsDatabase image trees ∥₁ → HoldsInstitution image i
+  holds_it image database = ∥∥₁_map database (λ stored. (trees, stored, sound, held))
 
-  by_itself : (image : Image) → HoldsAlone image trees → HoldsByItself image held.institution
+  by_itself : (image : Image) → HoldsAlone image trees → HoldsByItself image i
   by_itself image all =
       record { both = holds_it image all.both; alone = holds_it (record image { log = [] }) all.alone }
 
 module _ {D : Type 0} {g : Ghosts D} (c : Held (FileStore D g)) (settled : IsTrue (file_state c).is_open
     → (file_state c).now ≡ (file_state c).committed) where
-  module _ (end : Files D) (copied : IsCopied c end) (i : Institution) (was : IsTabled over_files c i) where
+  module _ (end : Files D) (copied : IsCopied c end) (journal : Option Journal) (i : Institution)
+      (was : IsTabled over_files journal c i) where
     -- the last commit holds the rows
-    abbrev committed_holds : HoldsSound (file_state c).committed.trees
+    abbrev committed_holds : HoldsRowsOf (file_state c).committed.trees i
     committed_holds = record {
-      institution = i;
-      sound = was.sound;
-      holds = let held = subst (λ (db : Database). Holds db.trees (Some (tables_of i))) (settled copied.was_open)
-          (was.serves copied.was_open).holds in record { sound = held.sound; all = held.all };
+      begins = begins_of journal;
+      begun = begun_of journal i was.keeps;
+      holds = subst (λ (db : Database). Holds db.trees (Some (tables_kept (begins_of journal) i)))
+          (settled copied.was_open) (was.kept.serves copied.was_open).holds;
     }
 
     pub whole : HoldsByItself (image_of g end) i
-    whole = by_itself _ committed_holds _ copied.seen
+    whole = by_itself _ i was.kept.sound committed_holds _ copied.seen
 
     pub left_whole : (left : Image) → outcomes g end.log end.db left → HoldsByItself left i
-    left_whole left may = by_itself _ committed_holds left (copied.left left may)
+    left_whole left may = by_itself _ i was.kept.sound committed_holds left (copied.left left may)
 
 -- where closing failed, a stop leaves nothing more
 pub kept : {D : Type 0} {g : Ghosts D} (c : Held (FileStore D g)) (last : FileStore D g) → IsClosed c last

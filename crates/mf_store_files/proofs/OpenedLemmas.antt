@@ -45,6 +45,7 @@ module _ {S : Type 0} (g : StoreGhosts S) (h : Held S) (trees : Trees) where
       → (held : HoldsSoundAt v trees) → IsTabledAt g v h held.institution
   tabled_as v is held = record {
     sound = held.sound;
+    plain = held.plain;
     keeps = λ live. record {
       schema_is = schema_is (schema_at v) is;
       holds = subst (λ t. HoldsAt v t (tables_at v held.institution)) (sym (trees_are (schema_at v) is)) held.holds;

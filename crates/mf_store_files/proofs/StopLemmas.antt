@@ -1,6 +1,7 @@
 -- Which institution a stop after a run leaves.
 use Rattle.std.proofs.Common.{◌≡◌, ◌⊎◌, inl, inr, Bool, true, false, cond, List, [], ◌∷◌, ◌++◌, Option, Some, None}
-use Rattle.std.proofs.Common.{IsTrue, refl, sym, ap, ◌∙◌, subst}
+use Rattle.std.proofs.Common.{IsTrue, refl, sym, ap, ◌∙◌, subst, true≢false}
+use Rattle.std.specs.Option.{is_some}
 use Rattle.std.proofs.Math.Logic.{∥∥₁_map}
 use Rattle.sqlite.specs.Files.{HoldsDatabase}
 use Rattle.sqlite.specs.Tree.{Trees}
@@ -9,18 +10,18 @@ use Rattle.sqlite_disk.specs.declared.Disk.{Ghosts}
 use Rattle.sqlite_store.specs.FileStore.{state, view, recovers}
 use Rattle.sqlite_store.specs.declared.store.FileStore.{FileStore}
 use Rattle.sqlite_wal.specs.Recovery.{Image}
-use Rattle.mf_model.specs.Institution.{Institution, Change, Noted, after, after_line, after_noted}
+use Rattle.mf_model.specs.Institution.{Institution, Change, Noted, after, after_line, after_noted, noted_line, with_line}
 use Rattle.mf_model.specs.Desk.{outcome, change_in}
 use Rattle.mf_model.specs.Calls.{Call}
 use Rattle.mf_model.specs.Run.{Line, change_of_line, next, noted_of, last}
 use Rattle.mf_model.specs.Sound.{IsSound, IsInRange, AreInRange}
 use Rattle.mf_model.specs.Store.{left_by, left_after}
-use Rattle.mf_store_schema.specs.Tables.{schema}
+use Rattle.mf_journal.specs.declared.following.Head.{Head}
 use Rattle.mf_store_schema.specs.Writes.{Holds}
-use Rattle.mf_store_values.specs.Flat.{tables_of}
-use Rattle.mf_store_commits.specs.Tabled.{HoldsOneOf}
 use Rattle.mf_store_sound.specs.Held.{HoldsSound}
-use Rattle.mf_store_files.specs.Stops.{NoneChanges, IsLeftBy}
+use Rattle.mf_store_noted.specs.Kept.{IsBegun, tables_kept}
+use Rattle.mf_store_noted.specs.Tabled.{HoldsOneOf, HoldsRowsOf}
+use Rattle.mf_store_files.specs.Stops.{NoneChanges, HoldsBeginning, IsLeftBy}
 
 unmoved : (run : List Line) (i : Institution) → NoneChanges run i → last run i ≡ i
 unmoved [] i none = refl
@@ -28,7 +29,7 @@ unmoved (l ∷ ls) i none = ap (λ c. last ls (after_line (noted_of l.call i) c 
 
 module _ (left : Trees) where
   abbrev HoldsIt : Institution → Type 0
-  HoldsIt j = Holds left (Some (tables_of j))
+  HoldsIt j = HoldsRowsOf left j
 
   abbrev IsOfRun : List Line → Institution → Type 0
   IsOfRun run i = (j : Institution) × IsLeftBy run i j × HoldsIt j
@@ -114,6 +115,46 @@ module _ (left : Trees) where
       go (inl (none, inr nothing)) = absurd nothing
       go (inr it) = it
 
+-- ---- a journal doesn't begin by itself
+
+plain_line : (noted : Noted) (c : Option Change) (i : Institution) → i.journal ≡ None
+    → (after_line noted c i).journal ≡ None
+plain_line noted None i none = none
+plain_line noted (Some change) i none = ap (with_line (noted_line i.catalogue.day noted)) none
+
+plain_last : (run : List Line) (i : Institution) → i.journal ≡ None → (last run i).journal ≡ None
+plain_last [] i none = none
+plain_last (l ∷ ls) i none = plain_last ls (next l i) (plain_line (noted_of l.call i) (change_of_line l i) i none)
+
+plain_left : (run : List Line) (i j : Institution) → i.journal ≡ None → IsLeftBy run i j → j.journal ≡ None
+plain_left run i j none (inl is_last) = ap (λ (k : Institution). k.journal) is_last ∙ plain_last run i none
+plain_left run i j none (inr it) =
+    let before = last it.before i in
+    ap (λ (k : Institution). k.journal) it.with_change
+    ∙ ap (with_line (noted_line before.catalogue.day (noted_of it.line.call before))) (plain_last it.before i none)
+
+plain_rows : (trees : Trees) (j : Institution) → j.journal ≡ None → IsSound j → HoldsRowsOf trees j
+    → (held : HoldsSound trees) × (held.institution ≡ j)
+plain_rows trees j none sound held = go held.begins held.begun held.holds
+  where
+    go : (begins : Option Head) → IsBegun begins j → Holds trees (Some (tables_kept begins j))
+        → (held : HoldsSound trees) × (held.institution ≡ j)
+    go None begun holds = (
+      record {
+        institution = j;
+        plain = none;
+        sound = sound;
+        holds = record { sound = holds.sound; all = holds.all };
+      },
+      refl,
+    )
+    go (Some begins) begun holds = absurd (true≢false (sym begun ∙ ap is_some none))
+
+pub no_journal_begins : (run : List Line) (i j : Institution) (trees : Trees) → i.journal ≡ None → IsLeftBy run i j
+    → IsSound j → HoldsRowsOf trees j → (held : HoldsSound trees) × (held.institution ≡ j)
+no_journal_begins run i j trees none left sound held =
+    plain_rows trees j (plain_left run i j none left) sound held
+
 -- what is noted doesn't matter
 noted_sound : (noted : Noted) (change : Change) (i : Institution) → IsSound (after change i)
     → IsSound (after_noted noted change i)
@@ -142,10 +183,10 @@ module _
       (noted_sound (noted_of it.line.call (last it.before i)) it.change (last it.before i) made)
 
   pub left_tables : (run : List Line) (i : Institution) → IsSound i → AreInRange run → (left : Trees)
-      → HoldsOneOf (left_after run i (i ∷ [])) left → (held : HoldsSound left) × IsLeftBy run i held.institution
+      → HoldsOneOf (left_after run i (i ∷ [])) left → HoldsBeginning run i left
   left_tables run i sound range left one =
       let it = one_of_run left run i one in
-      (record { institution = it.0; sound = left_sound run i it.0 sound range it.1; holds = record { sound = it.2.sound; all = it.2.all } }, it.1)
+      (it.0, it.1, left_sound run i it.0 sound range it.1, it.2)
 
   -- and whatever a stop leaves of the files is a database with them
   pub left_files : {D : Type 0} {g : Ghosts D} (store : FileStore D g) (run : List Line) (i : Institution) → IsSound i
@@ -153,10 +194,9 @@ module _
       → IsTrue (view store).is_numbered → ((trees : Trees) → recovers store trees
       → HoldsOneOf (left_after run i (i ∷ [])) trees)
       → (left : Image) → (state store).may_leave left → ∥ ((trees : Trees) × HoldsDatabase left trees
-      × (held : HoldsSound trees) × IsLeftBy run i held.institution) ∥₁
+      × HoldsBeginning run i trees) ∥₁
   left_files store run i sound range numbered leaves left may =
       let tables =
       λ (trees : Trees) (may : recovers store trees). left_tables run i sound range trees (leaves trees may) in
-      ∥∥₁_map (opens_again store numbered (λ trees may. (schema, (tables trees may).0.holds.sound)) left may) (λ found.
-      let held = tables found.0 found.1 in
-      (found.0, found.2, held.0, held.1))
+      ∥∥₁_map (opens_again store numbered (λ trees may. (_, (tables trees may).3.holds.sound)) left may) (λ found.
+      (found.0, found.2, tables found.0 found.1))

@@ -12,7 +12,7 @@ use Rattle.mf_store_schema.specs.Versions.{IsOfVersion}
 use Rattle.mf_store_schema.specs.Whole.{HaveRowids}
 use Rattle.mf_store_schema.specs.declared.versions.Version.{Version}
 use Rattle.mf_store_schema.specs.declared.versions.Version.TheVariants.{Second}
-use Rattle.mf_store_commits.specs.Tabled.{IsUnfounded}
+use Rattle.mf_store_noted.specs.Tabled.{IsUnfounded}
 use Rattle.mf_store.specs.Facts.{KnownStore}
 use Rattle.mf_store.specs.Stands.{StandsFor, IsClean, Leaves, IsOpen}
 use Rattle.mf_store_sound.proofs.SchemaLemmas.{none_at, one_version}

@@ -1,5 +1,5 @@
 -- What files hold that were closed.
-use Rattle.std.specs.Prelude.{◌≡◌, [], Result, Ok, Err}
+use Rattle.std.specs.Prelude.{[], Result, Ok, Err}
 use Rattle.mf_base.specs.declared.fault.Fault.{Fault}
 use Rattle.sqlite.specs.Files.{HoldsDatabase}
 use Rattle.sqlite.specs.Tree.{Trees}
@@ -11,12 +11,13 @@ use Rattle.sqlite_trees.specs.View.{IsClean}
 use Rattle.sqlite_wal.specs.Reads.{AreClean}
 use Rattle.sqlite_wal.specs.Recovery.{Image}
 use Rattle.mf_model.specs.Institution.{Institution}
-use Rattle.mf_store_sound.specs.Held.{HoldsSound}
+use Rattle.mf_model.specs.Sound.{IsSound}
+use Rattle.mf_store_noted.specs.Tabled.{HoldsRowsOf}
 
--- the database file and its log hold a database with the rows of the institution and nothing else, and it is sound
+-- The database file and its log hold a database with the rows of the institution, and its journal's where it keeps
+-- one, and nothing else; and it is sound.
 abbrev pub HoldsInstitution : Image → Institution → Type 0
-HoldsInstitution image i = ∥ ((trees : Trees) × HoldsDatabase image trees × (held : HoldsSound trees)
-    × (held.institution ≡ i)) ∥₁
+HoldsInstitution image i = ∥ ((trees : Trees) × HoldsDatabase image trees × IsSound i × HoldsRowsOf trees i) ∥₁
 
 -- the two hold it together, and so does the database file without its log
 pub record HoldsByItself (image : Image) (i : Institution) : Type 0 where

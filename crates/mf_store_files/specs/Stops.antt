@@ -3,6 +3,9 @@ use Rattle.std.specs.Prelude.{◌≡◌, ◌⊎◌, List, [], ◌∷◌, ◌++�
 use Rattle.mf_model.specs.Institution.{Institution, Change, after_noted}
 use Rattle.mf_model.specs.Desk.{outcome, change_in}
 use Rattle.mf_model.specs.Run.{Line, change_of_line, noted_of, last}
+use Rattle.mf_model.specs.Sound.{IsSound}
+use Rattle.mf_store_noted.specs.Tabled.{HoldsRowsOf}
+use Rattle.sqlite.specs.Tree.{Trees}
 
 -- no line of the run changes the institution
 abbrev pub NoneChanges : List Line → Institution → Type 0
@@ -25,3 +28,7 @@ pub record IsWithGivenUp (run : List Line) (i j : Institution) : Type 0 where
 -- one line more, of those that were given up after the last change.
 abbrev pub IsLeftBy : List Line → Institution → Institution → Type 0
 IsLeftBy run i j = (j ≡ last run i) ⊎ IsWithGivenUp run i j
+
+-- the trees hold the rows of such an institution, with its journal where it keeps one, and nothing else; and it is sound
+abbrev pub HoldsBeginning : List Line → Institution → Trees → Type 0
+HoldsBeginning run i trees = (j : Institution) × IsLeftBy run i j × IsSound j × HoldsRowsOf trees j

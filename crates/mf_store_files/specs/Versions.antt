@@ -1,5 +1,5 @@
 -- Connections to tables of a version, and what is left where these could not be brought to today's.
-use Rattle.std.specs.Prelude.{◌≡◌, ◌⊎◌, Some, IsTrue}
+use Rattle.std.specs.Prelude.{◌≡◌, ◌⊎◌, None, Some, IsTrue}
 use Rattle.sqlite.specs.Held.{Held, state}
 use Rattle.sqlite.specs.State.{HasCleanDisk}
 use Rattle.sqlite.specs.Tree.{Trees}
@@ -16,10 +16,11 @@ use Rattle.mf_store_schema.specs.Upgraded.{IsKeepingAt}
 use Rattle.mf_store_sound.specs.Held.{HoldsSoundAt}
 
 module _ {S : Type 0} (g : Ghosts S) (v : Version) where
-  -- The tables are those of the version and hold the institution's rows and nothing else, and it is sound. Of a
-  -- connection that a fault has shut nothing more is known.
+  -- The tables are those of the version and hold the institution's rows and nothing else, and it is sound and keeps no
+  -- journal. Of a connection that a fault has shut nothing more is known.
   pub record IsTabledAt (h : Held S) (i : Institution) : Type 0 where
     pub sound : IsSound i
+    pub plain : i.journal ≡ None
     pub keeps : IsKeepingAt v (state g h) (tables_at v i)
 
   -- Nothing is changed, only a fault of the disk shuts the connection, and a stop leaves nothing more than before but

@@ -14,7 +14,7 @@ ghost use Rattle.mf_store_schema.specs.Schemas.{IsKnown, IsUnchangedUnder};
 ghost use Rattle.mf_store_schema.specs.Versions.{IsOfVersion};
 ghost use Rattle.mf_store_schema.specs.Whole.{HaveRowids};
 ghost use Rattle.mf_store_schema.specs.declared.versions.Version.TheVariants.{Second};
-ghost use Rattle.mf_store_commits.specs.Tabled.{IsUnfounded};
+ghost use Rattle.mf_store_noted.specs.Tabled.{IsUnfounded};
 ghost use Rattle.mf_store.specs.Stands.{StandsFor, IsClean, Leaves, IsOpen};
 ghost use Rattle.mf_store_files.specs.Versions.{IsTabledAt, IsLeftAt};
 ghost use Rattle.mf_store_sound.specs.Held.{HoldsSoundAt};

@@ -10,7 +10,7 @@ ghost use Rattle.sqlite_wal.specs.Files.{outcomes};
 ghost use Rattle.sqlite_wal.specs.Reads.{AreClean};
 ghost use Rattle.sqlite_wal.specs.Recovery.{Image};
 ghost use Rattle.mf_model.specs.Institution.{Institution};
-ghost use Rattle.mf_store_commits.specs.Tabled.{HasGoodDisk, HoldsOneOf};
+ghost use Rattle.mf_store_noted.specs.Tabled.{HasGoodDisk, HoldsOneOf};
 ghost use Rattle.mf_store.specs.Stands.{StandsFor, Leaves};
 ghost use Rattle.mf_store_files.specs.Closed.{CloseWell, HoldsByItself};
 

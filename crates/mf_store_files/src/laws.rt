@@ -1,6 +1,6 @@
 //! Laws of what a stop leaves of a store. Each function does nothing: its contract is the law.
 
-ghost use Rattle.std.specs.Prelude.{List, [], ◌∷◌, IsTrue};
+ghost use Rattle.std.specs.Prelude.{◌≡◌, List, [], ◌∷◌, None, IsTrue};
 ghost use Rattle.sqlite.specs.Files.{over_files, HoldsDatabase};
 ghost use Rattle.sqlite.specs.Held.{state};
 ghost use Rattle.sqlite.specs.Tree.{Trees};
@@ -11,8 +11,9 @@ ghost use Rattle.mf_model.specs.Run.{Line};
 ghost use Rattle.mf_model.specs.Sound.{IsSound, AreInRange};
 ghost use Rattle.mf_model.specs.Store.{left_after};
 ghost use Rattle.mf_store.specs.Stands.{IsClean, Leaves};
+ghost use Rattle.mf_store_noted.specs.Tabled.{HoldsRowsOf};
 ghost use Rattle.mf_store_sound.specs.Held.{HoldsSound};
-ghost use Rattle.mf_store_files.specs.Stops.{IsLeftBy};
+ghost use Rattle.mf_store_files.specs.Stops.{HoldsBeginning, IsLeftBy};
 
 use mf_model::laws;
 use mf_store::Store;
@@ -26,22 +27,26 @@ use sqlite_disk::Disk;
 pub fn left_is_a_beginning<S: Alter>(store: &Store<S>)
     ensures { (i : Institution) (run : List Line) → IsSound i → AreInRange run → IsClean S.Store store.now
         → Leaves S.Store store.now (left_after run i (i ∷ []))
-        → (left : Trees) → (state S.Store store.now.connection).may_leave left → (held : HoldsSound left)
-        × IsLeftBy run i held.institution }
+        → (left : Trees) → (state S.Store store.now.connection).may_leave left → HoldsBeginning run i left }
 {
     laws::soundness();
 }
 
-/// The same of the files of a store: whatever a stop leaves of these is a database with such rows. So `open_with` makes
-/// a store of that institution, and doesn't answer F19. The store's trees are numbered, as those of each connection are
+/// The same of the files of a store: whatever a stop leaves of these is a database with such rows. The store's trees are numbered, as those of each connection are
 /// (`into_store` of `sqlite`).
 pub fn left_files_hold_a_beginning<D: Disk>(store: &Store<FileStore<D>>)
     ensures { (i : Institution) (run : List Line) → IsSound i → AreInRange run → IsClean over_files store.now
         → Leaves over_files store.now (left_after run i (i ∷ []))
         → IsTrue (files.view store.now.connection.store).is_numbered → (left : Image)
         → (files.state store.now.connection.store).may_leave left
-        → ∥ ((trees : Trees) × HoldsDatabase left trees × (held : HoldsSound trees) × IsLeftBy run i held.institution)
-        ∥₁ }
+        → ∥ ((trees : Trees) × HoldsDatabase left trees × HoldsBeginning run i trees) ∥₁ }
 {
     laws::soundness();
 }
+
+/// A journal doesn't begin by itself: where a run began with an institution that keeps none, the rows of what a stop
+/// leaves are those of one that keeps none. So `open_with` makes a store of that institution, and doesn't answer F19.
+pub fn no_journal_begins_by_itself()
+    ensures { (run : List Line) (i j : Institution) (trees : Trees) → i.journal ≡ None → IsLeftBy run i j → IsSound j
+        → HoldsRowsOf trees j → (held : HoldsSound trees) × (held.institution ≡ j) }
+{}

@@ -1,5 +1,6 @@
 -- What writes make of the rows of an institution they make beside a journal as well.
 use Rattle.std.proofs.Common.{◌≡◌, ◌∙◌, true, false, List, [], ◌∷◌, Option, None, Some, refl, sym, ap, subst, true≢false}
+use Rattle.std.specs.Option.{is_some}
 use Rattle.std.specs.Prelude.{IsSome}
 use Rattle.mf_model.specs.Institution.{Institution}
 use Rattle.mf_journal.specs.declared.following.Head.{Head}
@@ -11,9 +12,10 @@ use Rattle.mf_store_schema.specs.declared.meta.MetaRow.{MetaRow}
 use Rattle.mf_store_schema.specs.declared.writes.StoreWrite.{StoreWrite}
 use Rattle.mf_store_schema.specs.declared.writes.StoreWrite.TheVariants as write
 use Rattle.mf_store_values.specs.Flat.{tables_of}
-use Rattle.mf_store_commits.specs.Becoming.{Becomes}
-use Rattle.mf_store_noted.specs.Becoming.{BecomesKept, SpareMeta, spares_meta}
-use Rattle.mf_store_noted.specs.Kept.{meta_kept, rows_kept, tables_kept}
+use Rattle.mf_store_commits.specs.Becoming.{Becomes, SpareMeta, spares_meta}
+use Rattle.mf_store_noted.specs.Becoming.{BecomesKept}
+use Rattle.mf_store_noted.specs.Kept.{IsBegun, IsJournalOf, begins_of, meta_kept, rows_kept, tables_kept}
+use Rattle.mf_store_noted.specs.declared.journal.Journal.{Journal}
 
 module _ (meta : List MetaRow) (journal : List Filed) where
   -- the lists with another row of meta, and with a journal
@@ -103,6 +105,7 @@ pub becomes_beside : (journal : Option Head) (writes : List StoreWrite) (i j : I
     → SpareMeta writes → j.catalogue.day ≡ i.catalogue.day → j.journal ≡ i.journal → BecomesKept journal writes i j
 becomes_beside journal writes i j b spare day same = record {
   sound = b.sound;
+  same_journal = same;
   fits = all_fit (meta_kept journal i.catalogue.day ∷ []) (rows_kept journal i.journal) writes spare
       (Some (tables_of i)) b.fits;
   is = all_beside (meta_kept journal i.catalogue.day ∷ []) (rows_kept journal i.journal) writes spare
@@ -113,3 +116,8 @@ becomes_beside journal writes i j b spare day same = record {
         journal = rows_kept journal (sym same t);
       }));
 }
+
+-- a journal that is the institution's begins somewhere
+pub begun_of : (journal : Option Journal) (i : Institution) → IsJournalOf journal i → IsBegun (begins_of journal) i
+begun_of None i none = none
+begun_of (Some journal) i stands = ap is_some stands.1

@@ -1,33 +1,23 @@
 -- What writes and a line after them make of the tables of an institution that keeps a journal.
-use Rattle.std.proofs.Common.{◌≡◌, ◌∙◌, ◌⊎◌, inl, inr, ℕ, true, List, [], ◌∷◌, ◌++◌, Option, None, Some, IsTrue, refl}
-use Rattle.std.proofs.Common.{sym, ap, subst, arith, Result, Ok, Err, OnOk, OnErr}
-use Rattle.sqlite.specs.Effect.{Database}
-use Rattle.sqlite.specs.Held.{Held, state}
-use Rattle.sqlite.specs.State.{State, HasCleanDisk, Survives}
-use Rattle.sqlite.specs.Tree.{Trees}
-use Rattle.sqlite.specs.declared.error.Error.{Error}
-use Rattle.sqlite_trees.specs.declared.store.Store.{Ghosts}
+use Rattle.std.proofs.Common.{◌≡◌, ◌∙◌, true, List, [], ◌∷◌, ◌++◌, Option, None, Some, refl, sym, ap, subst}
+use Rattle.std.specs.Option.{is_some}
 use Rattle.mf_model.specs.Institution.{Institution, JournalLine, with_line}
 use Rattle.mf_model.specs.Sound.{IsSound}
-use Rattle.mf_journal.specs.Chain.{link}
 use Rattle.mf_journal.specs.Following.{Follows, line_of}
 use Rattle.mf_journal.specs.declared.following.Head.{Head}
 use Rattle.mf_journal.specs.declared.following.KeptRow.{KeptRow}
-use Rattle.mf_store_sql.specs.Numbered.{Filed}
-use Rattle.mf_store_sql.specs.Writes.{Serves, AllFit, after_all, Turns, IsSettled, MayHold}
+use Rattle.mf_store_sql.specs.Writes.{AllFit, after_all}
 use Rattle.mf_store_schema.specs.Rows.{Lists}
-use Rattle.mf_store_schema.specs.Tables.{IsPresent}
-use Rattle.mf_store_schema.specs.Writes.{schema_of, Holds, after_write, are_some, FitsLists}
+use Rattle.mf_store_schema.specs.Writes.{after_write, are_some, FitsLists}
 use Rattle.mf_store_schema.specs.declared.writes.StoreWrite.{StoreWrite}
-use Rattle.mf_store_journal.specs.Noting.{FitsNoted, after_noted_write, journal_put, with_journal}
+use Rattle.mf_store_journal.specs.Noting.{FitsNoted, after_noted_write, journal_put}
 use Rattle.mf_store_journal.specs.Rows.{filed_after, filed_beginning, filed_kept, filed_line, head_with, head_with_all}
 use Rattle.mf_store_journal.specs.declared.noting.NotedWrite.{NotedWrite}
 use Rattle.mf_store_journal.specs.declared.noting.NotedWrite.TheVariants.{Put, Begin, AddLine}
 use Rattle.mf_store_journal.proofs.RowsLemmas.{rows_more}
 use Rattle.mf_store_noted.specs.Becoming.{BecomesKept}
-use Rattle.mf_store_noted.specs.Kept.{StandsAt, noted_with, rows_kept, tables_kept}
+use Rattle.mf_store_noted.specs.Kept.{IsBegun, StandsAt, noted_with, rows_kept, tables_kept}
 use Rattle.mf_store_noted.specs.Puts.{ArePuts, IsPut}
-use Rattle.mf_store_noted.specs.Tabled.{HoldsOneKept, IsKeptIn, LeavesKept}
 
 -- ---- the writes, and what stands after them
 
@@ -117,73 +107,21 @@ module _ (begins head : Head) (i j : Institution) (kept : KeptRow) (noted puts :
   abbrev next : Institution
   next = noted_with (line_of kept) j
 
-  next_sound : IsSound next
+  pub next_sound : IsSound next
   next_sound = record { catalogue = b.sound.catalogue; tree = b.sound.tree; each = b.sound.each }
 
-  fits : AllFit after_noted_write FitsNoted noted (Some (tables_kept (Some begins) i))
+  pub next_begun : IsBegun (Some begins) next
+  next_begun = ap (λ journal. is_some (with_line (line_of kept) journal)) stands.1
+
+  pub fits : AllFit after_noted_write FitsNoted noted (Some (tables_kept (Some begins) i))
   fits = subst (λ ns. AllFit after_noted_write FitsNoted ns (Some (tables_kept (Some begins) i))) (sym items)
       (puts_fit puts (AddLine kept ∷ []) writes are (Some (tables_kept (Some begins) i)) b.fits
       (subst (AllFit after_noted_write FitsNoted (AddLine kept ∷ [])) (sym b.is)
       (line_fits begins j head stands, tt)))
 
-  become : after_all after_noted_write noted (Some (tables_kept (Some begins) i)) ≡ Some (tables_kept (Some begins) next)
+  pub become : after_all after_noted_write noted (Some (tables_kept (Some begins) i))
+      ≡ Some (tables_kept (Some begins) next)
   become = ap (λ ns. after_all after_noted_write ns (Some (tables_kept (Some begins) i))) items
       ∙ puts_after puts (AddLine kept ∷ []) writes are (Some (tables_kept (Some begins) i))
       ∙ ap (after_all after_noted_write (AddLine kept ∷ [])) b.is
       ∙ ap Some (line_put begins j head kept stands follows)
-
-  module _ {S : Type 0} (g : Ghosts S) (old new : Held S) (before : IsKeptIn g (Some begins) old i) where
-    abbrev was : State
-    was = state g old
-
-    abbrev is : State
-    is = state g new
-
-    abbrev Change : Database → Database → Type 0
-    Change = Turns (Serves schema_of Holds) (AllFit after_noted_write FitsNoted noted)
-        (after_all after_noted_write noted)
-
-    pub noted_kept : (IsTrue is.is_open → IsTrue was.is_open) → Change was.now is.now
-        → IsKeptIn g (Some begins) new next
-    noted_kept was_open turns = record {
-      sound = next_sound;
-      serves = λ live. subst (λ lists. Serves schema_of Holds is.now lists) become
-          (turns (Some (tables_kept (Some begins) i)) (before.serves (was_open live)) fits);
-    }
-
-    -- whatever came of the call, the tables are this program's
-    pub still_present : {V : Type 0} (r : Result V Error) → (IsTrue is.is_open → IsTrue was.is_open)
-        → OnOk r (Change was.now is.now) → (IsTrue is.is_open → OnErr r (is.now ≡ was.now)) → IsTrue is.is_open
-        → IsPresent is.now.schema
-    still_present (Ok v) was_open turns same live = (
-      are_some (rows_kept (Some begins) next.journal),
-      ((noted_kept was_open turns).serves live).schema_is,
-    )
-    still_present (Err e) was_open turns same live = (
-      are_some (rows_kept (Some begins) i.journal),
-      ap (λ (d : Database). d.schema) (same live) ∙ (before.serves (was_open live)).schema_is,
-    )
-
-    pub noted_stop : (HasCleanDisk is → IsTrue is.is_open → IsPresent is.now.schema)
-        → Survives was is (MayHold (Serves schema_of Holds) Holds (AllFit after_noted_write FitsNoted noted)
-        (after_all after_noted_write noted) was) → (left : List Institution) → LeavesKept g (Some begins) old left
-        → LeavesKept g (Some begins) new (next ∷ left)
-    noted_stop ours survives left l = record {
-      ours = ours;
-      whole = λ clean trees may. elim (survives.crash clean trees may) [
-        | inl early ↦ inr (l.whole (omega (arith, survives.clean, clean)) trees early)
-        | inr wrote ↦ inl (subst (λ lists. Holds trees lists) become (wrote.holds (Some (tables_kept (Some begins) i))
-            (before.serves wrote.was_open) fits))
-      ];
-    }
-
-module _ {S : Type 0} (g : Ghosts S) (begins : Head) (new : Held S) where
-  -- with nothing left to commit a stop leaves just what the tables hold
-  pub settled_leaves : ((trees : Trees) → IsTrue (state g new).is_open → (state g new).may_leave trees
-      → trees ≡ (state g new).committed.trees) → IsSettled (state g new) → (j : Institution)
-      → IsKeptIn g (Some begins) new j → LeavesKept g (Some begins) new (j ∷ [])
-  settled_leaves settled rests j kept = record {
-    ours = λ clean live. (are_some (rows_kept (Some begins) j.journal), (kept.serves live).schema_is);
-    whole = λ clean trees may. inl (rw (settled trees rests.is_open may ∙ ap (λ (d : Database). d.trees)
-        rests.committed) (kept.serves rests.is_open).holds);
-  }

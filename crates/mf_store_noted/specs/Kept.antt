@@ -1,5 +1,5 @@
 -- What tables keep of an institution that keeps a journal, too.
-use Rattle.std.specs.Prelude.{◌≡◌, ℕ, List, [], ◌∷◌, ◌++◌, Option, None, Some, option_map}
+use Rattle.std.specs.Prelude.{◌≡◌, ℕ, List, [], ◌∷◌, ◌++◌, Option, None, Some, IsSome, option_map}
 use Rattle.mf_base.specs.DayText.{day_text}
 use Rattle.mf_model.specs.Institution.{Institution, JournalLine, with_line}
 use Rattle.mf_journal.specs.declared.following.Head.{Head}
@@ -8,6 +8,8 @@ use Rattle.mf_store_schema.specs.Rows.{Lists}
 use Rattle.mf_store_schema.specs.declared.meta.MetaRow.{MetaRow}
 use Rattle.mf_store_values.specs.Flat.{schema_number, tables_of}
 use Rattle.mf_store_journal.specs.Rows.{head_with_all, journal_rows_in}
+use Rattle.mf_store_noted.specs.declared.journal.Journal.{Journal}
+use Rattle.mf_store_noted.specs.declared.journal.Place.{Place}
 
 -- the number of the schema: that of today's tables alone, or with a journal, which begins somewhere
 abbrev pub number_kept : Option Head → ℕ
@@ -37,6 +39,29 @@ noted_with line i = record i { journal = with_line line i.journal }
 -- the journal that begins here stands so after its lines
 abbrev pub StandsAt : Head → Institution → Head → Type 0
 StandsAt begins i head = (lines : List JournalLine) × (i.journal ≡ Some lines) × (head ≡ head_with_all begins lines)
+
+-- where a journal begins, if one is kept
+abbrev pub begins_of : Option Journal → Option Head
+begins_of journal = option_map (λ (j : Journal). j.begins) journal
+
+-- a journal begins somewhere just where the institution keeps one
+abbrev pub IsBegun : Option Head → Institution → Type 0
+IsBegun None i = i.journal ≡ None
+IsBegun (Some begins) i = IsSome i.journal
+
+-- the journal that is kept, if one is, is the institution's
+abbrev pub IsJournalOf : Option Journal → Institution → Type 0
+IsJournalOf None i = i.journal ≡ None
+IsJournalOf (Some journal) i = StandsAt journal.begins i journal.head
+
+-- the journal whose next line has this place
+abbrev pub journal_at : Option Place → Option Journal
+journal_at place = option_map (λ (p : Place). p.journal) place
+
+-- the next line's day is the business day
+abbrev pub IsToday : Option Place → Institution → Type 0
+IsToday None i = Unit {0}
+IsToday (Some place) i = place.day ≡ i.catalogue.day
 
 -- the institution with a journal that has no line yet
 abbrev pub journaled : Institution → Institution

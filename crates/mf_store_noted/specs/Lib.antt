@@ -2,3 +2,4 @@ pub mod Becoming
 pub mod Kept
 pub mod Puts
 pub mod Tabled
+pub mod Writing

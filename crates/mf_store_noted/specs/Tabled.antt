@@ -1,31 +1,68 @@
 -- The institution that tables hold, with its journal where they keep one.
-use Rattle.std.specs.Prelude.{◌⊎◌, List, [], ◌∷◌, Option, Some, IsTrue}
+use Rattle.std.specs.Prelude.{◌≡◌, ◌⊎◌, ℕ, List, [], ◌∷◌, Option, None, Some, IsTrue}
 use Rattle.sqlite.specs.Held.{Held, state}
 use Rattle.sqlite.specs.State.{HasCleanDisk}
 use Rattle.sqlite.specs.Tree.{Trees}
 use Rattle.sqlite_trees.specs.declared.store.Store.{Ghosts}
-use Rattle.mf_model.specs.Institution.{Institution}
+use Rattle.mf_model.specs.Institution.{Institution, newly_made}
 use Rattle.mf_model.specs.Sound.{IsSound}
 use Rattle.mf_journal.specs.declared.following.Head.{Head}
 use Rattle.mf_store_sql.specs.Writes.{Serves}
+use Rattle.mf_store_schema.specs.Calls.{OnlyFaultsShut}
 use Rattle.mf_store_schema.specs.Tables.{IsPresent}
 use Rattle.mf_store_schema.specs.Writes.{schema_of, Holds}
-use Rattle.mf_store_noted.specs.Kept.{tables_kept}
+use Rattle.mf_store_values.specs.Flat.{tables_of}
+use Rattle.mf_store_noted.specs.Kept.{IsBegun, IsJournalOf, begins_of, tables_kept}
+use Rattle.mf_store_noted.specs.declared.journal.Journal.{Journal}
+
+-- the trees hold the institution's rows, and its journal's wherever that begins, and nothing else
+pub record HoldsRowsOf (trees : Trees) (i : Institution) : Type 0 where
+  pub begins : Option Head
+  pub begun : IsBegun begins i
+  pub holds : Holds trees (Some (tables_kept begins i))
 
 -- the trees hold one of these institutions, whole
-abbrev pub HoldsOneKept : Option Head → List Institution → Trees → Type 0
-HoldsOneKept journal [] trees = ⊥
-HoldsOneKept journal (i ∷ is) trees = Holds trees (Some (tables_kept journal i)) ⊎ HoldsOneKept journal is trees
+abbrev pub HoldsOneOf : List Institution → Trees → Type 0
+HoldsOneOf [] trees = ⊥
+HoldsOneOf (i ∷ is) trees = HoldsRowsOf trees i ⊎ HoldsOneOf is trees
 
-module _ {S : Type 0} (g : Ghosts S) (journal : Option Head) where
+module _ {S : Type 0} (g : Ghosts S) where
   -- The tables hold the institution's rows and, where the journal begins here, its journal's, and nothing else; and it
   -- is sound. Of a connection that a fault has shut nothing more is known.
-  pub record IsKeptIn (h : Held S) (i : Institution) : Type 0 where
+  pub record IsKeptIn (journal : Option Head) (h : Held S) (i : Institution) : Type 0 where
     pub sound : IsSound i
     pub serves : IsTrue (state g h).is_open → Serves schema_of Holds (state g h).now (Some (tables_kept journal i))
 
+  -- the same, and the journal is the institution's
+  pub record IsTabled (journal : Option Journal) (h : Held S) (i : Institution) : Type 0 where
+    pub kept : IsKeptIn (begins_of journal) h i
+    pub keeps : IsJournalOf journal i
+
+  -- so far the disk has returned what was written
+  abbrev pub HasGoodDisk : Held S → Type 0
+  HasGoodDisk h = HasCleanDisk (state g h)
+
   -- the tables are this program's, and a stop at this moment leaves one of these institutions, whole
-  pub record LeavesKept (h : Held S) (is : List Institution) : Type 0 where
-    pub ours : HasCleanDisk (state g h) → IsTrue (state g h).is_open → IsPresent (state g h).now.schema
-    pub whole : HasCleanDisk (state g h) → (trees : Trees) → (state g h).may_leave trees
-        → HoldsOneKept journal is trees
+  pub record LeavesTables (h : Held S) (is : List Institution) : Type 0 where
+    pub ours : HasGoodDisk h → IsTrue (state g h).is_open → IsPresent (state g h).now.schema
+    pub whole : HasGoodDisk h → (trees : Trees) → (state g h).may_leave trees → HoldsOneOf is trees
+
+  -- the tables hold what they held, a stop leaves nothing more than before, and only a fault of the disk shuts the
+  -- connection
+  pub record StayTabled (old new : Held S) : Type 0 where
+    pub premise : HasGoodDisk new → HasGoodDisk old
+    pub shuts : OnlyFaultsShut (state g old) (state g new)
+    pub same : HasGoodDisk new → (journal : Option Head) (i : Institution) → IsKeptIn journal old i
+        → IsKeptIn journal new i
+    pub stop : HasGoodDisk new → (is : List Institution) → LeavesTables old is → LeavesTables new is
+
+  -- Where a new institution could not be made on this day, nothing is changed, a stop leaves nothing more than before
+  -- but that institution, whole, and only a fault of the disk shuts the connection.
+  pub record IsUnfounded (day : ℕ) (old new : Held S) : Type 0 where
+    pub premise : HasGoodDisk new → HasGoodDisk old
+    pub was_open : HasGoodDisk new → IsTrue (state g new).is_open → IsTrue (state g old).is_open
+    pub same : HasGoodDisk new → IsTrue (state g new).is_open → (state g new).now ≡ (state g old).now
+    pub shuts : OnlyFaultsShut (state g old) (state g new)
+    pub stop : HasGoodDisk new → Serves schema_of Holds (state g old).now None → (trees : Trees)
+        → (state g new).may_leave trees → (state g old).may_leave trees
+        ⊎ Holds trees (Some (tables_of (newly_made day)))

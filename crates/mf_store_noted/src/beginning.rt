@@ -14,7 +14,7 @@ ghost use Rattle.mf_store_schema.specs.declared.writes.StoreWrite.TheVariants.{P
 ghost use Rattle.mf_model.specs.Sound.{IsSound};
 ghost use Rattle.mf_store_commits.specs.Becoming.{Begins};
 ghost use Rattle.mf_store_noted.specs.Kept.{journaled, meta_kept, tables_kept};
-ghost use Rattle.mf_store_noted.specs.Tabled.{IsKeptIn, LeavesKept};
+ghost use Rattle.mf_store_noted.specs.Tabled.{IsKeptIn, LeavesTables};
 
 use crate::noted::puts;
 use mf_base::{Day, Fault};
@@ -59,7 +59,7 @@ fn begin_with<S: Alter>(
         → IsKeptIn S.Store (Some begins) connection.new (journaled i)) }
     ensures left { HasCleanDisk (state S.Store connection.new) → OnOk result ((i : Institution)
         → IsKeptIn S.Store None connection.old i → meta.now ≡ PutMeta (meta_kept (Some begins) i.catalogue.day)
-        → LeavesKept S.Store (Some begins) connection.new (journaled i ∷ [])) }
+        → LeavesTables S.Store connection.new (journaled i ∷ [])) }
     ensures same { HasCleanDisk (state S.Store connection.new) → OnErr result ((i : Institution)
         → IsKeptIn S.Store None connection.old i → IsKeptIn S.Store None connection.new i) }
 
@@ -101,7 +101,7 @@ pub fn begin_journal<S: Alter>(
         → IsKeptIn S.Store (Some begins) connection.new (journaled i)) }
     ensures left { HasCleanDisk (state S.Store connection.new) → OnOk result ((i : Institution)
         → IsKeptIn S.Store None connection.old i → i.catalogue.day ≡ day
-        → LeavesKept S.Store (Some begins) connection.new (journaled i ∷ [])) }
+        → LeavesTables S.Store connection.new (journaled i ∷ [])) }
     ensures same { HasCleanDisk (state S.Store connection.new) → OnErr result ((i : Institution)
         → IsKeptIn S.Store None connection.old i → IsKeptIn S.Store None connection.new i) }
 
@@ -137,7 +137,7 @@ fn found_with<S: Alter>(
     ensures left { HasCleanDisk (state S.Store connection.new) → OnOk result ((day : ℕ)
         → IsSound (newly_made day) → Begins writes.now day → meta.now ≡ PutMeta (meta_kept (Some begins) day)
         → Serves schema_of Holds (state S.Store connection.old).now None
-        → LeavesKept S.Store (Some begins) connection.new (journaled (newly_made day) ∷ [])) }
+        → LeavesTables S.Store connection.new (journaled (newly_made day) ∷ [])) }
     ensures same { HasCleanDisk (state S.Store connection.new) → IsTrue (state S.Store connection.new).is_open
         → OnErr result ((state S.Store connection.new).now ≡ (state S.Store connection.old).now) }
 
@@ -178,7 +178,7 @@ pub fn found_journaled<S: Alter>(
         → IsKeptIn S.Store (Some begins) connection.new (journaled (newly_made day))) }
     ensures left { HasCleanDisk (state S.Store connection.new) → OnOk result (Serves schema_of Holds
         (state S.Store connection.old).now None
-        → LeavesKept S.Store (Some begins) connection.new (journaled (newly_made day) ∷ [])) }
+        → LeavesTables S.Store connection.new (journaled (newly_made day) ∷ [])) }
     ensures same { HasCleanDisk (state S.Store connection.new) → IsTrue (state S.Store connection.new).is_open
         → OnErr result ((state S.Store connection.new).now ≡ (state S.Store connection.old).now) }
 

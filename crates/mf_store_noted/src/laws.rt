@@ -4,8 +4,8 @@ ghost use Rattle.std.specs.Prelude.{◌≡◌, List, Option};
 ghost use Rattle.mf_model.specs.Institution.{Institution};
 ghost use Rattle.mf_journal.specs.declared.following.Head.{Head};
 ghost use Rattle.mf_store_schema.specs.declared.writes.StoreWrite.{StoreWrite};
-ghost use Rattle.mf_store_commits.specs.Becoming.{Becomes};
-ghost use Rattle.mf_store_noted.specs.Becoming.{BecomesKept, SpareMeta};
+ghost use Rattle.mf_store_commits.specs.Becoming.{Becomes, SpareMeta};
+ghost use Rattle.mf_store_noted.specs.Becoming.{BecomesKept};
 
 /// Writes that make one institution's rows of another's, and leave the row of meta, make them beside a journal too,
 /// wherever it begins.

@@ -1,9 +1,13 @@
-//! Commits that a journal notes: a change of an institution's rows and a line of its journal, in one transaction.
+//! Commits over tables that hold an institution: the writes of a change in one transaction, with the line of the journal
+//! that notes it where one is kept. Contracts speak of a connection; what is known beside its tables is `mf_store`'s.
 #![tactic(auto)]
 
 mod beginning;
+mod journal;
 pub mod laws;
 mod noted;
+mod writing;
 
 pub use beginning::{JOURNALED_SCHEMA, begin_journal, found_journaled};
-pub use noted::write_noted;
+pub use journal::{Journal, Place};
+pub use writing::write_kept;

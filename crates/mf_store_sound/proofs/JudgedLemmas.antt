@@ -1,5 +1,5 @@
 -- The rows of a sound institution: what reading the tables asks of them, and what it shows.
-use Rattle.std.proofs.Common.{◌≡◌, refl, sym, ◌∙◌, subst, arith}
+use Rattle.std.proofs.Common.{◌≡◌, None, refl, sym, ◌∙◌, subst, arith}
 use Rattle.sqlite.specs.Tree.{Trees}
 use Rattle.mf_model.specs.Institution.{Institution}
 use Rattle.mf_model.specs.Sound.{IsSound}
@@ -48,13 +48,19 @@ none_lacking : (v : Version) (i : Institution) → lists_at v (tables_at v i) �
 none_lacking First i = refl
 none_lacking Second i = refl
 
+-- the journal doesn't show in the tables of a version
+plain_tables : (v : Version) (i : Institution) → tables_at v (record i { journal = None }) ≡ tables_at v i
+plain_tables First i = refl
+plain_tables Second i = refl
+
 module _ (v : Version) (trees : Trees) (lists : Lists) where
   -- trees that keep the lists read, as they rise, hold the institution whose rows these are
   pub holds_sound : (DoRise lists → HoldsAt v trees lists) → AreOfSoundAt v lists → HoldsSoundAt v trees
   holds_sound keeps are = record {
-    institution = are.institution;
-    sound = are.sound;
-    holds = subst (HoldsAt v trees) (sym are.rows_are)
+    institution = record are.institution { journal = None };
+    plain = refl;
+    sound = record { catalogue = are.sound.catalogue; tree = are.sound.tree; each = are.sound.each };
+    holds = subst (HoldsAt v trees) (sym (plain_tables v are.institution ∙ are.rows_are))
         (keeps (subst DoRise are.rows_are (do_rise v are.institution are.sound)));
   }
 

@@ -1,5 +1,5 @@
 -- What tables hold whatever rows stand there: rows of records, and those of a sound institution.
-use Rattle.std.specs.Prelude.{◌≡◌, List, [], ◌∷◌, map}
+use Rattle.std.specs.Prelude.{◌≡◌, List, [], ◌∷◌, None, map}
 use Rattle.std.specs.List.{AllByRecursion}
 use Rattle.std.specs.declared.cmp.Ordering.{Ordering}
 use Rattle.std.specs.declared.cmp.Ordering.TheVariants.{Less}
@@ -59,9 +59,10 @@ pub record DoRise (lists : Lists) : Type 0 where
 pub record CanBeHeld (lists : Lists) : Type 0 where
   pub all : AllTrue (said_of_each (λ A columns row cmp items. CanHoldRows columns row items) lists)
 
--- the trees hold the rows of a sound institution, by the tables of a version, and nothing else
+-- the trees hold the rows of a sound institution that keeps no journal, by the tables of a version, and nothing else
 pub record HoldsSoundAt (v : Version) (trees : Trees) : Type 0 where
   pub institution : Institution
+  pub plain : institution.journal ≡ None
   pub sound : IsSound institution
   pub holds : HoldsAt v trees (tables_at v institution)
 

@@ -15,7 +15,7 @@ use Rattle.mf_model.specs.Store.{left_after}
 use Rattle.mf_store.specs.Facts.{KnownStore}
 use Rattle.mf_store.specs.Stands.{StandsFor, Leaves}
 use Rattle.mf_store.specs.Stands as stores
-use Rattle.mf_store_commits.specs.Tabled.{HasGoodDisk, HoldsOneOf}
+use Rattle.mf_store_noted.specs.Tabled.{HasGoodDisk, HoldsOneOf}
 use Rattle.mf_store_files.proofs.StopLemmas.{left_files}
 use Rattle.mf_wire.specs.Runs.{RunsLines}
 use Rattle.mf_wire_lines.specs.Cut.{ended_lines, request_lines}
@@ -171,13 +171,13 @@ module _
       λ trees there. after.whole was_clean trees (rolled_back.outcomes trees there) in
       ∥∥₁_map (left_files stays_sound change_sound files run i sound range (numbered clean) whole left may)
       (λ found. (
-        found.2.institution,
+        found.2,
         found.3,
         record {
           trees = found.0;
           database = found.1;
-          sound = found.2.sound;
-          holds = found.2.holds;
+          sound = found.4;
+          rows = found.5;
         },
       ))
 

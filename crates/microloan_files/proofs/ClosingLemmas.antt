@@ -6,7 +6,7 @@ use Rattle.mf_model.specs.Run.{Line, last}
 use Rattle.mf_model.specs.Store.{left_after}
 use Rattle.mf_store.specs.Facts.{KnownStore}
 use Rattle.mf_store.specs.Stands.{StandsFor, Leaves}
-use Rattle.mf_store_commits.specs.Tabled.{HoldsOneOf}
+use Rattle.mf_store_noted.specs.Tabled.{HoldsOneOf}
 use Rattle.mf_store_files.specs.Closed.{CloseWell, HoldsByItself}
 use Rattle.mf_store_files.proofs.StopLemmas.{one_of_run}
 use Rattle.sqlite.specs.Files.{over_files}

@@ -18,7 +18,12 @@ pub opened_so : (P : Institution → Type 0) (day : ℕ) (image : Image) → (Ha
     → (i : Institution) → OpensAs day image i → P i
 opened_so P day image new found i (inl (none, is)) = subst P (sym is) (new none)
 opened_so P day image new found i (inr (v, held)) =
-    found v held.trees held.database (record { institution = i; sound = held.sound; holds = held.holds })
+    found v held.trees held.database (record {
+      institution = i;
+      plain = held.plain;
+      sound = held.sound;
+      holds = held.holds;
+    })
 
 -- what a file that held an institution holds, where its tables are as they were, or today's in their place
 pub still_held : (may : Trees → Type 0) (image left : Image) (i : Institution) → HoldsInSchema image i
@@ -26,12 +31,18 @@ pub still_held : (may : Trees → Type 0) (image left : Image) (i : Institution)
     → may found → (found ≡ trees) ⊎ Holds found (Some (tables_of held.institution)))
     → (found : Trees) → may found → HoldsDatabase left found → HoldsInSchema left i
 still_held may image left i (v, h) kept found there database =
-    elim (kept v h.trees h.database (record { institution = i; sound = h.sound; holds = h.holds }) found there) [
+    elim (kept v h.trees h.database (record {
+      institution = i;
+      plain = h.plain;
+      sound = h.sound;
+      holds = h.holds;
+    }) found there) [
       | inl is ↦ (
         v,
         record {
           trees = found;
           database = database;
+          plain = h.plain;
           sound = h.sound;
           holds = subst (λ (t : Trees). HoldsAt v t (tables_at v i)) (sym is) h.holds;
         },
@@ -41,6 +52,7 @@ still_held may image left i (v, h) kept found there database =
         record {
           trees = found;
           database = database;
+          plain = h.plain;
           sound = h.sound;
           holds = record { sound = now.sound; all = now.all };
         },

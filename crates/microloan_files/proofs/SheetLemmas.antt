@@ -11,7 +11,7 @@ use Rattle.mf_model.specs.Store.{left_after}
 use Rattle.mf_store.specs.Facts.{KnownStore}
 use Rattle.mf_store.specs.Stands.{StandsFor, Leaves}
 use Rattle.mf_store.specs.Stands as stores
-use Rattle.mf_store_commits.specs.Tabled.{HasGoodDisk}
+use Rattle.mf_store_noted.specs.Tabled.{HasGoodDisk}
 use Rattle.mf_sheet.specs.Ends.{SheetStreams, EndsWhole, NeverBegins, EndsBefore, CutsHeading, CutsRecord, EndsBy, Ends}
 use Rattle.mf_sheet.specs.Runs.{RunsRows}
 use Rattle.mf_wire_lines.specs.Streams.{Streams}

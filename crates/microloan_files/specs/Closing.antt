@@ -1,12 +1,11 @@
 -- How work over a file ends that is closed after it, and what a stop then leaves of the file.
-use Rattle.std.specs.Prelude.{◌≡◌, ℕ, List, [], Some, Result, Ok, Err}
+use Rattle.std.specs.Prelude.{◌≡◌, ℕ, List, [], Result, Ok, Err}
 use Rattle.mf_base.specs.declared.fault.Fault.{Fault}
 use Rattle.mf_base.specs.declared.fault.StreamFault.{StreamFault}
 use Rattle.mf_office.specs.declared.caller.Caller.{Caller}
 use Rattle.mf_model.specs.Institution.{Institution}
 use Rattle.mf_model.specs.Run.{Line, last}
-use Rattle.mf_store_values.specs.Flat.{tables_of}
-use Rattle.mf_store_schema.specs.Writes.{Holds}
+use Rattle.mf_store_noted.specs.Tabled.{HoldsRowsOf}
 use Rattle.mf_store_files.specs.Closed.{HoldsByItself}
 use Rattle.mf_store_files.specs.Stops.{IsLeftBy}
 use Rattle.mf_wire_lines.specs.Ends.{Ends}
@@ -30,7 +29,7 @@ module _ {D : Type 0} {g : Ghosts D} where
   abbrev pub CloseAfter : Institution → Result (Files D) (Fault × FileStore D g) → List Line → Type 0
   CloseAfter i (Ok files) run = (left : Image) → outcomes g files.log files.db left → HoldsByItself left (last run i)
   CloseAfter i (Err rest) run =
-      (left : Trees) → recovers rest.1 left → (j : Institution) × IsLeftBy run i j × Holds left (Some (tables_of j))
+      (left : Trees) → recovers rest.1 left → (j : Institution) × IsLeftBy run i j × HoldsRowsOf left j
 
   -- The lines of a source were answered as the result says, up to its end or to a fault, by one run on the institution,
   -- which is empty where there was no memory to begin. The files were closed after it.

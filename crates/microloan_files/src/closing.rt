@@ -3,7 +3,7 @@
 ghost use Rattle.std.specs.Prelude.{[], ◌∷◌};
 ghost use Rattle.mf_model.specs.Institution.{Institution};
 ghost use Rattle.mf_store.specs.Stands.{StandsFor, Leaves};
-ghost use Rattle.mf_store_commits.specs.Tabled.{HasGoodDisk};
+ghost use Rattle.mf_store_noted.specs.Tabled.{HasGoodDisk};
 ghost use Rattle.mf_store_files.specs.Closed.{CloseWell};
 ghost use Rattle.mf_wire_lines.specs.Streams.{stream_of, streams_of};
 ghost use Rattle.sqlite.specs.Files.{over_files};

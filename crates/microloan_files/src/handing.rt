@@ -6,7 +6,7 @@ ghost use Rattle.mf_model.specs.Run.{Line};
 ghost use Rattle.mf_model.specs.Sound.{AreInRange, IsSound};
 ghost use Rattle.mf_model.specs.Store.{left_after};
 ghost use Rattle.mf_store.specs.Stands.{Leaves};
-ghost use Rattle.mf_store_commits.specs.Tabled.{HasGoodDisk};
+ghost use Rattle.mf_store_noted.specs.Tabled.{HasGoodDisk};
 ghost use Rattle.sqlite.specs.Files.{file_state, over_files, HoldsDatabase};
 ghost use Rattle.sqlite.specs.State.{HasCleanDisk};
 ghost use Rattle.sqlite.specs.Tree.{Trees};

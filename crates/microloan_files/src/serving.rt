@@ -3,7 +3,7 @@
 ghost use Rattle.std.specs.Prelude.{[], ◌∷◌};
 ghost use Rattle.mf_model.specs.Institution.{Institution};
 ghost use Rattle.mf_store.specs.Stands.{StandsFor, Leaves};
-ghost use Rattle.mf_store_commits.specs.Tabled.{HasGoodDisk};
+ghost use Rattle.mf_store_noted.specs.Tabled.{HasGoodDisk};
 ghost use Rattle.sqlite.specs.Files.{over_files};
 ghost use Rattle.sqlite_store.specs.FileStore.{view};
 ghost use Rattle.sqlite_trees.specs.View.{IsClean};

@@ -4,7 +4,7 @@ ghost use Rattle.std.specs.Prelude.{◌≤◌, [], ◌∷◌, length};
 ghost use Rattle.mf_model.specs.Institution.{Institution};
 ghost use Rattle.mf_sheet_lines.specs.Sheets.{longest, sheet_rows_of};
 ghost use Rattle.mf_store.specs.Stands.{StandsFor, Leaves};
-ghost use Rattle.mf_store_commits.specs.Tabled.{HasGoodDisk};
+ghost use Rattle.mf_store_noted.specs.Tabled.{HasGoodDisk};
 ghost use Rattle.mf_wire_lines.specs.Streams.{stream_of};
 ghost use Rattle.sqlite.specs.Files.{over_files};
 ghost use Rattle.sqlite_store.specs.FileStore.{view};

@@ -1,5 +1,5 @@
 use Rattle.std.proofs.Common.{subst}
-use Rattle.mf_store_commits.specs.Tabled.{HasGoodDisk}
+use Rattle.mf_store_noted.specs.Tabled.{HasGoodDisk}
 use Rattle.mf_store.specs.Stands.{StandsFor, IsClean, Leaves}
 use Rattle.mf_wire.specs.Runs.{RunsLines}
 use Rattle.sqlite.specs.Files.{over_files}

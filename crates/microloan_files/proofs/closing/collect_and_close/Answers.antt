@@ -1,7 +1,7 @@
 use Rattle.std.proofs.Common.{subst}
 use Rattle.mf_sheet.specs.Runs.{RunsRows}
 use Rattle.mf_store.specs.Stands.{StandsFor, IsClean, Leaves}
-use Rattle.mf_store_commits.specs.Tabled.{HasGoodDisk}
+use Rattle.mf_store_noted.specs.Tabled.{HasGoodDisk}
 use Rattle.sqlite.specs.Files.{over_files}
 use Rattle.microloan_files.specs.Closing.{CloseAfter}
 use Rattle.microloan_files.proofs.SheetLemmas.{source_either_way, source_so}

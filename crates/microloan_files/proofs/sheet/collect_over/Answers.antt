@@ -1,6 +1,6 @@
 use Rattle.std.proofs.Common.{subst}
 use Rattle.mf_sheet.specs.Runs.{RunsRows}
-use Rattle.mf_store_commits.specs.Tabled.{HasGoodDisk}
+use Rattle.mf_store_noted.specs.Tabled.{HasGoodDisk}
 use Rattle.mf_store.specs.Stands.{StandsFor, IsClean, Leaves}
 use Rattle.sqlite.specs.Files.{over_files}
 use Rattle.microloan_files.specs.Beginnings.{LeaveBeginning}

@@ -1,9 +1,10 @@
-use Rattle.std.proofs.Common.{◌≡◌, false, sym, ap, ◌∙◌, string_bytes, rules}
+use Rattle.std.proofs.Common.{◌≡◌, false, refl, sym, ap, ◌∙◌, string_bytes, rules}
 use Rattle.mf_office.specs.Keys.{key_of, child_key}
 use Rattle.mf_model.specs.Institution.{office_at}
 use Rattle.mf_model.specs.Tree.{is_there, parent_of}
 use Rattle.mf_store_commits.proofs.CommitLemmas.{office_becomes, same_office, office_known, none_there}
 use Rattle.mf_store.proofs.KeptLemmas.{stays_then}
+use Rattle.mf_store.proofs.MadeLemmas.{beside}
 use Rattle.mf_store.proofs.NewsLemmas.{office_tells}
 use Rattle.mf_store.proofs.store.Store.add_office.Goals as goal
 
@@ -20,9 +21,9 @@ returns g c =
     (c.in_ok-above.ensures.value clean i (c.in_ok-taken.ensures.asks.kept.same before i s)) in
     let none = none_there (office_at c.args.number i.offices) (ap (is_there i.offices) (sym c.get.ensures.value)
     ∙ sym (c.in_ok-taken.ensures.value before i s) ∙ free) in (
-      office_becomes c.args.number c.args.parent c.args.name c.in-Some.above i _ s.sound admitted.sound
+      beside refl refl (refl, tt) (office_becomes c.args.number c.args.parent c.args.name c.in-Some.above i _ s.sound admitted.sound
           c.tree_of_offices.ensures none (ap (is_there i.offices) (sym parent) ∙ known.0)
           (known.1 ∙ ap (key_of (parent_of i.offices)) parent)
-          (same_office _ _ _ _ _ _ _ _ c.get-2.ensures.value parent (c.new.ensures ∙ text) c.of_name.ensures),
+          (same_office _ _ _ _ _ _ _ _ c.get-2.ensures.value parent (c.new.ensures ∙ text) c.of_name.ensures)),
       office_tells c.args.number c.args.parent c.args.name i s.sound none,
     ))

@@ -1,8 +1,8 @@
-use Rattle.std.proofs.Common.{sym, subst}
+use Rattle.std.proofs.Common.{None, refl, sym, subst}
 use Rattle.mf_store_commits.specs.Becoming.{Begins}
 use Rattle.mf_model.specs.Institution.{newly_made}
 use Rattle.mf_store.proofs.FirstLemmas.{founded_stands, unfounded}
-use Rattle.mf_store_commits.proofs.StandLemmas.{made_leaves}
+use Rattle.mf_store_noted.proofs.TurnedLemmas.{settled_leaves}
 use Rattle.mf_store.proofs.KeptLemmas.{first_known}
 use Rattle.mf_store.proofs.store.Store.create.Goals as goal
 
@@ -15,9 +15,9 @@ returns-in-Ok-apply-clause-stands g c clean none = first_known g.S.Store _ _ _ c
 pub returns-in-Ok-apply-clause-leaves : goal.returns-in-Ok-apply-clause-leaves
 returns-in-Ok-apply-clause-leaves g c clean none =
     let stands = returns-in-Ok-apply-clause-stands g c clean none in
-    made_leaves g.S.Store c.args.connection c.apply.new.connection c.deref.result.now (λ trees live may.
+    settled_leaves g.S.Store None c.apply.new.connection (λ trees live may.
     g.met.S.Store.settled c.apply.new.connection.store trees live may)
-    (c.in-Ok-apply.ensures.settled clean) (newly_made c.args.day) (record {
+    (c.in-Ok-apply.ensures.settled clean) (newly_made c.args.day) refl (record {
       sound = stands.sound;
       serves = stands.serves;
     })

@@ -1,13 +1,14 @@
-use Rattle.std.proofs.Common.{Ok, Err}
-use Rattle.mf_store.proofs.MadeLemmas.{made_by}
+use Rattle.std.proofs.Common.{Ok, sym, subst}
+use Rattle.mf_model.specs.Notes.{noted_now}
+use Rattle.mf_store.specs.Stands.{WritesNoted}
+use Rattle.mf_store.proofs.MadeLemmas.{committed}
 use Rattle.mf_store.proofs.store.Store.make.Goals as goal
 
-pub returns-in-Ok : goal.returns-in-Ok
-returns-in-Ok g c = rw (← c.self.view_is) (λ first commit kept becomes. made_by g.S.Store commit first _ _ _ _ _
-    (Ok tt) kept becomes c.in-Ok.ensures.premise tt c.in-Ok.ensures.shuts c.in-Ok.ensures.open c.in-Ok.ensures.made
-    c.in-Ok.ensures.left (λ clean. tt) c.in-Ok.ensures.stop c.learn.ensures tt)
-
-pub returns-in-Err : goal.returns-in-Err
-returns-in-Err g c = rw (← c.self.view_is) (λ first commit kept becomes. made_by g.S.Store commit first _ _ _ _ _
-    (Err c.in-Err.fault) kept becomes c.in-Err.ensures.premise c.in-Err.ensures.gives_up c.in-Err.ensures.shuts
-    (λ clean. tt) (λ clean. tt) (λ clean. tt) c.in-Err.ensures.same c.in-Err.ensures.stop tt (λ i known. known))
+pub returns : goal.returns
+returns g c = λ first commit kept becomes.
+    let noted = noted_now c.args.note.now in
+    committed g.S.Store commit first c.args.self.now _ c.args.writes.now noted kept
+    (λ clean i s admitted. (becomes clean i s admitted).0) c.learn.new.self
+    (subst (λ k. WritesNoted g.S.Store c.args.writes.now noted c.args.self.now k (Ok tt)) (sym c.self.view_is)
+    (c.in_ok-write.ensures {u = tt}))
+    (λ i known admitted s clean. c.learn.ensures i _ known (becomes clean i s admitted).1)

@@ -1,5 +1,5 @@
-use Rattle.std.proofs.Common.{[], sym, ap, ◌∙◌, not}
-use Rattle.mf_store_commits.proofs.StandLemmas.{made_leaves}
+use Rattle.std.proofs.Common.{None, sym, ap, ◌∙◌, not}
+use Rattle.mf_store_noted.proofs.TurnedLemmas.{settled_leaves}
 use Rattle.mf_store.proofs.store.Store.over.Goals as goal
 
 pub returns-clause-leaves : goal.returns-clause-leaves
@@ -7,5 +7,5 @@ returns-clause-leaves g c live i tabled =
     let h = c.args.connection in
     let settled = c.is_autocommit-settled.ensures.settled (c.is_autocommit-settled.ensures.value
     ∙ ap not c.requires.alone) live in
-    made_leaves g.S.Store h h [] (λ trees still may. g.met.S.Store.settled h.store trees still may)
-    (record { is_open = live; committed = sym settled }) i tabled
+    settled_leaves g.S.Store None h (λ trees still may. g.met.S.Store.settled h.store trees still may)
+    (record { is_open = live; committed = sym settled }) i tabled.keeps tabled.kept

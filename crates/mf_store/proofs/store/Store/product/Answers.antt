@@ -18,6 +18,7 @@ pub returns-clause-asks : goal.returns-clause-asks
 returns-clause-asks g c =
     learnt_asks g.S.Store _ _ _ _ c.in_ok-row.ensures.asks.kept (λ clean up.
     c.in_ok-row.ensures.asks.stays_open clean) c.learn_product.ensures.same c.learn_product.ensures.tables
+    c.learn_product.ensures.journal
     (λ clean i s.
     let k = known (product_as c.args.number) c.in_ok-row.field-0 c.in-Some-2.row (item_numbered i.catalogue.products
     c.args.number) c.in-Some-2.is (c.in_ok-row.ensures.value clean i s) in

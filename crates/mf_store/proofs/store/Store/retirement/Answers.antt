@@ -1,4 +1,4 @@
-use Rattle.std.proofs.Common.{true, ap, ◌∙◌}
+use Rattle.std.proofs.Common.{true, refl, ap, ◌∙◌}
 use Rattle.mf_model.specs.Institution.{ListedProduct, item_numbered}
 use Rattle.mf_store_values.specs.Flat.{product_as}
 use Rattle.mf_store_schema.specs.declared.products.ProductRow.{ProductRow}
@@ -15,5 +15,6 @@ returns-clause-carries g c clean i s admitted =
     let now : ListedProduct = record k.0 { retired = true } in
     record {
       becomes = retired_becomes product k.0 i c.retire-row.result s.sound admitted.sound k.1 row_is;
+      spares = (refl, tt);
       suits = retired_suits product k.0 now i c.retire-row.result k.1 row_is;
     }

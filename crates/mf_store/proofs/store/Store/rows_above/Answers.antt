@@ -1,11 +1,10 @@
-use Rattle.mf_store_values.specs.Flat.{tables_of}
 use Rattle.mf_store.proofs.KeptLemmas.{known_asks}
 use Rattle.mf_store.proofs.store.Store.rows_above.Goals as goal
 
 pub returns-clause-asks : goal.returns-clause-asks
 returns-clause-asks g c =
-    rw (← c.self.view_is) (known_asks g.S.Store _ _ _ _ c.loans_above.ensures.kept c.loans_above.ensures.gives_up
+    rw (← c.self.view_is) (known_asks g.S.Store _ _ _ _ _ c.loans_above.ensures.kept c.loans_above.ensures.gives_up
     c.loans_above.ensures.open)
 
 pub returns-clause-rows : goal.returns-clause-rows
-returns-clause-rows g c = rw (← c.self.view_is) (λ clean i s. c.loans_above.ensures.rows clean (tables_of i) s.serves)
+returns-clause-rows g c = rw (← c.self.view_is) (λ clean i s. c.loans_above.ensures.rows clean _ s.serves)

@@ -11,6 +11,7 @@ use Rattle.mf_store_commits.specs.ChangeWrites.{schedule_put}
 use Rattle.mf_store_commits.specs.Suiting.{Carries}
 use Rattle.mf_store_values.specs.Flat.{instalments_kept, kept_of, loan_in}
 use Rattle.mf_store_commits.proofs.CommitLemmas.{none_there}
+use Rattle.mf_store_commits.proofs.ChangedRowLemmas.{schedule_spares}
 use Rattle.mf_store.proofs.CatalogueLemmas.{known}
 use Rattle.mf_store_commits.proofs.EnteredLemmas.{no_entries}
 use Rattle.mf_store.proofs.KeptLemmas.{stays_then}
@@ -50,6 +51,11 @@ returns-clause-carries g c clean i s admitted =
     }))) in
     subst (λ ws. Carries (SetStage loan stage) ws i) (sym writes) (record {
       becomes = staged_becomes loan stage l i s.sound there before without admitted.sound;
+      spares = (
+        refl,
+        schedule_spares loan.office loan.number (kept_of instalments_kept i.catalogue
+            (with_stage stage l)),
+      );
       suits = stage_suits loan (record l.loan { stage = stage }) l i s.sound there (kept_of instalments_kept i.catalogue
           (with_stage stage l)) (loan_in loan.office loan.number (record l.loan { stage = stage })) refl;
     })

@@ -1,4 +1,4 @@
-use Rattle.mf_store.proofs.store.Store.commit_unnoted.Goals as goal
+use Rattle.mf_store.proofs.store.Store.make_commit.Goals as goal
 
 pub returns-in-AddOffice : goal.returns-in-AddOffice
 returns-in-AddOffice g c = rw c.in-AddOffice.is c.add_office.ensures
