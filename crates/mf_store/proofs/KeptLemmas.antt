@@ -300,9 +300,9 @@ module _ {S : Type 0} (g : Ghosts S) where
       record { kept = known_stays old new f j u; gives_up = gives_up; stays_open = is_open }
 
   -- nothing is known at first
-  pub first_known : (h : Held S) (f : Facts) (i : Institution) → f ≡ nothing_known → IsTabled g None h i
-      → StandsFor g (record { connection = h; known = f; journal = None }) i
-  first_known h f i is t = record {
+  pub first_known : (h : Held S) (f : Facts) (j : Option Journal) (i : Institution) → f ≡ nothing_known
+      → IsTabled g j h i → StandsFor g (record { connection = h; known = f; journal = j }) i
+  first_known h f j i is t = record {
     sound = t.kept.sound;
     serves = t.kept.serves;
     journal = t.keeps;

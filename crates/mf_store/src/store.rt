@@ -1,6 +1,6 @@
 //! The store: what it reads of its tables and knows beside them, how it is made and given back.
 
-ghost use Rattle.std.specs.Prelude.{◌≡◌, ◌<◌, ◌≤◌, [], ◌∷◌, Option, length, false, None, Some, IsTrue};
+ghost use Rattle.std.specs.Prelude.{◌≡◌, ◌<◌, ◌≤◌, ◌⊎◌, [], ◌∷◌, Option, length, false, None, Some, IsTrue};
 ghost use Rattle.std.specs.Prelude.{IfOk, IfErr, IfSome};
 ghost use Rattle.std.specs.Prelude.{map, filter, option_map, take};
 ghost use Rattle.mf_base.specs.declared.fault.Fault.TheVariants.{F20};
@@ -15,7 +15,10 @@ ghost use Rattle.mf_store_values.specs.Flat.{key_at, tables_of};
 ghost use Rattle.mf_journal.specs.declared.following.Head.{Head};
 ghost use Rattle.mf_model.specs.Notes.{noted_now};
 ghost use Rattle.mf_store_noted.specs.Becoming.{BecomesBeside};
-ghost use Rattle.mf_store_noted.specs.Kept.{IsBegun, IsToday, journal_at, number_kept};
+ghost use Rattle.mf_journal.specs.Founding.{founding};
+ghost use Rattle.mf_store_noted.specs.Kept.{IsBegun, IsToday, begins_of, journal_at, journaled, number_kept};
+ghost use Rattle.mf_store_noted.specs.Kept.{tables_kept};
+ghost use Rattle.sqlite.specs.Tree.{Trees};
 ghost use Rattle.mf_store_noted.specs.Tabled.{IsTabled, HasGoodDisk, IsUnfounded};
 ghost use Rattle.mf_store_values.specs.ReceiptRows.{receipt_in};
 ghost use Rattle.mf_store_schema.specs.Rows.{loan_row, office_row, is_loan_above, is_between_keys};
@@ -32,7 +35,9 @@ use mf_catalog::Product;
 use mf_model::{Note, laws};
 use mf_office::{Account, Caller, Key, Role};
 use mf_store_commits::{entry_writes, first_writes, reversal_writes};
-use mf_store_noted::{JOURNALED_SCHEMA, Journal, Place, write_kept};
+use mf_store_noted::{
+    JOURNALED_SCHEMA, Journal, Place, found_journaled, founding_head, write_kept,
+};
 use mf_store_schema::{
     Listed, ReceiptRow, SCHEMA, StoreWrite, find_receipt, list_rows, loans_above, offices_within,
 };
@@ -151,6 +156,55 @@ impl<S: Alter> Store<S> {
                 journal: None,
             }),
             Err(_) => Err((Fault::F20, connection)),
+        }
+    }
+
+    /// The same of an institution that keeps a journal, which begins at its founding and has no line yet.
+    pub fn create_journaled(
+        alloc: Global,
+        mut connection: Connection<S>,
+        day: Day,
+    ) -> Result<Store<S>, (Fault, Connection<S>)>
+        requires alone { connection.in_transaction ≡ false }
+        requires day { day ≤ last_entered_day }
+        ensures premise { IfOk result (λ store. IsClean S.Store store → HasGoodDisk S.Store connection) }
+        ensures begins { IfOk result (λ store. begins_of store.journal ≡ Some (founding 3 day)) }
+        ensures stands { IfOk result (λ store. IsClean S.Store store
+            → Serves schema_of Holds (state S.Store connection).now None
+            → StandsFor S.Store store (journaled (newly_made day))) }
+        ensures leaves { IfOk result (λ store. IsClean S.Store store
+            → Serves schema_of Holds (state S.Store connection).now None
+            → Leaves S.Store store (journaled (newly_made day) ∷ [])) }
+        ensures open { IfOk result (λ store. IsClean S.Store store → IsOpen S.Store store) }
+        ensures gives_up { IfErr result (λ e. e.0 ≡ F20) }
+        ensures same { IfErr result (λ e. HasGoodDisk S.Store e.1 → IsTrue (state S.Store e.1).is_open
+            → (state S.Store e.1).now ≡ (state S.Store connection).now) }
+
+        // A stop leaves what it could leave before, or the new institution with its journal, whole.
+        ensures stop { IfErr result (λ e. HasGoodDisk S.Store e.1
+            → Serves schema_of Holds (state S.Store connection).now None → (trees : Trees)
+            → (state S.Store e.1).may_leave trees → (state S.Store connection).may_leave trees
+            ⊎ Holds trees (Some (tables_kept (Some (founding 3 day)) (journaled (newly_made day))))) }
+        ensures alone { IfErr result (λ e. e.1.in_transaction ≡ false) }
+    {
+        let begins = match founding_head(day) {
+            Ok(begins) => begins,
+            Err(fault) => return Err((fault, connection)),
+        };
+        let known = match Known::nothing(alloc) {
+            Ok(known) => known,
+            Err(fault) => return Err((fault, connection)),
+        };
+        match found_journaled(alloc, &mut connection, day, begins) {
+            Ok(()) => Ok(Store {
+                connection,
+                known,
+                journal: Some(Journal {
+                    begins,
+                    head: begins,
+                }),
+            }),
+            Err(fault) => Err((fault, connection)),
         }
     }
 

@@ -2,6 +2,7 @@
 
 mod adopted;
 mod first_schema;
+mod journaled;
 mod opened;
 mod stops;
 

@@ -12,11 +12,13 @@ ghost use Rattle.mf_store_schema.specs.Calls.{OnlyFaultsShut};
 ghost use Rattle.mf_store_schema.specs.Writes.{schema_of, Holds};
 ghost use Rattle.mf_store_schema.specs.declared.writes.StoreWrite.TheVariants.{PutMeta};
 ghost use Rattle.mf_model.specs.Sound.{IsSound};
+ghost use Rattle.mf_journal.specs.Founding.{founding};
 ghost use Rattle.mf_store_commits.specs.Becoming.{Begins};
 ghost use Rattle.mf_store_noted.specs.Kept.{journaled, meta_kept, tables_kept};
 ghost use Rattle.mf_store_noted.specs.Tabled.{IsKeptIn, LeavesTables};
 
 use crate::noted::puts;
+use crate::writing::number_of;
 use mf_base::{Day, Fault};
 use mf_journal::Head;
 use mf_model::laws;
@@ -29,6 +31,15 @@ use std::alloc::Global;
 
 /// The number of the schema that has a journal.
 pub const JOURNALED_SCHEMA: u32 = 3;
+
+/// Where the journal of an institution begins that is founded on a business day. The error is F20.
+pub fn founding_head(day: Day) -> Result<Head, Fault>
+    ensures head { IfOk result (λ head. head ≡ founding 3 day) }
+    ensures gives_up { IfErr result (λ fault. fault ≡ F20) }
+{
+    let number = number_of(day)?;
+    Ok(Head::founding(JOURNALED_SCHEMA as u64, number))
+}
 
 /// The write of the row of meta on a business day, with the number of the schema that has a journal.
 fn journaled_meta(alloc: Global, day: Day) -> Result<StoreWrite, Fault>

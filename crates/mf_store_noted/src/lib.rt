@@ -8,6 +8,6 @@ pub mod laws;
 mod noted;
 mod writing;
 
-pub use beginning::{JOURNALED_SCHEMA, begin_journal, found_journaled};
+pub use beginning::{JOURNALED_SCHEMA, begin_journal, found_journaled, founding_head};
 pub use journal::{Journal, Place};
 pub use writing::write_kept;

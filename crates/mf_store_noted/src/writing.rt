@@ -37,7 +37,7 @@ fn write_alone<S: Alter>(
 }
 
 /// The number of a day; 1 January 2000 is 0. The error is F20.
-fn number_of(day: Day) -> Result<u64, Fault>
+pub(crate) fn number_of(day: Day) -> Result<u64, Fault>
     ensures number { IfOk result (λ number. number ≡ day) }
     ensures gives_up { IfErr result (λ fault. fault ≡ F20) }
 {

@@ -16,7 +16,7 @@ use std::rt::HostRuntime;
 use std::test::Fail;
 
 /// An institution with rows in each table.
-const INSTITUTION: &str = "\
+pub(super) const INSTITUTION: &str = "\
 1/1 POST /offices {\"number\":2,\"parent\":1,\"name\":\"North\"}\n\
 1/1 POST /staff {\"office\":2,\"name\":\"Ben\",\"role\":\"officer\"}\n\
 1/1 POST /charges {\"name\":\"Visit\",\"kind\":\"due-date\",\"calc\":\"flat\",\"value\":500}\n\

@@ -7,7 +7,7 @@ use Rattle.mf_store.proofs.KeptLemmas.{first_known}
 use Rattle.mf_store.proofs.store.Store.create.Goals as goal
 
 pub returns-in-Ok-apply-clause-stands : goal.returns-in-Ok-apply-clause-stands
-returns-in-Ok-apply-clause-stands g c clean none = first_known g.S.Store _ _ _ c.in-Ok-nothing.ensures.nothing
+returns-in-Ok-apply-clause-stands g c clean none = first_known g.S.Store _ _ _ _ c.in-Ok-nothing.ensures.nothing
     (founded_stands g.S.Store c.args.connection c.apply.new.connection _ _ (subst (λ ws. Begins ws c.args.day)
     (sym c.deref.ensures.value) c.in-Ok.ensures.writes) (c.soundness.ensures.first c.args.day c.requires.day)
     (c.in-Ok-apply.ensures.ok clean) none)
