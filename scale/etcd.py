@@ -114,6 +114,11 @@ class Etcd:
         text = base64.b64decode
         return [(text(row["key"]).decode(), text(row.get("value", "")), int(row["create_revision"])) for row in rows]
 
+    def count(self, first, last, within=None):
+        """How many keys there are from one to another."""
+        body = {"key": encoded(first), "range_end": encoded(last), "count_only": True}
+        return int(self.call("/kv/range", body, within).get("count", 0))
+
     def put_where(self, revisions, puts, lease=0, there=(), within=None):
         """Puts all, where each of these keys was made at this revision (0: isn't there), and those of `there` stand;
         tells whether it did."""

@@ -14,6 +14,7 @@ class Log:
     def __init__(self, etcd, patience):
         self.etcd, self.patience = etcd, patience
         self.institution = self.beginning = self.revision = None
+        self.goes_on = False  # whether there was more than what was read last
 
     def join(self, folder):
         """Makes sure that the folder's newest copy is of this log's institution; founds one where neither holds any."""
@@ -62,14 +63,19 @@ class Log:
     def after(self, number, known_sum, within=None):
         """The next values behind a number, each with its line. The value at the number must be the one that was
         followed: else this is another log, or one that has lost its end."""
-        found = self.etcd.found(key_of(max(number, 1)), LOG + LAST, GROUP + 1, within)
+        first = max(number, 1)
+        found = []
+        if self.goes_on:  # etcd looks at each key of a range, whatever the limit is
+            found = self.etcd.found(key_of(first), key_of(first + GROUP + 1), GROUP + 1, within)
+        if len(found) <= GROUP:
+            found = self.etcd.found(key_of(first), LOG + LAST, GROUP + 1, within)
+        self.goes_on = len(found) > GROUP
         if number:
             if not found:
                 raise Refused(f"the log ends before line {number}, which was followed: etcd has lost lines")
             if found[0][0] == key_of(number) and sum_of(found[0][1]) != known_sum:
                 raise Refused(f"line {number} of the log is not the one that was followed: etcd has lost lines")
         keys = [key for key, _, _ in found]
-        first = max(number, 1)
         if keys != [key_of(place) for place in range(first, first + len(keys))]:
             raise Refused(f"the log has no line {first}, or one behind it: copy a newer kept folder of another replica")
         return [(value, line_in(key, value)) for key, value, _ in found[bool(number) :]]
