@@ -36,6 +36,11 @@ class Refused(Exception):
     """This folder and this log don't belong together, or the folder is in use: a person has to look."""
 
 
+def version():
+    """The version of the program, as it says it."""
+    return subprocess.run([PROGRAM, "--version"], stdout=subprocess.PIPE, check=True).stdout.decode().strip()
+
+
 class Place:
     """Where a copy stands: of which institution it is, how many lines of the log it holds, and the sum of the last of
     them (None at 0). `term` tells the last writer that it followed, by the revision of its key, and `wrote` whether it
