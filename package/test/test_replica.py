@@ -6,6 +6,7 @@ They need root and mmdebstrap. Where a machine lets no systemd run in namespaces
 import glob
 import json
 import os
+import shlex
 import shutil
 import subprocess
 import tempfile
@@ -54,7 +55,8 @@ class Replica(unittest.TestCase):
     def ask(self, port, method, path, members=None):
         """The status and the body of a message by the head manager."""
         body = "" if members is None else json.dumps(members)
-        status, _, told = self.root.run(f"python3 - {port} {method} {path} '{body}'", given=ASK).partition(" ")
+        words = " ".join(map(shlex.quote, (str(port), method, path, body)))
+        status, _, told = self.root.run(f"python3 - {words}", given=ASK).partition(" ")
         return int(status), json.loads(told) if told.startswith("{") else None
 
     def wait_until(self, holds, seconds=120):
