@@ -129,7 +129,7 @@ class Replica(unittest.TestCase):
         said = self.root.run(f"microloan-replica-upgrade --folder {FOLDER} --etcd 127.0.0.1:2379")
         self.assertIn(f"behind line {number} the log is answered by microloan 1.", said)
         self.assertIn("before by microloan 0.9", said)
-        self.assertTrue(before.startswith("0 microloan 1."), before)
+        self.assertRegex(before, "^[0-9]+ microloan 1[.]")
         self.root.run(f"systemctl reset-failed {UNIT}; systemctl start {UNIT}")
         self.enter("After the upgrade")
 
