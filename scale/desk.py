@@ -22,6 +22,7 @@ TOP = os.path.dirname(os.path.dirname(os.path.abspath(__file__)))
 PROGRAM = os.environ.get("MICROLOAN", os.path.join(TOP, "microloan"))
 FILE, PLACE = "desk.db", "place.json"
 FILES = {FILE, FILE + "-wal", PLACE, PLACE + ".new"}
+PIPE = 32768  # bytes that are written to the desk before a reply is read: fewer than the pipe takes
 NOTE_EVERY = 1  # seconds between two notes of a run's place
 READING = b"1/1 GET /business-day"
 MADE = re.compile("kept-[0-9]+|part|run-[a-z0-9_]{8}")
@@ -33,6 +34,11 @@ class DeskFailed(Exception):
 
 class Refused(Exception):
     """This folder and this log don't belong together, or the folder is in use: a person has to look."""
+
+
+def version():
+    """The version of the program, as it says it."""
+    return subprocess.run([PROGRAM, "--version"], stdout=subprocess.PIPE, check=True).stdout.decode().strip()
 
 
 class Place:
@@ -167,10 +173,10 @@ def with_file(path, act):
 
 
 class Desk:
-    """`microloan batch` over a copy of the folder's newest copy."""
+    """`microloan batch` over a copy of the folder's newest copy. `memory` is a folder in memory for its file."""
 
-    def __init__(self, folder, institution):
-        self.folder, self.institution = folder, institution
+    def __init__(self, folder, institution, memory=None):
+        self.folder, self.institution, self.memory = folder, institution, memory
         self.earlier = set(folder.runs())  # to be kept until a newer copy stands
         copy = folder.copy()
         place = (copy and Place.beside(copy)) or Place(institution)
@@ -183,7 +189,7 @@ class Desk:
     def start(self):
         """Begins with the newest copy, in a folder of its own: the process of a run that was killed may still be
         ending in its. It is open, however long that takes, once it has answered a reading."""
-        self.run = tempfile.mkdtemp(prefix="run-", dir=self.folder.path)
+        self.run = tempfile.mkdtemp(prefix="run-", dir=(self.memory or self.folder).path)
         self.noted_at = None
         words, copy = [PROGRAM, "batch", "--file", os.path.join(self.run, FILE)], self.folder.copy()
         if copy:
@@ -192,16 +198,20 @@ class Desk:
         self.process = subprocess.Popen(words, stdin=subprocess.PIPE, stdout=subprocess.PIPE, start_new_session=True)
         self.exchange(READING)
 
-    def exchange(self, line):
+    def exchange(self, *lines):
+        """The reply to the last of some lines, which the pipe takes at once (but for one alone)."""
         try:
-            self.process.stdin.write(line + b"\n")
+            self.process.stdin.write(b"".join(line + b"\n" for line in lines))
             self.process.stdin.flush()
         except OSError:
             raise DeskFailed("it ended") from None
-        reply = self.process.stdout.readline()
-        if not reply.endswith(b"\n") or reply.startswith(GIVEN_UP):
-            raise DeskFailed(f"it answered {reply[:40]}")
-        self.answered_at = time.monotonic()
+        for _ in lines:
+            reply = self.process.stdout.readline()
+            if not reply.endswith(b"\n") or reply.startswith(GIVEN_UP):
+                raise DeskFailed(f"it answered {reply[:40]}")
+            self.answered_at = time.monotonic()
+            if self.busy_since is not None:
+                self.busy_since = self.answered_at
         return reply[:-1]
 
     @contextlib.contextmanager
@@ -216,6 +226,18 @@ class Desk:
         """The reply to a reading, or to a line that is counted by `count` where it changes something."""
         with self.waited_for():
             return self.exchange(line)
+
+    def follow(self, values):
+        """Takes the next values of the log, each with its line, as many at a time as the pipe holds."""
+        while values:
+            size, many = 0, 0
+            while many < len(values) and (many == 0 or size + len(values[many][1]) < PIPE):
+                size, many = size + len(values[many][1]) + 1, many + 1
+            with self.waited_for():
+                self.exchange(*[line for _, line in values[:many]])
+            for value, _ in values[:many]:
+                self.count(value)
+            values = values[many:]
 
     def count(self, value):
         """Takes note that the line just answered is the next one of the log, where it stands as `value`."""
@@ -252,6 +274,14 @@ class Desk:
         if self.process.wait() != 0:
             raise DeskFailed(f"it ended with status {self.process.returncode}")
         if self.number > self.folder.kept:
-            self.folder.take(self.run, self.place())
+            (self.folder.take_copy if self.memory else self.folder.take)(self.run, self.place())
         if self.noted_at is not None:
             self.folder.sweep(runs=self.earlier | {os.path.basename(self.run)})
+        if self.memory:
+            shutil.rmtree(self.run)
+
+    def drop(self):
+        """Ends the process, whose file is of no use."""
+        self.process.kill()
+        self.process.wait()
+        shutil.rmtree(self.run)

@@ -7,7 +7,7 @@ import time
 
 PATIENCE, PASSWORD_PATIENCE = 1, 5  # seconds that one node is waited for; a password takes it longer
 WRITER, LOG, KEPT, LAST = "microloan/writer", "microloan/log/", "microloan/kept/", "~"
-INSTITUTION = "microloan/institution"
+INSTITUTION, ANSWERED_BY = "microloan/institution", "microloan/program"
 
 
 class Lost(Exception):
@@ -24,6 +24,18 @@ class NoAnswer(Exception):
 
 def encoded(text):
     return base64.b64encode(text if isinstance(text, bytes) else text.encode()).decode()
+
+
+def range_of(first, last=None, limit=0):
+    """What etcd is asked for the keys from one to another, or for one."""
+    return {"key": encoded(first), "limit": limit} | ({"range_end": encoded(last)} if last else {})
+
+
+def rows_of(told):
+    """The keys of a range, with the values and the revisions that made them."""
+    text = base64.b64decode
+    rows = told.get("kvs", [])
+    return [(text(row["key"]).decode(), text(row.get("value", "")), int(row["create_revision"])) for row in rows]
 
 
 def key_of(number):
@@ -109,16 +121,25 @@ class Etcd:
 
     def found(self, first, last=None, limit=0, within=None):
         """The keys from one to another, with the values and the revisions that made them, as a majority has them."""
-        body = {"key": encoded(first), "limit": limit} | ({"range_end": encoded(last)} if last else {})
-        rows = self.call("/kv/range", body, within).get("kvs", [])
-        text = base64.b64decode
-        return [(text(row["key"]).decode(), text(row.get("value", "")), int(row["create_revision"])) for row in rows]
+        return rows_of(self.call("/kv/range", range_of(first, last, limit), within))
 
-    def put_where(self, revisions, puts, lease=0, there=(), within=None):
-        """Puts all, where each of these keys was made at this revision (0: isn't there), and those of `there` stand;
-        tells whether it did."""
+    def found_at_once(self, *ranges, within=None):
+        """What `found` gives for each of several ranges, as all stood at one moment."""
+        asked = {"success": [{"request_range": range_of(*words)} for words in ranges]}
+        told = self.call("/kv/txn", asked, within)["responses"]
+        return [rows_of(response["response_range"]) for response in told]
+
+    def count(self, first, last, within=None):
+        """How many keys there are from one to another."""
+        body = {"key": encoded(first), "range_end": encoded(last), "count_only": True}
+        return int(self.call("/kv/range", body, within).get("count", 0))
+
+    def put_where(self, revisions, puts, lease=0, there=(), values=(), within=None):
+        """Puts all, where each of these keys was made at this revision (0: isn't there), those of `there` stand, and
+        those of `values` have these; tells whether it did."""
         compare = [{"key": encoded(key), "target": "CREATE", "create_revision": at} for key, at in revisions]
         compare += [{"key": encoded(key), "target": "CREATE", "result": "GREATER"} for key in there]
+        compare += [{"key": encoded(key), "target": "VALUE", "value": encoded(value)} for key, value in values]
         puts = [{"key": encoded(key), "value": encoded(value), "lease": lease} for key, value in puts]
         asked = {"compare": compare, "success": [{"request_put": put} for put in puts]}
         return self.call("/kv/txn", asked, within).get("succeeded", False)

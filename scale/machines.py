@@ -5,6 +5,8 @@ joins them. Each machine has a folder, a node of etcd and a replica, which is st
 It takes root, and etcd-server and iproute2 of Debian.
 """
 import contextlib
+import importlib.machinery
+import importlib.util
 import os
 import signal
 import subprocess
@@ -18,6 +20,14 @@ HERE = os.path.dirname(os.path.abspath(__file__))
 NAMES = {"a": "10.0.0.1", "b": "10.0.0.2", "c": "10.0.0.3"}
 FRONT = "10.0.0.9"
 ETCD = ",".join(f"{address}:2379" for address in NAMES.values())
+
+
+def module(name):
+    """A script beside this file."""
+    loader = importlib.machinery.SourceFileLoader(name, os.path.join(HERE, name))
+    made = importlib.util.module_from_spec(importlib.util.spec_from_loader(name, loader))
+    loader.exec_module(made)
+    return made
 
 
 def ip(*words):
