@@ -564,6 +564,11 @@ class Left(Case):
         b'2/1 POST /loans/0002-000004/entries/1/reverse\n'
     )
     AMOUNTS = ("100", "683.33", "41.20", "0.01", "1100.50")
+    WITHOUT_THE_FILE = """
+        const real = window.fetch;
+        window.fetch = (url, ...more) =>
+            String(url).endsWith(".wasm") ? Promise.reject(new TypeError("lost")) : real(url, ...more);
+    """
     PORTIONS = ("principal", "interest", "fees", "penalties")
 
     def facts(self, phone, line):
@@ -627,8 +632,7 @@ class Left(Case):
             zoe = self.phone(it, "zoe")
             zoe.take_along()
             zoe.type(1, "100")
-            zoe.script("const real = fetch; window.fetch = async (url, ...more) => { if (String(url).endsWith('.wasm')) "
-                       "throw new TypeError('lost'); return real(url, ...more); }")
+            zoe.script(self.WITHOUT_THE_FILE)
             self.certain(zoe)
 
     def certain(self, zoe):

@@ -1,8 +1,8 @@
 // What a payment leaves of a loan, as the desk will say it, worked out on this phone. Where this browser can't, or
 // where what it works out of the loan's entries isn't what the desk told, the phone shows what is certain instead.
-import {coreOf, PORTIONS} from "../shared/account.js";
 import {charge, product} from "../shared/desk.js";
 import {sum} from "../shared/money.js";
+import {coreOf, PORTIONS} from "./kept-account.js";
 
 const TERMS = ["method", "rate", "frequency", "every", "principal_grace", "interest_grace", "strategy"];
 

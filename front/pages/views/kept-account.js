@@ -1,7 +1,7 @@
 // What is left of a loan, and what a payment leaves, as the desk will say it: pages.wasm is the source by which the
 // desk works it out, compiled another way (front/core) and compared with the program (bench/pages-wasm). It wants a
 // browser with memory64.
-import {dayOfNumber, numberOfDay} from "./days.js";
+import {dayOfNumber, numberOfDay} from "../shared/days.js";
 
 // Choices are named by their place, from 1.
 const METHODS = ["flat", "declining-equal-principal", "declining-equal-instalments"];
