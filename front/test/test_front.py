@@ -210,10 +210,11 @@ class OtherSites(unittest.TestCase):
                 status, fields, _ = DESK.exchange(name, "GET", path)
                 self.assertEqual(status, wanted)
                 policies = "; ".join(fields.get_all("Content-Security-Policy"))
-                self.assertIn("default-src 'self'; img-src 'self' data:", policies)
+                scripts = "script-src 'self' 'wasm-unsafe-eval'"
+                self.assertIn(f"default-src 'self'; {scripts}; img-src 'self' data:", policies)
                 self.assertIn("worker-src 'self'; manifest-src 'self'", policies)
                 self.assertIn("frame-ancestors 'none'", policies)
-                self.assertNotIn("unsafe", policies)
+                self.assertNotIn("unsafe", policies.replace("'wasm-unsafe-eval'", ""))
                 self.assertEqual(fields["X-Content-Type-Options"], "nosniff")
                 self.assertEqual(fields["Referrer-Policy"], "no-referrer")
                 self.assertEqual(fields["X-Frame-Options"], "DENY")

@@ -29,7 +29,8 @@ OPEN = CUT | {"offline": False}
 SLOW = OPEN | {"latency": 60}
 AMOUNTS = "return [...document.querySelectorAll('.paid-field')].map((one) => one.value)"
 FACTS = """
-return [...document.querySelectorAll('.sheet .fact')].map((one) => [...one.children].map((part) => part.innerText))
+return [...document.querySelectorAll('.sheet .fact')].map((one) =>
+    [...one.children].map((part) => part.innerText.replaceAll('\\u00a0', ' ')))
 """
 # what stands in the browser's database, as bytes: none of it may be readable
 KEPT = """
@@ -469,6 +470,8 @@ class Receipts(Case):
         "receipt: 2-20240331-000001\ninstitution: microloan\noffice: 2 North\nloan: 0002-000001\nclient: Client 1\n"
         "day: 2024-03-31\nbefore: 1020.00\npaid: 100.00\nleft: 920.00\nentered: no"
     )
+    # 10.00 of interest and 90.00 of principal are paid; 336.67 are due on April 30
+    LEFT = "920.00", "principal 910.00 · interest 10.00", "583.33", "Apr 30, 2024 · 336.67"
 
     def test_typed_and_entered(self):
         with loans.desk_with(FEW) as it:
@@ -498,7 +501,8 @@ class Receipts(Case):
         zoe.wait(lambda: zoe.all(".slip .fact"), "the receipt")
         facts = dict(zoe.script(FACTS))
         self.assertEqual((facts["Left to pay before"], facts["Paid"]), ("1,020.00", "100.00"))
-        self.assertEqual(facts["Left for certain: before, less paid"], "920.00")
+        left = facts["Left to pay"], facts["Of it"], facts["Due by now"], facts["Next instalment"]
+        self.assertEqual(left, self.LEFT)
         self.assertEqual((facts["Office"], facts["Loan"], facts["Client"]), ("2 North", "0002-000001", "Client 1"))
         self.assertEqual((facts["Day"], facts["Receipt number"]), ("Mar 31, 2024", "2-20240331-000001"))
         self.assertIn(state, zoe.text(".slip"))
@@ -512,7 +516,7 @@ class Receipts(Case):
         zoe.script("history.back()")
         zoe.press("Share")
         given = zoe.script("return window.given.text")
-        self.assertIn("Paid: 100.00\nLeft for certain: before, less paid: 920.00\n", given)
+        self.assertIn("Paid: 100.00\nLeft to pay: 920.00\n", given)
         self.assertIn("Not entered yet", given)
 
     def prints(self, zoe):
@@ -537,11 +541,155 @@ class Receipts(Case):
             zoe.follow("Receipt", ".round-lines")
             zoe.wait(lambda: zoe.all(".code"), "the code")
             facts = dict(zoe.script(FACTS))
-            self.assertEqual(facts["Left for certain: before, less paid"], "0.00")
-            self.assertEqual(facts["Overpaid"], "80.50")
+            self.assertEqual((facts["Left to pay"], facts["Overpaid"]), ("0.00", "80.50"))
+            self.assertNotIn("Next instalment", facts)
             code = code_in(desk.screenshot(zoe.driver, "receipt-other-script", whole=True)).splitlines()
             self.assertIn("client: Zoë Ñandú 山田", code)
             self.assertEqual(code[-3:], ["left: 0.00", "overpaid: 80.50", "entered: no"])
+
+
+class Left(Case):
+    """What a payment leaves, worked out on the phone, is what the desk answers once the payment is entered."""
+
+    # A charge with each instalment, another strategy; on the loans a fee, a waiver, a penalty, and what is overpaid.
+    CHARGED = loans.LINES.replace(loans.PRODUCT, b"") + (
+        b'1/1 POST /charges {"name":"Each","kind":"instalment","calc":"percent-of-amount","value":50}\n'
+        + loans.PRODUCT.replace(b'"mifos-standard-strategy"', b'"due-first-by-portion","instalment_charge":3')
+    )
+    LINES = CHARGED + FEW.removeprefix(loans.LINES) + (
+        b'2/2 POST /loans/0002-000001/fees {"charge":1,"due":"2024-04-01"}\n'
+        b'2/1 POST /loans/0002-000002/waivers {"instalment":2,"portion":"interest"}\n'
+        b'2/2 POST /loans/0002-000003/penalties {"instalment":1}\n'
+        b'2/3 POST /loans/0002-000004/repayments {"amount":30000,"day":"2024-03-30","receipt":"N-4"}\n'
+        b'2/1 POST /loans/0002-000004/entries/1/reverse\n'
+    )
+    AMOUNTS = ("100", "683.33", "41.20", "0.01", "1100.50")
+    WITHOUT_THE_FILE = """
+        const real = window.fetch;
+        window.fetch = (url, ...more) =>
+            String(url).endsWith(".wasm") ? Promise.reject(new TypeError("lost")) : real(url, ...more);
+    """
+    PORTIONS = ("principal", "interest", "fees", "penalties")
+
+    def facts(self, phone, line):
+        """The receipt of a line's payment."""
+        receipt = f"receipt/0002-{line:06}/2-20240331-{line:06}"
+        phone.script("location.hash = arguments[0]", f"#/kept/{PLACE}/{receipt}")
+        phone.wait(lambda: phone.all(".code") and f"0002-{line:06}" in phone.text(".slip"), "the receipt")
+        return dict(phone.script(FACTS))
+
+    def typed(self, it, who="zoe"):
+        phone = self.phone(it, who)
+        phone.take_along()
+        phone.network(CUT)
+        for line, amount in enumerate(self.AMOUNTS, 1):
+            phone.type(line, amount)
+        phone.wait(lambda: phone.bar().startswith(f"{len(self.AMOUNTS)} not sent"), "it")
+        return phone
+
+    def answered(self, it, line):
+        """What the desk answers of a loan, as a receipt shows it."""
+        _, told = it.send("head", "GET", f"/api/loans/0002-{line:06}")
+        _, schedule = it.send("head", "GET", f"/api/loans/0002-{line:06}/schedule")
+        rows = [one for one in schedule["instalments"] if one["outstanding"]]
+        parts = [f"{name} {told['outstanding'][name] / 100:.2f}" for name in self.PORTIONS if told["outstanding"][name]]
+        due = sum(one["outstanding"] for one in rows if one["due"] <= "2024-03-31")
+        later = [one["outstanding"] for one in rows if one["due"] > "2024-03-31"]
+        wanted = {
+            "Left to pay": f"{sum(told['outstanding'].values()) / 100:.2f}",
+            "Of it": " · ".join(parts) if len(parts) > 1 else None,
+            "Due by now": f"{due / 100:.2f}" if due else None,
+            "Next instalment": f"Apr 30, 2024 · {later[0] / 100:.2f}" if later else None,
+            "Overpaid": f"{told['overpaid'] / 100:.2f}" if told["overpaid"] else None,
+        }
+        return {name: value for name, value in wanted.items() if value is not None}
+
+    def test_as_the_desk_answers(self):
+        with loans.desk_with(self.LINES) as it:
+            zoe = self.typed(it)
+            told = {line: self.facts(zoe, line) for line in range(1, COUNT + 1)}
+            self.assertIn("was worked out on this phone, as the desk works it out", zoe.text(".slip"))
+            for line, (amount, facts) in enumerate(zip(self.AMOUNTS, told.values()), 1):
+                paid = {"amount": round(float(amount) * 100), "day": "2024-03-31", "receipt": f"2-20240331-{line:06}"}
+                status, _ = it.send("tom", "POST", f"/api/loans/0002-{line:06}/repayments", paid)
+                self.assertEqual(status, 201)
+                names = ("Left to pay", "Of it", "Due by now", "Next instalment", "Overpaid")
+                shown = {name: facts[name].replace("1,0", "10") for name in names if name in facts}
+                self.assertEqual(shown, self.answered(it, line), line)
+            self.assertEqual(it.send("head", "GET", "/api/loans/0002-000005")[1]["status"], 700)
+
+    def test_a_browser_without_memory64(self):
+        """It shows what is certain, as it does where the file didn't come."""
+        with loans.desk_with(FEW) as it:
+            zoe = self.phone(it, "zoe")
+            zoe.take_along()
+            zoe.type(1, "100")
+            zoe.script("WebAssembly.validate = () => false")
+            self.certain(zoe)
+
+    def test_the_file_did_not_come(self):
+        with loans.desk_with(FEW) as it:
+            zoe = self.phone(it, "zoe")
+            zoe.take_along()
+            zoe.type(1, "100")
+            zoe.script(self.WITHOUT_THE_FILE)
+            self.certain(zoe)
+
+    def certain(self, zoe):
+        facts = self.facts(zoe, 1)
+        self.assertEqual(facts["Left for certain: before, less paid"], "920.00")
+        self.assertNotIn("Left to pay", facts)
+        self.assertNotIn("worked out on this phone", zoe.text(".slip"))
+
+    def test_what_the_desk_told_is_not_what_it_works_out(self):
+        """Then nothing is worked out: what is kept of the loan says one cent more than its entries come to."""
+        with loans.desk_with(FEW) as it:
+            zoe = self.phone(it, "zoe")
+            zoe.take_along()
+            script = """
+                const {leftAfter} = await load("./views/kept-left.js");
+                const {readRound} = await load("./views/kept-rounds.js");
+                const round = await readRound("2 2024-03-31");
+                const {account} = round.lines[0];
+                const asked = [{number: "R", cents: 100n}];
+                const told = async () => (await leftAfter(round, account, asked))?.status ?? null;
+                const right = await told();
+                account.told.interest += 1;
+                return [right, await told()];
+            """
+            self.assertEqual(zoe.module(script), [300, None])
+
+    def test_what_the_desk_would_refuse(self):
+        """A payment more on a loan that an earlier one has paid off, as the phone knows."""
+        with loans.desk_with(FEW) as it:
+            zoe = self.phone(it, "zoe")
+            zoe.take_along()
+            script = """
+                const {showReceipt} = await load("./views/kept-receipt.js");
+                const {readRound} = await load("./views/kept-rounds.js");
+                const round = await readRound("2 2024-03-31");
+                const paid = {receipt: "A", amount: 102000n, before: 102000n, reversed: false, number: 1};
+                const now = {payments: [paid], results: {A: "entered"}, receipt: "B", cents: 500n, owed: 500n};
+                Object.assign(round.lines[0], now);
+                await showReceipt(document.querySelector(".page"), round, "0002-000001", "B");
+            """
+            zoe.module(script)
+            words = "The desk would refuse this payment: The status of the loan does not allow it."
+            zoe.wait(lambda: words in zoe.text(".slip"), "what the desk would say")
+            self.assertEqual(dict(zoe.script(FACTS))["Left for certain: before, less paid"], "0.00")
+            zoe.look("receipt-refused")
+
+    def test_nothing_else_becomes_code(self):
+        """The policy lets pages.wasm run, and no text."""
+        with loans.desk_with(FEW) as it:
+            zoe = self.phone(it, "zoe")
+            made = """
+                const tried = () => { try { return new Function("return 'made'")(); } catch ({name}) { return name; } };
+                return new Promise((done) => setTimeout(() => done(tried())));  // past what a driver may do
+            """
+            self.assertEqual(zoe.module(made), "EvalError")
+            empty = "return WebAssembly.validate(new Uint8Array([0, 97, 115, 109, 1, 0, 0, 0]))"
+            self.assertTrue(zoe.module(empty))
 
 
 class HandOver(Case):

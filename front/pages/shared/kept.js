@@ -11,13 +11,22 @@ const ONLY = "only";
 
 let opening = null;
 
+// The next use opens it anew.
+function forgetOpening() {
+    opening = null;
+}
+
 function database() {
     opening ??= new Promise((done, refuse) => {
         const asked = indexedDB.open(NAME, 1);
         asked.onupgradeneeded = () => STORES.forEach((name) => asked.result.createObjectStore(name));
-        asked.onsuccess = () => done(asked.result);
+        asked.onsuccess = () => {
+            asked.result.onclose = forgetOpening;  // the browser ended it, as where the disk is full
+            done(asked.result);
+        };
         asked.onerror = () => refuse(asked.error);
     });
+    opening.catch(forgetOpening);
     return opening;
 }
 

@@ -6,6 +6,7 @@ import {facts, pageHead} from "../shared/tables.js";
 import {note} from "../shared/dialogs.js";
 import {say, showDated, showDay, showMoney} from "../shared/words.js";
 import {codeOf} from "./kept-code.js";
+import {leftAfter, shownOf} from "./kept-left.js";
 
 const SENT = ["entered", "repeated"];
 const ENTERED = {entered: "yes", typed: "no", unknown: "unknown"};  // as the code says it
@@ -21,8 +22,17 @@ export function ownPayments({payments, results, receipt, cents, owed, isSent}) {
 }
 
 // what is left for certain after a payment: what was left before it, less what is paid; and what is paid beyond that
-function leftAfter({cents, before}) {
+function certainAfter({cents, before}) {
     return cents > before ? {left: 0n, over: cents - before} : {left: before - cents, over: 0n};
+}
+
+// What is left after a payment as the desk will say it, with all that it says of it, or else what is certain.
+async function tellAfter(round, line, payment) {
+    const payments = ownPayments(line);
+    const upTo = payments.slice(0, payments.findIndex(({number}) => number === payment.number) + 1);
+    const told = await leftAfter(round, line.account, upTo);
+    const isTold = told !== null && !told.fault;
+    return isTold ? shownOf(told, round.day) : {...certainAfter(payment), fault: told?.fault ?? null};
 }
 
 export function receiptAddress({office, day}, loan, number) {
@@ -43,7 +53,7 @@ export function receiptLinks(round, line, begin) {
     });
 }
 
-export function showReceipt(page, round, loan, number) {
+export async function showReceipt(page, round, loan, number) {
     const line = round.lines.find((one) => one.loan === loan);
     const payment = line && ownPayments(line).find((one) => one.number === number && one.before !== null);
     const trail = [
@@ -54,7 +64,7 @@ export function showReceipt(page, round, loan, number) {
         fill(page, pageHead({title: say("receipt"), trail}), card(null, emptyState(say("slip.none"))));
         return;
     }
-    const told = {round, line, ...payment, ...leftAfter(payment)};
+    const told = {round, line, ...payment, ...(await tellAfter(round, line, payment))};
     const slip = slipNode(told);
     const share = () => navigator.share({title: say("receipt"), text: plainWords(told)}).catch(tellUnshared);
     const actions = [
@@ -81,12 +91,26 @@ function print(slip, paper) {
 }
 
 // what stands on a receipt, each with its words
-function pairsOf({round, line, number, cents, before, left, over}) {
+function pairsOf(told) {
+    const {round, line, number, cents, before, over} = told;
     return [
         [say("office"), `${round.office} ${round.officeName}`], [say("loan"), line.loan], [say("client"), line.name],
         [say("day"), showDay(round.day)], [say("slip.before"), showMoney(before)],
-        [say("round.paid"), showMoney(cents)], [say("slip.left"), showMoney(left)],
-        over > 0n && [say("overpaid"), showMoney(over)], [say("slip.number"), number]
+        [say("round.paid"), showMoney(cents)], ...leftPairs(told), over > 0n && [say("overpaid"), showMoney(over)],
+        [say("slip.number"), number]
+    ].filter(Boolean);
+}
+
+// Where the desk's own source told it: what it is made of, and what comes next.
+function leftPairs({left, portions, due, next}) {
+    if (portions === undefined) {
+        return [[say("slip.left"), showMoney(left)]];
+    }
+    const parts = portions.map(([name, cents]) => `${say(`portion.${name}`)}\u00a0${showMoney(cents)}`);
+    return [
+        [say("left-to-pay"), showMoney(left)], parts.length > 1 && [say("slip.parts"), parts.join(" · ")],
+        due > 0n && [say("slip.due"), showMoney(due)],
+        next && [say("slip.next"), `${showDay(next.due)} · ${showMoney(next.outstanding)}`]
     ].filter(Boolean);
 }
 
@@ -94,13 +118,20 @@ function stateWords({state}) {
     return say(`slip.${state}`);
 }
 
-function knownWords({round}) {
-    return say("slip.known", {time: showDated(round.taken)});
+function knownWords({round, portions}) {
+    const known = say("slip.known", {time: showDated(round.taken)});
+    return portions === undefined ? known : `${known} ${say("slip.worked-out")}`;
+}
+
+// what the desk would answer to a payment that isn't entered
+function faultWords({fault, state}) {
+    return fault && state !== "entered" ? say("slip.fault", {why: say(`refusal.${fault}.what`)}) : null;
 }
 
 function plainWords(told) {
     const lines = pairsOf(told).map(([words, value]) => `${words}: ${value}`);
-    return [institution.name, say("receipt"), ...lines, stateWords(told), knownWords(told)].join("\n");
+    const more = [stateWords(told), faultWords(told), knownWords(told)].filter(Boolean);
+    return [institution.name, say("receipt"), ...lines, ...more].join("\n");
 }
 
 // What the code carries: a name and a value a line, the same in each language; amounts as in a sheet, the day as
@@ -121,6 +152,7 @@ function slipNode(told) {
         "article", {class: "sheet slip", "data-paper": "a6"}, element("p", {class: "h6 mb-1"}, institution.name),
         element("p", {class: "h5"}, say("receipt")), facts(pairs),
         element("p", {class: told.state === "entered" ? "slip-state" : "slip-state slip-waits"}, stateWords(told)),
+        faultWords(told) && alertBox("warning", faultWords(told)),
         element("p", {class: "slip-known"}, knownWords(told)), element("div", {class: "slip-code"}));
 }
 

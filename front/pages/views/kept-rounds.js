@@ -8,8 +8,8 @@ import {withBefore} from "./round-state.js";
 const CENTS = ["due", "owed", "cents", "overpaid", "amount", "before"];  // the members that are whole cents
 const PAYMENT = ["receipt", "amount", "staff", "reversed", "number", "before"];
 const LINE = [
-    "loan", "client", "name", "since", "days", "due", "owed", "known", "payments", "results", "text", "cents", "typed",
-    "touched", "receipt", "collector", "why", "result", "isFurther", "isSent"
+    "loan", "client", "name", "since", "days", "due", "owed", "known", "account", "payments", "results", "text",
+    "cents", "typed", "touched", "receipt", "collector", "why", "result", "isFurther", "isSent"
 ];
 const TYPED = ["text", "cents", "typed", "touched", "receipt", "collector", "why", "result", "isFurther", "isSent"];
 
@@ -92,7 +92,8 @@ export function takeRound(round) {
         const lines = round.lines.map((line) => taken(line, old.get(line.loan)));
         const isMissing = ({loan}) => !lines.some((line) => line.loan === loan);
         const gone = [...old.values()].filter((line) => isMissing(line) && (isSaid(line) || isSent(line)));
-        return {...round, drafts: before?.drafts ?? [], cash: before?.cash ?? {}, lines: [...lines, ...gone]};
+        const terms = {...before?.terms, ...round.terms};
+        return {...round, terms, drafts: before?.drafts ?? [], cash: before?.cash ?? {}, lines: [...lines, ...gone]};
     });
 }
 

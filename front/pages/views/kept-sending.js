@@ -92,7 +92,7 @@ async function sendOne({office, day}, loan, reason, isMeant) {
     tellNow({id: idOf(place), loan});
     const problem = await sendLine(line, reason);
     tellNow({id: idOf(place), loan: null});
-    await changeLine(place, loan, (kept) => answered(kept, line.result));
+    await changeLine(place, loan, (kept) => answered(kept, line.result)).catch(tellNotKept);
     if (line.result === "entered") {
         touch();
     }
@@ -122,9 +122,9 @@ async function renew(place, loan) {
     const round = await readRound(idOf(place));
     const line = {...round.lines.find((one) => one.loan === loan), ...place};
     await renewLine(line);
-    const {payments, known, owed, due, receipt} = line;
+    const {payments, known, account, owed, due, receipt} = line;
     await changeLine(place, loan, (kept) => (kept.isSent || kept.text !== line.text ? null : {
-        ...kept, payments, known, owed, due, receipt
+        ...kept, payments, known, account, owed, due, receipt
     }));
 }
 

@@ -6,6 +6,7 @@ import {products} from "../shared/desk.js";
 import {may, OFFICER, session} from "../shared/session.js";
 import {say} from "../shared/words.js";
 import {openByPin} from "./kept-asking.js";
+import {termsOf} from "./kept-left.js";
 import {takeRound} from "./kept-rounds.js";
 
 export async function takeAlong(made) {
@@ -15,7 +16,8 @@ export async function takeAlong(made) {
     navigator.storage?.persist?.();  // so that no browser clears it away where its room gets short
     const open = may(OFFICER) ? (await products(true)).filter(({retired}) => !retired) : [];
     try {
-        const round = await takeRound({...roundOf(made, Date.now()), products: open, mayEnter: may(OFFICER)});
+        const terms = await termsOf(made.lines);
+        const round = await takeRound({...roundOf(made, Date.now()), terms, products: open, mayEnter: may(OFFICER)});
         endDrafts(made.lines, round.lines);
     } catch (problem) {
         console.error(problem);

@@ -18,6 +18,7 @@ import {draftsOf, endDraft, NO_DRAFT} from "../shared/drafts.js";
 import {isAskedFor} from "../shared/institution.js";
 import {knownOf} from "../shared/repayments.js";
 import {nextReceipt, paymentsOf} from "./round-receipts.js";
+import {accountOf} from "./round-state.js";
 
 // Answers the lines, how many loans have too little due to be asked for, and the loans that have no line.
 export async function readRound(office, day) {
@@ -59,6 +60,7 @@ async function readLine(place, instalments, draft) {
         due: sum(instalments.map((one) => one.outstanding)),
         owed: known.owed,
         known,
+        account: accountOf(told, entries),
         payments,
         isFurther: kept.text !== "",
         results: {},

@@ -4,6 +4,15 @@ import {knownOf} from "../shared/repayments.js";
 import {session} from "../shared/session.js";
 import {nextReceipt, paymentsOf} from "./round-receipts.js";
 
+const ENTRY = ["kind", "day", "amount", "instalment", "portion", "reversed", "receipt"];
+
+// The loan and its entries as the desk told them, and what it told of the balances: a phone without a network works out
+// of them what a payment leaves (kept-left.js).
+export function accountOf({product, principal, periods, day, status, outstanding, overpaid}, entries) {
+    const bare = (one) => Object.fromEntries(ENTRY.map((name) => [name, one[name]]));
+    return {product, principal, periods, day, entries: entries.map(bare), told: {...outstanding, overpaid, status}};
+}
+
 // A line that was entered shows what it is now, as far as this page knows.
 export function settleLine(line) {
     const {receipt, cents, result, known} = line;
@@ -28,6 +37,7 @@ export async function renewLine(line) {
     const [told, entries] = await Promise.all([readLoan(line.loan), readEntries(line.loan)]);
     line.payments = withBefore(paymentsOf(line, entries), line.payments);
     line.known = knownOf(told, entries);
+    line.account = accountOf(told, entries);
     const paid = line.owed - line.known.owed;
     line.owed = line.known.owed;
     line.due = line.due > paid ? line.due - paid : 0n;
