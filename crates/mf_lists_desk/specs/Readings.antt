@@ -45,8 +45,8 @@ abbrev pub preview_told : ℕ → ℕ → ℕ → ℕ → Institution → Result
 preview_told product principal n day i = preview_in i.catalogue product principal n day
 
 module _ {S : Type 0} (store : Ghosts S) where
-  -- What is worked out of readings of the store, which change nothing. It is what the institution gives, its refusal the
-  -- institution's, and it may give up.
+  -- What is worked out of readings of the store, which change nothing. It is what the institution gives, its refusal
+  -- is the institution's, and it may give up.
   pub record AnswersBy {R : Type 0} (value : Institution → Result R Fault) (old new : S) (result : Result R Fault)
       : Type 0 where
     pub premise : store.clean new → store.clean old

@@ -7,8 +7,8 @@ use mf_office::{Account, OfficeNo};
 use mf_statement::Listing;
 use std::alloc::Global;
 
-/// A store that tells the lists of an office, beside what the desk reads. Each call answers what the institution says, or
-/// gives up with F20, and changes nothing. Of an office that isn't there each tells an empty list.
+/// A store that tells the lists of an office, beside what the desk reads. Each call answers what the institution says,
+/// or gives up with F20, and changes nothing. Of an office that isn't there each tells an empty list.
 pub trait ListStore: InstitutionStore {
     ghost use Rattle.std.specs.Prelude.{ℕ, List};
     ghost use Rattle.mf_lists.specs.Lists.{clients_after, due_after, find_clients, stages_after, staff_of};
