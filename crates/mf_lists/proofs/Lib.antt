@@ -1,3 +1,4 @@
 pub mod RateLemmas
 pub mod PreviewLemmas
 pub mod ListLemmas
+pub mod WorkedLemmas

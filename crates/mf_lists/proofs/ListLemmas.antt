@@ -2,13 +2,13 @@
 use Rattle.std.proofs.Common.{◌≡◌, ℕ, zero, suc, ◌+◌, ◌*◌, ◌<◌, ◌≤◌, Bool, true, false, List, [], ◌∷◌, ◌++◌, length}
 use Rattle.std.proofs.Common.{take, drop, map, inl, inr, refl, sym, ap, subst, ◌∙◌, arith, Option, Some, None}
 use Rattle.std.proofs.Common.{Err}
-use Rattle.std.specs.Prelude.{fold, sum}
+use Rattle.std.specs.Prelude.{Result, fold, sum}
 use Rattle.std.specs.List.{list_any}
 use Rattle.std.specs.Option.{unwrap_or}
 use Rattle.mf_alloc.specs.Sums.{Instalment, is_open, open_at, row_outstanding}
 use Rattle.mf_arrears.specs.Ageing.{earlier, earliest_due}
 use Rattle.mf_lists.specs.declared.lines.DueLine.{DueLine}
-use Rattle.mf_lists.specs.Lists.{due_by, due_line, due_lines, is_active, is_due, rows_in}
+use Rattle.mf_lists.specs.Lists.{instalments_due_by, due_line, due_lines, is_active, is_due, rows_in}
 use Rattle.std.specs.Prelude.{cond, ◌&&◌, ◌||◌, ◌==◌, nat_le, nat_lt, filter, is_some, slice_get, sum_by}
 use Rattle.std.specs.List.{AllByRecursion, count_by, enumerate_from}
 use Rattle.std.proofs.lemmas.Bool.{cases_Bool, cases_lt, cases_order, cond-true, cond-false, lt-ltb, le-ltb, le-leb}
@@ -17,19 +17,27 @@ use Rattle.std.proofs.lemmas.Bool.{eq-eqb, eqb-true, ne_eqb}
 use Rattle.std.proofs.lemmas.List.{take_all}
 use Rattle.std.proofs.lemmas.List.Sums.{sum_by-cons}
 use Rattle.std.proofs.lemmas.Option.{slice_get_within}
-use Rattle.mf_base.specs.declared.fault.Fault.TheVariants.{F4}
+use Rattle.mf_base.specs.declared.fault.Fault.{Fault}
+use Rattle.mf_base.specs.declared.fault.Fault.TheVariants.{F2, F4}
 use Rattle.mf_office.specs.declared.caller.Caller.{Caller}
 use Rattle.mf_office.specs.Tree.{is_at_or_below}
-use Rattle.mf_model.specs.Institution.{Catalogue, Institution, Ledger, Office, Rows, item_numbered, office_at}
-use Rattle.mf_model.specs.Outcomes.{where_found}
+use Rattle.mf_model.specs.Desk.{staff_at}
+use Rattle.mf_model.specs.Institution.{Catalogue, Institution, Ledger, Office, Rows, Staff, item_numbered, office_at}
+use Rattle.mf_model.specs.Outcomes.{where_found, with_value}
 use Rattle.mf_model.specs.Sound.{IsSoundLoan, IsSoundRows}
 use Rattle.mf_model.specs.Tree.{parent_of, view}
 use Rattle.mf_model.proofs.Growing.{numbered_suc}
-use Rattle.mf_model.proofs.Views.{seen_office_view}
+use Rattle.mf_model.proofs.Views.{seen_office_view, staff_at_view}
 use Rattle.mf_lists.specs.declared.lines.ClientLine.{ClientLine}
-use Rattle.mf_lists.specs.Lists.{begins_with, client_line, clients_of, has_part, is_of_client, lines_where, loans_that}
-use Rattle.mf_lists.specs.Lists.{page}
-use Rattle.mf_lists.specs.Readings.{ListAsked, last_number, list_of, list_seen, pages}
+use Rattle.mf_lists.specs.Lists.{begins_with, counted_client, clients_of, has_part, is_of_client, lines_where}
+use Rattle.mf_lists.specs.Lists.{loans_that, page}
+use Rattle.mf_lists.specs.declared.request.ListAsked.{ListAsked}
+use Rattle.mf_lists.specs.declared.request.ListRequest.{ListRequest}
+use Rattle.mf_lists.specs.declared.request.ListRequest.TheVariants.{OfOffice, Preview}
+use Rattle.mf_lists.specs.declared.answer.ListAnswer.{ListAnswer}
+use Rattle.mf_lists.specs.declared.answer.ListAnswer.TheVariants.{Listed}
+use Rattle.mf_lists.specs.declared.answer.ListTold.{ListTold}
+use Rattle.mf_lists.specs.Readings.{last_number, list_for, list_reply, office_list, list_seen, pages}
 use Rattle.mf_lists.proofs.RateLemmas.{both, both-first, both-second}
 
 -- ---- lists by number
@@ -334,23 +342,23 @@ sum-made read make (x ∷ xs) =
 -- what is counted by client comes to what is counted of all
 pub counts-add_up : (k : Catalogue) (staffed : Caller → Bool) (rows : Rows) (passes : Ledger → Bool)
     (read : ClientLine → ℕ)
-    → ((c : ℕ × List ℕ) → read (client_line k rows c) ≡ loans_that passes c.0 rows) → IsSoundRows k staffed rows
+    → ((c : ℕ × List ℕ) → read (counted_client k rows c) ≡ loans_that passes c.0 rows) → IsSoundRows k staffed rows
     → sum_by read (clients_of k rows) ≡ count_by passes rows.loans
 counts-add_up k staffed rows passes read is sound =
-    ap (λ (cs : List (ℕ × List ℕ)). sum_by read (map (client_line k rows) cs))
+    ap (λ (cs : List (ℕ × List ℕ)). sum_by read (map (counted_client k rows) cs))
     (keeps-all (enumerate_from 1 rows.clients))
-    ∙ sum-made read (client_line k rows) (enumerate_from 1 rows.clients)
+    ∙ sum-made read (counted_client k rows) (enumerate_from 1 rows.clients)
     ∙ each (enumerate_from 1 rows.clients)
     ∙ clients-sum passes rows.loans 1 rows.clients
     ∙ all-between passes (1 + length rows.clients) rows.loans
     (clients-there k staffed rows.clients rows.loans sound.loans)
   where
     each : (cs : List (ℕ × List ℕ))
-        → sum_by (λ (c : ℕ × List ℕ). read (client_line k rows c)) cs
+        → sum_by (λ (c : ℕ × List ℕ). read (counted_client k rows c)) cs
         ≡ sum_by (λ (c : ℕ × List ℕ). loans_that passes c.0 rows) cs
     each [] = refl
     each (c ∷ cs) =
-        sum_by-cons (λ (x : ℕ × List ℕ). read (client_line k rows x)) c cs
+        sum_by-cons (λ (x : ℕ × List ℕ). read (counted_client k rows x)) c cs
         ∙ omega (arith, is c, each cs)
         ∙ sym (sum_by-cons (λ (x : ℕ × List ℕ). loans_that passes x.0 rows) c cs)
 
@@ -401,13 +409,40 @@ part-found (y ∷ before) part rest =
 pub by_view : (folded : List ℕ → List ℕ) (asked : ListAsked) (o x : ℕ) (i : Institution)
     → list_seen folded asked o x (view o i) ≡ list_seen folded asked o x i
 by_view folded asked o x i =
-    ap (λ (f : Option Office). where_found f (λ f. list_of folded asked x i.catalogue f.rows)) (seen_office_view o x i)
+    ap (λ (f : Option Office). where_found f (λ f. office_list folded asked x i.catalogue f.rows))
+    (seen_office_view o x i)
 
 pub unseen : (folded : List ℕ → List ℕ) (asked : ListAsked) (o x : ℕ) (i : Institution)
     → is_at_or_below (parent_of i.offices) x o ≡ false → list_seen folded asked o x i ≡ Err F4
 unseen folded asked o x i h =
-    ap (λ (f : Option Office). where_found f (λ f. list_of folded asked x i.catalogue f.rows))
+    ap (λ (f : Option Office). where_found f (λ f. office_list folded asked x i.catalogue f.rows))
     (cond-false (is_at_or_below (parent_of i.offices) x o) (office_at x i.offices) None h)
+
+for_view : (folded : List ℕ → List ℕ) (request : ListRequest) (o : ℕ) (i : Institution)
+    → list_for folded request o (view o i) ≡ list_for folded request o i
+for_view folded (OfOffice x asked) o i =
+    ap (λ (r : Result ListTold Fault). with_value r (λ told. Listed x told)) (by_view folded asked o x i)
+for_view folded (Preview product principal periods day) o i = refl
+
+-- what a caller is told is read off the view
+pub reply-by_view : (folded : List ℕ → List ℕ) (c : Caller) (request : ListRequest) (i : Institution)
+    → list_reply folded c request (view c.office i) ≡ list_reply folded c request i
+reply-by_view folded c request i =
+    ap (λ (s : Option Staff). cond (is_some s) (list_for folded request c.office (view c.office i)) (Err F2))
+    (staff_at_view c.office i c refl)
+    ∙ ap (λ (r : Result ListAnswer Fault). cond (is_some (staff_at i c)) r (Err F2))
+    (for_view folded request c.office i)
+
+-- what a caller is told who is there, or isn't
+pub reply-known : (folded : List ℕ → List ℕ) (c : Caller) (s : Staff) (request : ListRequest) (i : Institution)
+    → staff_at i c ≡ Some s → list_reply folded c request i ≡ list_for folded request c.office i
+reply-known folded c s request i h =
+    ap (λ (f : Option Staff). cond (is_some f) (list_for folded request c.office i) (Err F2)) h
+
+pub reply-unknown : (folded : List ℕ → List ℕ) (c : Caller) (request : ListRequest) (i : Institution)
+    → staff_at i c ≡ None → list_reply folded c request i ≡ Err F2
+reply-unknown folded c request i h =
+    ap (λ (f : Option Staff). cond (is_some f) (list_for folded request c.office i) (Err F2)) h
 
 -- ---- what is due
 
@@ -525,10 +560,10 @@ pub due-by_day : (k : Catalogue) (rows : Rows) (day : ℕ)
 due-by_day k rows day =
     all-lines (λ (d : DueLine). (d.oldest ≤ day) × (sum d.due ≤ d.left)) (λ l. is_due day k l.1) (due_line day k rows)
     (λ l due.
-    let opens : list_any is_open (due_by day k l.1) ≡ true =
-    both-second (is_active k l.1) (list_any is_open (due_by day k l.1)) due in
+    let opens : list_any is_open (instalments_due_by day k l.1) ≡ true =
+    both-second (is_active k l.1) (list_any is_open (instalments_due_by day k l.1)) due in
     let first = no_later-value day (earliest_due (rows_in k l.1)) (earliest-of day None (rows_in k l.1) opens) in
-    let whole = portions (due_by day k l.1) in
+    let whole = portions (instalments_due_by day k l.1) in
     let some = sum-of_some row_outstanding (λ (row : Instalment). nat_le row.due day) (rows_in k l.1) in
     (first, omega (arith, whole, some)))
     (enumerate_from 1 rows.loans)

@@ -11,7 +11,8 @@ use Rattle.mf_schedule.specs.Fixed.{least}
 use Rattle.mf_schedule.specs.Fresh.{total_owed}
 use Rattle.mf_schedule.specs.declared.instalment.FreshInstalment.{FreshInstalment}
 use Rattle.mf_schedule.proofs.FixedLemmas.{least-is}
-use Rattle.mf_lists.specs.Rate.{trillion, million, most_daily_rate, next_day, after_days, asked_by, asked_by_all, bears}
+use Rattle.mf_lists.specs.Rate.{trillion, million, most_daily_rate, next_day, after_days, millionths_asked}
+use Rattle.mf_lists.specs.Rate.{asked_by_all, bears}
 use Rattle.mf_lists.specs.Rate.{is_borne, least_daily_rate, most_yearly_rate, yearly_from, yearly_rate}
 
 -- rounding gives at most one more than the quotient
@@ -70,8 +71,8 @@ after_days-longer rate days (suc more) b le =
 
 -- with an instalment before them
 pub asked-cons : (row : FreshInstalment) (rows : List FreshInstalment)
-    → asked_by_all (row ∷ rows) ≡ asked_by row + asked_by_all rows
-asked-cons row rows = sum_by-cons asked_by row rows
+    → asked_by_all (row ∷ rows) ≡ millionths_asked row + asked_by_all rows
+asked-cons row rows = sum_by-cons millionths_asked row rows
 
 -- each cent that they owe, in millionths
 pub asked-owed : (rows : List FreshInstalment) → asked_by_all rows ≡ million * total_owed rows
@@ -111,8 +112,8 @@ enough-bears rate day b [] h = refl
 enough-bears rate day b (row ∷ rows) h =
     let more = after_days-ge rate (row.due - day) b in
     let all = asked-cons row rows in
-    both _ _ (le-leb (asked_by row) (after_days rate (row.due - day) b) (omega arith))
-    (enough-bears rate row.due (after_days rate (row.due - day) b - asked_by row) rows (omega arith))
+    both _ _ (le-leb (millionths_asked row) (after_days rate (row.due - day) b) (omega arith))
+    (enough-bears rate row.due (after_days rate (row.due - day) b - millionths_asked row) rows (omega arith))
 
 -- and so where it is as much on the first due day
 pub enough-by_then : (rate day b : ℕ) (row : FreshInstalment) (rows : List FreshInstalment)
@@ -120,27 +121,28 @@ pub enough-by_then : (rate day b : ℕ) (row : FreshInstalment) (rows : List Fre
 unfolding bears
 enough-by_then rate day b row rows h =
     let all = asked-cons row rows in
-    both _ _ (le-leb (asked_by row) (after_days rate (row.due - day) b) (omega arith))
-    (enough-bears rate row.due (after_days rate (row.due - day) b - asked_by row) rows (omega arith))
+    both _ _ (le-leb (millionths_asked row) (after_days rate (row.due - day) b) (omega arith))
+    (enough-bears rate row.due (after_days rate (row.due - day) b - millionths_asked row) rows (omega arith))
 
 -- an instalment that takes no more than is there leaves it to the others
 pub bears-next : (rate day b : ℕ) (row : FreshInstalment) (rows : List FreshInstalment)
-    → asked_by row ≤ after_days rate (row.due - day) b
-    → bears rate day b (row ∷ rows) ≡ bears rate row.due (after_days rate (row.due - day) b - asked_by row) rows
+    → millionths_asked row ≤ after_days rate (row.due - day) b
+    → bears rate day b (row ∷ rows) ≡ bears rate row.due (after_days rate (row.due - day) b - millionths_asked row) rows
 unfolding bears
 bears-next rate day b row rows h =
-    ap (λ (x : Bool). x && bears rate row.due (after_days rate (row.due - day) b - asked_by row) rows)
-    (le-leb (asked_by row) (after_days rate (row.due - day) b) h)
+    ap (λ (x : Bool). x && bears rate row.due (after_days rate (row.due - day) b - millionths_asked row) rows)
+    (le-leb (millionths_asked row) (after_days rate (row.due - day) b) h)
 
 -- one that takes more isn't borne
 pub bears-not : (rate day b : ℕ) (row : FreshInstalment) (rows : List FreshInstalment)
-    → after_days rate (row.due - day) b < asked_by row → bears rate day b (row ∷ rows) ≡ false
+    → after_days rate (row.due - day) b < millionths_asked row → bears rate day b (row ∷ rows) ≡ false
 unfolding bears
 bears-not rate day b row rows h =
-    elim (cases_Bool (nat_le (asked_by row) (after_days rate (row.due - day) b))) [
-      | inl fits ↦ absurd (omega (arith, leb-true (asked_by row) (after_days rate (row.due - day) b) fits))
+    elim (cases_Bool (nat_le (millionths_asked row) (after_days rate (row.due - day) b))) [
+      | inl fits ↦ absurd (omega (arith, leb-true (millionths_asked row) (after_days rate (row.due - day) b) fits))
       | inr fails ↦
-          ap (λ (x : Bool). x && bears rate row.due (after_days rate (row.due - day) b - asked_by row) rows) fails
+          ap (λ (x : Bool). x && bears rate row.due (after_days rate (row.due - day) b - millionths_asked row) rows)
+          fails
     ]
 
 -- a higher rate and a larger balance bear what lower ones bear
@@ -150,10 +152,10 @@ unfolding bears
 bears-mono less more day b c [] le ge h = refl
 bears-mono less more day b c (row ∷ rows) le ge h =
     let grown = after_days-mono less more (row.due - day) b c le ge in
-    let fits = leb-true (asked_by row) (after_days less (row.due - day) b) (both-first _ _ h) in
-    both _ _ (le-leb (asked_by row) (after_days more (row.due - day) c) (omega arith))
-    (bears-mono less more row.due (after_days less (row.due - day) b - asked_by row)
-    (after_days more (row.due - day) c - asked_by row) rows le (omega arith) (both-second _ _ h))
+    let fits = leb-true (millionths_asked row) (after_days less (row.due - day) b) (both-first _ _ h) in
+    both _ _ (le-leb (millionths_asked row) (after_days more (row.due - day) c) (omega arith))
+    (bears-mono less more row.due (after_days less (row.due - day) b - millionths_asked row)
+    (after_days more (row.due - day) c - millionths_asked row) rows le (omega arith) (both-second _ _ h))
 
 -- ---- the least rate
 
@@ -329,12 +331,12 @@ nothing-bears rate day b [] e some = absurd (omega arith)
 nothing-bears rate day b (row ∷ rows) e some =
     let grown : after_days rate (row.due - day) b ≡ 0 =
     ap (after_days rate (row.due - day)) e ∙ after_days-nothing rate (row.due - day) in
-    elim (cases_lt (after_days rate (row.due - day) b) (asked_by row)) [
+    elim (cases_lt (after_days rate (row.due - day) b) (millionths_asked row)) [
       | inl more ↦ bears-not rate day b row rows more
       | inr fits ↦
           let all = asked-cons row rows in
           bears-next rate day b row rows fits
-          ∙ nothing-bears rate row.due (after_days rate (row.due - day) b - asked_by row) rows (omega arith)
+          ∙ nothing-bears rate row.due (after_days rate (row.due - day) b - millionths_asked row) rows (omega arith)
           (omega arith)
     ]
 

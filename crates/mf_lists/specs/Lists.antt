@@ -72,8 +72,8 @@ abbrev pub loans_that : (Ledger → Bool) → ℕ → Rows → ℕ
 loans_that passes client rows = count_by (λ l. passes l && is_of_client client l) rows.loans
 
 -- a client with the counts of their loans
-abbrev pub client_line : Catalogue → Rows → ℕ × List ℕ → ClientLine
-client_line k rows client = record {
+abbrev pub counted_client : Catalogue → Rows → ℕ × List ℕ → ClientLine
+counted_client k rows client = record {
   number = client.0;
   name = client.1;
   waiting = loans_that (is_waiting k) client.0 rows;
@@ -83,7 +83,7 @@ client_line k rows client = record {
 
 -- the clients of an office
 abbrev pub clients_of : Catalogue → Rows → List ClientLine
-clients_of k rows = lines_where (λ c. true) (client_line k rows) rows.clients
+clients_of k rows = lines_where (λ c. true) (counted_client k rows) rows.clients
 
 -- the first 500 with a number above this one
 abbrev pub clients_after : ℕ → Catalogue → Rows → List ClientLine
@@ -119,16 +119,16 @@ loans_of_client client k rows = lines_where (λ l. is_of_client client l.1) (cli
 -- ---- what is due
 
 -- the instalments that are due by a day
-abbrev pub due_by : ℕ → Catalogue → Ledger → List Instalment
-due_by day k l = filter (λ (row : Instalment). nat_le row.due day) (rows_in k l)
+abbrev pub instalments_due_by : ℕ → Catalogue → Ledger → List Instalment
+instalments_due_by day k l = filter (λ (row : Instalment). nat_le row.due day) (rows_in k l)
 
 -- it is active, and something is due by the day and outstanding
 abbrev pub is_due : ℕ → Catalogue → Ledger → Bool
-is_due day k l = is_active k l && list_any is_open (due_by day k l)
+is_due day k l = is_active k l && list_any is_open (instalments_due_by day k l)
 
 -- what is due by the day and outstanding of a portion
-abbrev pub due_of : ℕ → ℕ → Catalogue → Ledger → ℕ
-due_of portion day k l = sum_by (λ (row : Instalment). open_at row portion) (due_by day k l)
+abbrev pub portion_due : ℕ → ℕ → Catalogue → Ledger → ℕ
+portion_due portion day k l = sum_by (λ (row : Instalment). open_at row portion) (instalments_due_by day k l)
 
 -- the last entry that counts
 abbrev pub last_entry : List Entry → Option LastEntry
@@ -142,7 +142,7 @@ due_line day k rows l = record {
   client = l.1.loan.client;
   name = name_of_client rows l.1.loan.client;
   oldest = unwrap_or (earliest_due (rows_in k l.1)) 0;
-  due = due_of 0 day k l.1 ∷ due_of 1 day k l.1 ∷ due_of 2 day k l.1 ∷ due_of 3 day k l.1 ∷ [];
+  due = portion_due 0 day k l.1 ∷ portion_due 1 day k l.1 ∷ portion_due 2 day k l.1 ∷ portion_due 3 day k l.1 ∷ [];
   left = left_of k l.1;
   last = last_entry l.1.entries;
 }
@@ -177,12 +177,12 @@ stage_line rows l = record {
 }
 
 -- the loans of a status
-abbrev pub loans_at : ℕ → Catalogue → Rows → List StageLine
-loans_at status k rows = lines_where (λ l. status_in k l.1 == status) (stage_line rows) rows.loans
+abbrev pub stage_lines : ℕ → Catalogue → Rows → List StageLine
+stage_lines status k rows = lines_where (λ l. status_in k l.1 == status) (stage_line rows) rows.loans
 
 -- the first 200 with a number above this one
 abbrev pub stages_after : ℕ → ℕ → Catalogue → Rows → List StageLine
-stages_after status after k rows = page (λ (s : StageLine). s.loan) 200 after (loans_at status k rows)
+stages_after status after k rows = page (λ (s : StageLine). s.loan) 200 after (stage_lines status k rows)
 
 -- ---- staff
 
@@ -223,4 +223,4 @@ is_found folded office part rows client =
 -- the first 50 clients of an office that are found
 abbrev pub find_clients : (List ℕ → List ℕ) → ℕ → List ℕ → Catalogue → Rows → List ClientLine
 find_clients folded office part k rows =
-    take 50 (lines_where (is_found folded office part rows) (client_line k rows) rows.clients)
+    take 50 (lines_where (is_found folded office part rows) (counted_client k rows) rows.clients)

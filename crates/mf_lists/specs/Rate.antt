@@ -32,19 +32,19 @@ after_days rate zero balance = balance
 after_days rate (suc days) balance = next_day rate (after_days rate days balance)
 
 -- what an instalment asks: principal, interest and fees, in millionths of a cent
-abbrev pub asked_by : FreshInstalment → ℕ
-asked_by row = million * (row.principal + row.interest + row.fees)
+abbrev pub millionths_asked : FreshInstalment → ℕ
+millionths_asked row = million * (row.principal + row.interest + row.fees)
 
 -- what instalments ask together
 abbrev pub asked_by_all : List FreshInstalment → ℕ
-asked_by_all rows = sum_by asked_by rows
+asked_by_all rows = sum_by millionths_asked rows
 
 -- at a daily rate, a balance of this day bears the instalments: none takes more than is there on its due day
 unfoldable pub bears : ℕ → ℕ → ℕ → List FreshInstalment → Bool
 bears rate day balance [] = true
 bears rate day balance (row ∷ rows) =
     let grown = after_days rate (row.due - day) balance in
-    nat_le (asked_by row) grown && bears rate row.due (grown - asked_by row) rows
+    nat_le (millionths_asked row) grown && bears rate row.due (grown - millionths_asked row) rows
 
 -- what was handed over on a day, in cents, bears the instalments at a daily rate
 abbrev pub is_borne : ℕ → ℕ → List FreshInstalment → ℕ → Bool

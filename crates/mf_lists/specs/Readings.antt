@@ -1,48 +1,54 @@
--- What may be asked of the lists of an office, and what it is told to somebody of an office that sees it.
-use Rattle.std.specs.Prelude.{ℕ, zero, suc, List, [], ◌++◌, fold, Result, Ok}
+-- What is told of the lists of an office to somebody of an office that sees it, and of a loan before it is submitted.
+use Rattle.std.specs.Prelude.{ℕ, ◌≤◌, zero, suc, cond, List, [], ◌++◌, fold, is_some, Result, Ok, Err}
+use Rattle.mf_base.specs.DayText.{last_entered_day}
 use Rattle.mf_base.specs.declared.fault.Fault.{Fault}
+use Rattle.mf_base.specs.declared.fault.Fault.TheVariants.{F2}
+use Rattle.mf_office.specs.declared.caller.Caller.{Caller}
+use Rattle.mf_model.specs.Desk.{staff_at}
 use Rattle.mf_model.specs.Institution.{Catalogue, Institution, Rows, item_numbered}
-use Rattle.mf_model.specs.Outcomes.{with_found, where_found}
+use Rattle.mf_model.specs.Outcomes.{with_found, with_value, where_found}
 use Rattle.mf_model.specs.Tree.{seen_office}
-use Rattle.mf_lists.specs.declared.lines.ClientLine.{ClientLine}
-use Rattle.mf_lists.specs.declared.lines.ClientLoan.{ClientLoan}
-use Rattle.mf_lists.specs.declared.lines.DueLine.{DueLine}
-use Rattle.mf_lists.specs.declared.lines.StaffLine.{StaffLine}
-use Rattle.mf_lists.specs.declared.lines.StageLine.{StageLine}
+use Rattle.mf_lists.specs.declared.answer.ListAnswer.{ListAnswer}
+use Rattle.mf_lists.specs.declared.answer.ListAnswer.TheVariants.{Listed, Previewed}
+use Rattle.mf_lists.specs.declared.answer.ListTold.{ListTold}
+use Rattle.mf_lists.specs.declared.answer.ListTold.TheVariants.{ClientLines, ClientLoans, DueLines, StageLines}
+use Rattle.mf_lists.specs.declared.answer.ListTold.TheVariants.{StaffLines}
+use Rattle.mf_lists.specs.declared.request.ListAsked.{ListAsked}
+use Rattle.mf_lists.specs.declared.request.ListAsked.TheVariants.{Clients, LoansOf, DueBy, AtStatus, StaffOf, Find}
+use Rattle.mf_lists.specs.declared.request.ListRequest.{ListRequest}
+use Rattle.mf_lists.specs.declared.request.ListRequest.TheVariants.{OfOffice, Preview}
 use Rattle.mf_lists.specs.Lists.{clients_after, due_after, find_clients, loans_of_client, stages_after, staff_of}
-
--- a list of an office: its clients after a number; the loans of one; what is due by a day, after a loan; the loans of a
--- status after one; its staff; the clients that have a part in their name or are of a number
-pub data ListAsked : Type 0 where
-  Clients : ℕ → ListAsked
-  LoansOf : ℕ → ListAsked
-  DueBy : ℕ → ℕ → ListAsked
-  AtStatus : ℕ → ℕ → ListAsked
-  StaffOf : ListAsked
-  Find : List ℕ → ListAsked
-
--- the lines of a list
-pub data ListTold : Type 0 where
-  ClientLines : List ClientLine → ListTold
-  ClientLoans : List ClientLoan → ListTold
-  DueLines : List DueLine → ListTold
-  StageLines : List StageLine → ListTold
-  StaffLines : List StaffLine → ListTold
+use Rattle.mf_lists.specs.Preview.{preview_in}
 
 -- the list that is asked for of an office; F4 where its client isn't there
-abbrev pub list_of : (List ℕ → List ℕ) → ListAsked → ℕ → Catalogue → Rows → Result ListTold Fault
-list_of folded (Clients after) x k rows = Ok (ClientLines (clients_after after k rows))
-list_of folded (LoansOf client) x k rows =
+abbrev pub office_list : (List ℕ → List ℕ) → ListAsked → ℕ → Catalogue → Rows → Result ListTold Fault
+office_list folded (Clients after) x k rows = Ok (ClientLines (clients_after after k rows))
+office_list folded (LoansOf client) x k rows =
     with_found (item_numbered rows.clients client) (λ name. ClientLoans (loans_of_client client k rows))
-list_of folded (DueBy day after) x k rows = Ok (DueLines (due_after day after k rows))
-list_of folded (AtStatus status after) x k rows = Ok (StageLines (stages_after status after k rows))
-list_of folded StaffOf x k rows = Ok (StaffLines (staff_of rows))
-list_of folded (Find part) x k rows = Ok (ClientLines (find_clients folded x part k rows))
+office_list folded (DueBy day after) x k rows = Ok (DueLines (due_after day after k rows))
+office_list folded (AtStatus status after) x k rows = Ok (StageLines (stages_after status after k rows))
+office_list folded StaffOf x k rows = Ok (StaffLines (staff_of rows))
+office_list folded (Find part) x k rows = Ok (ClientLines (find_clients folded x part k rows))
 
 -- what somebody of office o is told of office x; F4 where it isn't at or below o
 abbrev pub list_seen : (List ℕ → List ℕ) → ListAsked → ℕ → ℕ → Institution → Result ListTold Fault
 list_seen folded asked o x i =
-    where_found (seen_office o x i) (λ f. list_of folded asked x i.catalogue f.rows)
+    where_found (seen_office o x i) (λ f. office_list folded asked x i.catalogue f.rows)
+
+-- what somebody of office o is told who asks for a list or for a preview
+abbrev pub list_for : (List ℕ → List ℕ) → ListRequest → ℕ → Institution → Result ListAnswer Fault
+list_for folded (OfOffice x asked) o i = with_value (list_seen folded asked o x i) (λ told. Listed x told)
+list_for folded (Preview product principal periods day) o i =
+    with_value (preview_in i.catalogue product principal periods day) (λ shown. Previewed shown)
+
+-- what a caller is told; F2 where there is no such member of staff. Each that there is may ask
+abbrev pub list_reply : (List ℕ → List ℕ) → Caller → ListRequest → Institution → Result ListAnswer Fault
+list_reply folded c request i = cond (is_some (staff_at i c)) (list_for folded request c.office i) (Err F2)
+
+-- the day that a request names to be paid out on, if it names one, is one that may be entered
+abbrev pub IsAskedInDays : ListRequest → Type 0
+IsAskedInDays (OfOffice office asked) = Unit {0}
+IsAskedInDays (Preview product principal periods day) = day ≤ last_entered_day
 
 -- ---- page by page
 

@@ -1,6 +1,7 @@
 -- A small institution on 2024-03-15, and its lists, worked out by hand. Office 2 has three clients and five loans; the
 -- loans are those of the worked preview, paid out on 2024-01-31.
 use Rattle.std.specs.Prelude.{ℕ, Bool, false, true, List, [], ◌∷◌, codes, Option, Some, None}
+use Rattle.mf_office.specs.declared.caller.Caller.{Caller}
 use Rattle.mf_office.specs.declared.staff.Role.TheVariants.{Teller, Manager}
 use Rattle.mf_alloc.specs.declared.row.Portion.TheVariants.{Principal}
 use Rattle.mf_account.specs.declared.entry.Entry.{Entry}
@@ -14,11 +15,11 @@ use Rattle.mf_lists.specs.declared.lines.DueLine.{DueLine}
 use Rattle.mf_lists.specs.declared.lines.StaffLine.{StaffLine}
 use Rattle.mf_lists.specs.declared.lines.StageLine.{StageLine}
 use Rattle.mf_lists.specs.WorkedPreview.{worked_catalogue}
-use Rattle.mf_lists.specs.WorkedRates.{january}
+use Rattle.mf_lists.specs.WorkedRates.{pay_out_day}
 
 -- 2024-03-15, the day of approval 2024-01-30, and the due days 2024-02-29 and 2024-03-31
-abbrev pub march : ℕ
-march = 8840
+abbrev pub worked_day : ℕ
+worked_day = 8840
 
 -- 2024-01-30
 abbrev pub approval : ℕ
@@ -40,8 +41,8 @@ loan_of client stage entries = record {
 }
 
 -- a repayment of the first instalment, and one that is reversed
-abbrev repaid : ℕ → ℕ → Bool → Entry
-repaid seq day reversed = record {
+abbrev first_repaid : ℕ → ℕ → Bool → Entry
+first_repaid seq day reversed = record {
   seq = seq;
   kind = Repay;
   day = day;
@@ -60,22 +61,23 @@ branch = record {
   clients = codes "Amina" ∷ codes "Binta" ∷ codes "Chidi" ∷ [];
   loans =
       loan_of 1 Submitted []
-      ∷ loan_of 1 (Disbursed approval january) []
-      ∷ loan_of 2 (Disbursed approval january) (repaid 1 first_due false ∷ repaid 2 march true ∷ [])
+      ∷ loan_of 1 (Disbursed approval pay_out_day) []
+      ∷ loan_of 2 (Disbursed approval pay_out_day)
+      (first_repaid 1 first_due false ∷ first_repaid 2 worked_day true ∷ [])
       ∷ loan_of 2 Withdrawn []
-      ∷ loan_of 3 (Approved march) []
+      ∷ loan_of 3 (Approved worked_day) []
       ∷ [];
 }
 
 -- offices 2 and 3 are below the head
-abbrev office_of : ℕ → Option ℕ → Rows → Office
-office_of number parent rows = record { number = number; parent = parent; name = codes "Office"; rows = rows }
+abbrev office_with : ℕ → Option ℕ → Rows → Office
+office_with number parent rows = record { number = number; parent = parent; name = codes "Office"; rows = rows }
 
 -- the institution on that day
 abbrev pub small : Institution
 small = record {
-  catalogue = record worked_catalogue { day = march };
-  offices = office_of 1 None no_rows ∷ office_of 2 (Some 1) branch ∷ office_of 3 (Some 1) no_rows ∷ [];
+  catalogue = record worked_catalogue { day = worked_day };
+  offices = office_with 1 None no_rows ∷ office_with 2 (Some 1) branch ∷ office_with 3 (Some 1) no_rows ∷ [];
   journal = None;
 }
 
@@ -112,7 +114,7 @@ loans_of_amina =
       principal = 100000;
       status = 300;
       approved = Some approval;
-      disbursed = Some january;
+      disbursed = Some pay_out_day;
       left = 102510;
       overdue = 15;
     }
@@ -156,6 +158,14 @@ stage_of loan client name day = record {
   principal = 100000;
   day = day;
 }
+
+-- Yemi
+abbrev pub teller : Caller
+teller = record { office = 2; staff = 2 }
+
+-- a third member of the branch's staff, which has two
+abbrev pub nobody : Caller
+nobody = record { office = 2; staff = 3 }
 
 -- the staff
 abbrev pub zola_and_yemi : List StaffLine

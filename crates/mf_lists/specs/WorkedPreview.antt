@@ -10,7 +10,7 @@ use Rattle.mf_catalog.specs.declared.terms.StrategyName.TheVariants.{MifosStanda
 use Rattle.mf_schedule.specs.declared.instalment.FreshInstalment.{FreshInstalment}
 use Rattle.mf_model.specs.Institution.{Catalogue, ListedCharge}
 use Rattle.mf_lists.specs.declared.preview.LoanPreview.{LoanPreview}
-use Rattle.mf_lists.specs.WorkedRates.{january}
+use Rattle.mf_lists.specs.WorkedRates.{pay_out_day}
 
 -- 1.5 percent of the principal at disbursement
 abbrev pub kept_charge : ListedCharge
@@ -43,7 +43,7 @@ quarterly = record {
 -- product 1 lends so, and product 2 is the same, retired
 abbrev pub worked_catalogue : Catalogue
 worked_catalogue = record {
-  day = january;
+  day = pay_out_day;
   charges = kept_charge ∷ instalment_charge ∷ [];
   products =
       record { members = quarterly; retired = false }

@@ -5,7 +5,7 @@ ghost use Rattle.std.specs.Prelude.{◌≡◌, ◌≤◌, ◌-◌, ◌*◌, ◌+
 ghost use Rattle.std.specs.Prelude.{sum, sum_by, Some, None, MatchOption, IfSome, Ok, Err};
 ghost use Rattle.std.specs.List.{AllByRecursion, count_by};
 ghost use Rattle.mf_base.specs.declared.fault.Fault.{Fault};
-ghost use Rattle.mf_base.specs.declared.fault.Fault.TheVariants.{F4, F7, F8};
+ghost use Rattle.mf_base.specs.declared.fault.Fault.TheVariants.{F2, F4, F7, F8};
 ghost use Rattle.mf_catalog.specs.declared.charge.ChargeDef.{ChargeDef};
 ghost use Rattle.mf_catalog.specs.declared.product.Product.{Product};
 ghost use Rattle.mf_catalog.specs.Product.{charge_at, charge_of};
@@ -16,7 +16,8 @@ ghost use Rattle.mf_statement.specs.Lines.{instalments_from};
 ghost use Rattle.mf_model.specs.declared.loan.Stage.TheVariants.{Disbursed};
 ghost use Rattle.mf_model.specs.declared.request.Application.{Application};
 ghost use Rattle.mf_model.specs.Accounts.{balances_in, instalments_in};
-ghost use Rattle.mf_model.specs.Institution.{Catalogue, Institution, Ledger, Rows, charge_in, item_numbered};
+ghost use Rattle.mf_model.specs.Desk.{staff_at};
+ghost use Rattle.mf_model.specs.Institution.{Catalogue, Institution, Ledger, Rows, Staff, charge_in, item_numbered};
 ghost use Rattle.mf_model.specs.Institution.{product_in};
 ghost use Rattle.mf_model.specs.Loans.{make_loan, submit};
 ghost use Rattle.mf_schedule.specs.Fresh.{total_owed};
@@ -27,16 +28,24 @@ ghost use Rattle.mf_lists.specs.declared.lines.ClientLine.{ClientLine};
 ghost use Rattle.mf_lists.specs.declared.lines.DueLine.{DueLine};
 ghost use Rattle.mf_lists.specs.declared.lines.StageLine.{StageLine};
 ghost use Rattle.mf_lists.specs.declared.preview.LoanPreview.{LoanPreview};
-ghost use Rattle.mf_lists.specs.Lists.{clients_of, clients_after, due_lines, due_after, loans_at, stages_after};
+ghost use Rattle.mf_lists.specs.Lists.{clients_of, clients_after, due_lines, due_after, stage_lines, stages_after};
 ghost use Rattle.mf_lists.specs.Lists.{is_waiting, is_active, is_overdue, has_part};
-ghost use Rattle.mf_lists.specs.Readings.{ListAsked, Clients, LoansOf, DueBy, AtStatus, StaffOf, Find, ClientLines};
-ghost use Rattle.mf_lists.specs.Readings.{ClientLoans, DueLines, StageLines, StaffLines, list_seen, pages};
-ghost use Rattle.mf_lists.specs.WorkedLists.{small, march, first_due, second_due, amina, binta, chidi, loans_of_amina};
-ghost use Rattle.mf_lists.specs.WorkedLists.{due_of_amina, later_of_amina, later_of_binta, stage_of, zola_and_yemi};
+ghost use Rattle.mf_lists.specs.declared.answer.ListAnswer.TheVariants.{Listed, Previewed};
+ghost use Rattle.mf_lists.specs.declared.answer.ListTold.TheVariants.{ClientLines, ClientLoans, DueLines, StageLines};
+ghost use Rattle.mf_lists.specs.declared.answer.ListTold.TheVariants.{StaffLines};
+ghost use Rattle.mf_lists.specs.declared.request.ListAsked.{ListAsked};
+ghost use Rattle.mf_lists.specs.declared.request.ListAsked.TheVariants.{Clients, LoansOf, DueBy, AtStatus, StaffOf};
+ghost use Rattle.mf_lists.specs.declared.request.ListAsked.TheVariants.{Find};
+ghost use Rattle.mf_lists.specs.declared.request.ListRequest.{ListRequest};
+ghost use Rattle.mf_lists.specs.declared.request.ListRequest.TheVariants.{OfOffice, Preview};
+ghost use Rattle.mf_lists.specs.Readings.{list_seen, list_reply, pages};
+ghost use Rattle.mf_lists.specs.WorkedLists.{small, worked_day, first_due, second_due, amina, binta, chidi};
+ghost use Rattle.mf_lists.specs.WorkedLists.{teller, nobody, loans_of_amina, due_of_amina, later_of_amina};
+ghost use Rattle.mf_lists.specs.WorkedLists.{later_of_binta, stage_of, zola_and_yemi};
 ghost use Rattle.mf_lists.specs.Preview.{preview_in, preview_of};
 ghost use Rattle.mf_lists.specs.Rate.{is_borne, least_daily_rate, most_daily_rate, yearly_rate};
 ghost use Rattle.mf_lists.specs.WorkedPreview.{worked_catalogue, worked_loan};
-ghost use Rattle.mf_lists.specs.WorkedRates.{january, quarter, year_of_twelve, in_a_year, one_cent};
+ghost use Rattle.mf_lists.specs.WorkedRates.{pay_out_day, quarter, year_of_twelve, in_a_year, one_cent};
 
 /// What was handed over bears the instalments at the daily rate that is found, and at no lower one.
 pub fn the_daily_rate_is_the_least_that_bears()
@@ -69,12 +78,12 @@ pub fn for_nothing_there_is_no_rate()
 /// twelve months, without a fee and with 24.00 kept; 1,000.00 for which 1,100.00 is paid after a year; and a cent for a
 /// cent.
 pub fn worked_rates()
-    ensures quarter { yearly_rate 100000 january quarter ≡ Some 1295 }
-    ensures quarter_with_fee { yearly_rate 98500 january quarter ≡ Some 2398 }
-    ensures year { yearly_rate 120000 january year_of_twelve ≡ Some 2376 }
-    ensures year_with_fee { yearly_rate 117600 january year_of_twelve ≡ Some 2865 }
-    ensures in_a_year { yearly_rate 100000 january in_a_year ≡ Some 1000 }
-    ensures one_cent { yearly_rate 1 january one_cent ≡ Some 0 }
+    ensures quarter { yearly_rate 100000 pay_out_day quarter ≡ Some 1295 }
+    ensures quarter_with_fee { yearly_rate 98500 pay_out_day quarter ≡ Some 2398 }
+    ensures year { yearly_rate 120000 pay_out_day year_of_twelve ≡ Some 2376 }
+    ensures year_with_fee { yearly_rate 117600 pay_out_day year_of_twelve ≡ Some 2865 }
+    ensures in_a_year { yearly_rate 100000 pay_out_day in_a_year ≡ Some 1000 }
+    ensures one_cent { yearly_rate 1 pay_out_day one_cent ≡ Some 0 }
 {}
 
 /// A preview is refused exactly as submitting is, for a client that is there: with the same refusal, and where it is
@@ -117,12 +126,12 @@ pub fn paying_out_gives_what_was_shown()
 
 /// A preview that a second program worked out, and each refusal.
 pub fn worked_preview()
-    ensures shown { preview_in worked_catalogue 1 100000 3 january ≡ Ok worked_loan }
-    ensures missing { preview_in worked_catalogue 3 100000 3 january ≡ Err F4 }
-    ensures none { preview_in worked_catalogue 0 100000 3 january ≡ Err F4 }
-    ensures retired { preview_in worked_catalogue 2 9999 3 january ≡ Err F7 }
-    ensures little { preview_in worked_catalogue 1 9999 3 january ≡ Err F8 }
-    ensures long { preview_in worked_catalogue 1 100000 25 january ≡ Err F8 }
+    ensures shown { preview_in worked_catalogue 1 100000 3 pay_out_day ≡ Ok worked_loan }
+    ensures missing { preview_in worked_catalogue 3 100000 3 pay_out_day ≡ Err F4 }
+    ensures none { preview_in worked_catalogue 0 100000 3 pay_out_day ≡ Err F4 }
+    ensures retired { preview_in worked_catalogue 2 9999 3 pay_out_day ≡ Err F7 }
+    ensures little { preview_in worked_catalogue 1 9999 3 pay_out_day ≡ Err F8 }
+    ensures long { preview_in worked_catalogue 1 100000 25 pay_out_day ≡ Err F8 }
 {}
 
 /// A list is read off what the office of whoever asks sees: what lies elsewhere changes nothing, and an office that
@@ -136,6 +145,20 @@ pub fn lists_are_read_off_the_view()
         is_at_or_below (parent_of i.offices) x o ≡ false → list_seen folded asked o x i ≡ Err F4 }
 {}
 
+/// What a caller is told is read off what their office sees. A caller who isn't there is F2. To one who is, an office
+/// that isn't seen is F4, whether it is there or not.
+pub fn an_answer_is_read_off_the_view()
+    ensures view { (folded : List ℕ → List ℕ) (c : Caller) (request : ListRequest) (i : Institution) →
+        list_reply folded c request (view c.office i) ≡ list_reply folded c request i }
+    ensures alike { (folded : List ℕ → List ℕ) (c : Caller) (request : ListRequest) (i j : Institution) →
+        view c.office i ≡ view c.office j → list_reply folded c request i ≡ list_reply folded c request j }
+    ensures nobody { (folded : List ℕ → List ℕ) (c : Caller) (request : ListRequest) (i : Institution) →
+        staff_at i c ≡ None → list_reply folded c request i ≡ Err F2 }
+    ensures unseen { (folded : List ℕ → List ℕ) (c : Caller) (s : Staff) (x : ℕ) (asked : ListAsked)
+        (i : Institution) → staff_at i c ≡ Some s → is_at_or_below (parent_of i.offices) x c.office ≡ false →
+        list_reply folded c (OfOffice x asked) i ≡ Err F4 }
+{}
+
 /// Pages that follow one another, each after the last number of the one before it, give the whole list, each line once
 /// and in order: so many pages of 500 or 200 lines give up to so many times 500 or 200 lines.
 pub fn pages_give_the_whole()
@@ -143,9 +166,10 @@ pub fn pages_give_the_whole()
         pages (λ (c : ClientLine). c.number) (λ after. clients_after after k rows) turns 0 ≡ clients_of k rows }
     ensures due { (k : Catalogue) (rows : Rows) (day turns : ℕ) → length (due_lines day k rows) ≤ 200 * turns →
         pages (λ (d : DueLine). d.loan) (λ after. due_after day after k rows) turns 0 ≡ due_lines day k rows }
-    ensures stages { (k : Catalogue) (rows : Rows) (status turns : ℕ) → length (loans_at status k rows) ≤ 200 * turns →
+    ensures stages { (k : Catalogue) (rows : Rows) (status turns : ℕ) →
+        length (stage_lines status k rows) ≤ 200 * turns →
         pages (λ (s : StageLine). s.loan) (λ after. stages_after status after k rows) turns 0
-        ≡ loans_at status k rows }
+        ≡ stage_lines status k rows }
 {}
 
 /// What is told to be due of a loan fell due by the day, and is no more than what is left to pay.
@@ -171,6 +195,21 @@ pub fn a_part_stands_where_it_is_found()
         (before : List ℕ) × ((rest : List ℕ) × (text ≡ before ++ (part ++ rest))) }
 {}
 
+/// What callers are told who ask the small institution: its teller the list of the staff, and what a loan would be; F4
+/// of an office above theirs and of one that isn't there; F2 where there is no such member of staff.
+pub fn worked_answers()
+    ensures staff { list_reply (λ text. text) teller (OfOffice 2 StaffOf) small
+        ≡ Ok (Listed 2 (StaffLines zola_and_yemi)) }
+    ensures above { list_reply (λ text. text) teller (OfOffice 1 StaffOf) small ≡ Err F4 }
+    ensures beside { list_reply (λ text. text) teller (OfOffice 3 StaffOf) small ≡ Err F4 }
+    ensures missing { list_reply (λ text. text) teller (OfOffice 4 StaffOf) small ≡ Err F4 }
+    ensures nobody { list_reply (λ text. text) nobody (OfOffice 2 StaffOf) small ≡ Err F2 }
+    ensures preview { list_reply (λ text. text) teller (Preview 1 100000 3 pay_out_day) small
+        ≡ Ok (Previewed worked_loan) }
+    ensures retired { list_reply (λ text. text) teller (Preview 2 9999 3 pay_out_day) small ≡ Err F7 }
+    ensures nobody_asks { list_reply (λ text. text) nobody (Preview 1 100000 3 pay_out_day) small ≡ Err F2 }
+{}
+
 /// Each list of a small institution, worked out by hand; names are folded by nothing.
 pub fn worked_lists()
     ensures clients { list_seen (λ text. text) (Clients 0) 1 2 small ≡ Ok (ClientLines (amina ∷ binta ∷ chidi ∷ [])) }
@@ -179,18 +218,18 @@ pub fn worked_lists()
     ensures empty { list_seen (λ text. text) (Clients 0) 1 3 small ≡ Ok (ClientLines []) }
     ensures loans { list_seen (λ text. text) (LoansOf 1) 1 2 small ≡ Ok (ClientLoans loans_of_amina) }
     ensures nobody { list_seen (λ text. text) (LoansOf 4) 1 2 small ≡ Err F4 }
-    ensures due { list_seen (λ text. text) (DueBy march 0) 1 2 small ≡ Ok (DueLines (due_of_amina ∷ [])) }
+    ensures due { list_seen (λ text. text) (DueBy worked_day 0) 1 2 small ≡ Ok (DueLines (due_of_amina ∷ [])) }
     ensures early { list_seen (λ text. text) (DueBy (first_due - 1) 0) 1 2 small ≡ Ok (DueLines []) }
     ensures later { list_seen (λ text. text) (DueBy second_due 0) 1 2 small
         ≡ Ok (DueLines (later_of_amina ∷ later_of_binta ∷ [])) }
     ensures later_after { list_seen (λ text. text) (DueBy second_due 2) 1 2 small
         ≡ Ok (DueLines (later_of_binta ∷ [])) }
     ensures active { list_seen (λ text. text) (AtStatus 300 0) 1 2 small ≡ Ok (StageLines
-        (stage_of 2 1 (codes "Amina") (Some january) ∷ stage_of 3 2 (codes "Binta") (Some january) ∷ [])) }
+        (stage_of 2 1 (codes "Amina") (Some pay_out_day) ∷ stage_of 3 2 (codes "Binta") (Some pay_out_day) ∷ [])) }
     ensures submitted { list_seen (λ text. text) (AtStatus 100 0) 1 2 small ≡ Ok (StageLines
         (stage_of 1 1 (codes "Amina") None ∷ [])) }
     ensures approved { list_seen (λ text. text) (AtStatus 200 4) 1 2 small ≡ Ok (StageLines
-        (stage_of 5 3 (codes "Chidi") (Some march) ∷ [])) }
+        (stage_of 5 3 (codes "Chidi") (Some worked_day) ∷ [])) }
     ensures staff { list_seen (λ text. text) StaffOf 1 2 small ≡ Ok (StaffLines zola_and_yemi) }
     ensures find { list_seen (λ text. text) (Find (codes "in")) 1 2 small ≡ Ok (ClientLines (amina ∷ binta ∷ [])) }
     ensures find_number { list_seen (λ text. text) (Find (codes "0002-000003")) 1 2 small

@@ -1,13 +1,13 @@
 //! The lines of the lists. Amounts are whole cents.
 
 use mf_base::{Day, Name};
-use mf_office::Role;
+use mf_office::{AccountNo, Role, StaffNo};
 
 /// A client of an office, with how many of their loans wait, are active, and are overdue.
 #[derive(Drop)]
 pub struct ClientLine {
-    /// Its number within the office, from 1.
-    pub number: u32,
+    /// Its number within the office.
+    pub number: AccountNo,
     pub name: Name,
     /// Loans that are submitted or approved and not yet paid out.
     pub waiting: u32,
@@ -20,8 +20,8 @@ pub struct ClientLine {
 /// A loan of a client.
 #[derive(Clone, Copy)]
 pub struct ClientLoan {
-    /// Its number within the office, from 1.
-    pub loan: u32,
+    /// Its number within the office.
+    pub loan: AccountNo,
     pub product: u32,
     pub principal: u64,
     pub status: u16,
@@ -47,10 +47,10 @@ pub struct LastEntry {
 /// An active loan of which something is due by a day and outstanding.
 #[derive(Drop)]
 pub struct DueLine {
-    /// Its number within the office, from 1.
-    pub loan: u32,
+    /// Its number within the office.
+    pub loan: AccountNo,
     /// The number of its client, and their name.
-    pub client: u32,
+    pub client: AccountNo,
     pub name: Name,
     /// When the oldest instalment fell due of which something is outstanding.
     pub oldest: Day,
@@ -65,10 +65,10 @@ pub struct DueLine {
 /// A loan of a status.
 #[derive(Drop)]
 pub struct StageLine {
-    /// Its number within the office, from 1.
-    pub loan: u32,
+    /// Its number within the office.
+    pub loan: AccountNo,
     /// The number of its client, and their name.
-    pub client: u32,
+    pub client: AccountNo,
     pub name: Name,
     pub product: u32,
     pub principal: u64,
@@ -79,8 +79,8 @@ pub struct StageLine {
 /// A member of staff of an office.
 #[derive(Drop)]
 pub struct StaffLine {
-    /// Its number within the office, from 1.
-    pub number: u32,
+    /// Its number within the office.
+    pub number: StaffNo,
     pub name: Name,
     pub role: Role,
 }

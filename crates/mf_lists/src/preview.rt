@@ -1,18 +1,21 @@
 //! What a loan would be, before it is submitted.
 
-ghost use Rattle.std.specs.Prelude.{◌≡◌, ◌≤◌, ◌⊎◌, true, Ok, Err, IfOk, IfErr, IsOkUnless};
+ghost use Rattle.std.specs.Prelude.{◌≡◌, ◌≤◌, ◌⊎◌, true, Ok, Err, IfOk, IfErr, IfSome, IsOkUnless, IsTrue};
 ghost use Rattle.std.specs.List.{AllByRecursion};
 ghost use Rattle.mf_base.specs.DayText.{last_entered_day};
 ghost use Rattle.mf_base.specs.declared.fault.Fault.{Fault};
 ghost use Rattle.mf_base.specs.declared.fault.Fault.TheVariants.{F20};
-ghost use Rattle.mf_catalog.specs.Limits.{IsChargeWithinLimits};
+ghost use Rattle.mf_catalog.specs.Limits.{AreTermsWithinLimits, IsChargeWithinLimits};
 ghost use Rattle.mf_catalog.specs.Product.{AreMembersWithinLimits, charge_at, charges_there, lending, limits_agree};
 ghost use Rattle.mf_schedule.specs.Fresh.{IsLoanWithinLimits};
 ghost use Rattle.mf_lists.specs.Preview.{preview_by, preview_of};
 
 use crate::rate::{owed_together, yearly_rate};
 use mf_base::{Day, Fault};
-use mf_catalog::{ChargeDef, Product, Terms, terms_for};
+use mf_catalog::{
+    ChargeDef, GREATEST_AMOUNT, GREATEST_RATE, MOST_PERIODS, Product, Terms, greatest_value,
+    longest_step, terms_for,
+};
 use mf_schedule::{FreshInstalment, disbursement_fee, fresh};
 use mf_statement::Listing;
 use std::alloc::Global;
@@ -59,6 +62,63 @@ fn preview_by(
         owed,
         rate,
     })
+}
+
+/// Whether a charge, where there is one, has a value within its limits.
+fn is_charge_within_limits(charge: &Option<ChargeDef>) -> bool
+    ensures within { IsTrue result → IfSome charge.now IsChargeWithinLimits }
+    ensures exact { IfSome charge.now IsChargeWithinLimits → IsTrue result }
+{
+    match charge {
+        None => true,
+        Some(charge) => charge.value >= 1 && charge.value <= greatest_value(charge.calc),
+    }
+}
+
+/// Whether terms are within the limits.
+fn are_terms_within_limits(terms: &Terms) -> bool
+    ensures within { IsTrue result → AreTermsWithinLimits terms.now }
+    ensures exact { AreTermsWithinLimits terms.now → IsTrue result }
+{
+    terms.rate <= GREATEST_RATE
+        && terms.every >= 1
+        && terms.every <= longest_step(terms.freq)
+        && is_charge_within_limits(&terms.disbursement)
+        && is_charge_within_limits(&terms.instalment)
+        && is_charge_within_limits(&terms.overdue)
+}
+
+/// Whether a loan of so many cents over n periods on these terms is within the limits.
+pub fn is_loan_within_limits(terms: &Terms, principal: u64, n: u32) -> bool
+    ensures within { IsTrue result → IsLoanWithinLimits terms.now principal n }
+    ensures exact { IsLoanWithinLimits terms.now principal n → IsTrue result }
+{
+    are_terms_within_limits(terms)
+        && principal >= 1
+        && principal <= GREATEST_AMOUNT
+        && n <= MOST_PERIODS
+        && terms.principal_grace < n
+        && terms.interest_grace < n
+}
+
+/// What a loan of so many cents over n periods would be on terms that were read, paid out on a day. The only error is
+/// F20: out of memory, or terms outside the limits, which no product gives.
+pub fn preview_on_terms(
+    alloc: Global,
+    terms: &Terms,
+    principal: u64,
+    n: u32,
+    day: Day,
+) -> Result<LoanPreview, Fault>
+    requires day { day ≤ last_entered_day }
+    ensures ok { IfOk result (λ shown. shown ≡ preview_by terms.now principal n day) }
+    ensures err { IsOkUnless result F20 }
+{
+    if is_loan_within_limits(terms, principal, n) {
+        preview_by(alloc, terms, principal, n, day)
+    } else {
+        Err(Fault::F20)
+    }
 }
 
 /// What a loan of a product would be, of so many cents over n periods, paid out on a day. F7 where the product is

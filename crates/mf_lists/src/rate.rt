@@ -2,7 +2,7 @@
 
 ghost use Rattle.std.specs.Prelude.{◌≡◌, ◌-◌, ◌<◌, ◌≤◌, ◌^◌, IfSome, true};
 ghost use Rattle.mf_schedule.specs.Fresh.{total_owed};
-ghost use Rattle.mf_lists.specs.Rate.{after_days, asked_by, is_borne, least_daily_rate};
+ghost use Rattle.mf_lists.specs.Rate.{after_days, millionths_asked, is_borne, least_daily_rate};
 ghost use Rattle.mf_lists.specs.Rate.{most_daily_rate, most_yearly_rate, yearly_from, yearly_rate};
 
 use mf_base::{Day, half_even};
@@ -25,7 +25,7 @@ const HUNDREDTH_OF_A_PERCENT: u128 = 100_000_000;
 
 /// What an instalment asks, in millionths of a cent.
 fn asked(row: &FreshInstalment) -> u128
-    ensures { result ≡ asked_by row.now }
+    ensures { result ≡ millionths_asked row.now }
 {
     MILLION * (row.principal as u128 + row.interest as u128 + row.fees as u128)
 }

@@ -4,14 +4,14 @@ use Rattle.mf_model.specs.Accounts.{status_in}
 use Rattle.mf_lists.specs.declared.lines.ClientLine.{ClientLine}
 use Rattle.mf_lists.specs.declared.lines.DueLine.{DueLine}
 use Rattle.mf_lists.specs.declared.lines.StageLine.{StageLine}
-use Rattle.mf_lists.specs.Lists.{client_line, due_line, is_due, stage_line}
+use Rattle.mf_lists.specs.Lists.{counted_client, due_line, is_due, stage_line}
 use Rattle.mf_lists.proofs.ListLemmas.{lines-by_pages}
 use Rattle.mf_lists.proofs.laws.pages_give_the_whole.Goals as goal
 
 pub returns-clause-clients : goal.returns-clause-clients
 returns-clause-clients c = λ k rows turns few.
-    lines-by_pages (λ (c : ClientLine). c.number) (client_line k rows) (λ c. refl) (λ c. true) 500 turns rows.clients
-    few
+    lines-by_pages (λ (c : ClientLine). c.number) (counted_client k rows) (λ c. refl) (λ c. true) 500 turns
+    rows.clients few
 
 pub returns-clause-due : goal.returns-clause-due
 returns-clause-due c = λ k rows day turns few.

@@ -3,7 +3,7 @@ use Rattle.std.proofs.Common.{◌∙◌, add-one}
 use Rattle.std.proofs.Math.Seq.{drop-cons}
 use Rattle.std.proofs.lemmas.List.{drop_all}
 use Rattle.mf_schedule.specs.declared.instalment.FreshInstalment.{FreshInstalment}
-use Rattle.mf_lists.specs.Rate.{after_days, asked_by, asked_by_all, bears}
+use Rattle.mf_lists.specs.Rate.{after_days, millionths_asked, asked_by_all, bears}
 use Rattle.mf_lists.proofs.RateLemmas.{enough-by_then, bears-next, bears-not, none-borne, asked-cons, asked-owed}
 use Rattle.mf_lists.proofs.rate.bears.Goals as goal
 
@@ -66,7 +66,7 @@ loop-row-preserved c =
     let grown = c.grown-balance.ensures.value (omega arith) in
     let asked = ap asked_by_all left ∙ asked-cons row others in
     let balance : c.grown-balance.result - c.asked-asked.result
-    ≡ after_days c.args.rate (row.due - at.day) at.balance - asked_by row =
+    ≡ after_days c.args.rate (row.due - at.day) at.balance - millionths_asked row =
     omega (arith, days, grown, c.asked-asked.ensures) in
     let next = bears-next c.args.rate at.day at.balance row others
     (omega (arith, days, grown, c.asked-asked.ensures)) in

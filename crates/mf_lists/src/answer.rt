@@ -1,0 +1,30 @@
+//! What a request for a list is told where it succeeds.
+
+use crate::lines::{ClientLine, ClientLoan, DueLine, StaffLine, StageLine};
+use crate::preview::LoanPreview;
+use mf_office::OfficeNo;
+use mf_statement::Listing;
+
+/// The lines of a list of one office, by number.
+#[derive(Drop)]
+pub enum ListTold {
+    /// Clients.
+    ClientLines(Listing<ClientLine>),
+    /// Loans of one client.
+    ClientLoans(Listing<ClientLoan>),
+    /// Loans of which something is due.
+    DueLines(Listing<DueLine>),
+    /// Loans of one status.
+    StageLines(Listing<StageLine>),
+    /// Staff.
+    StaffLines(Listing<StaffLine>),
+}
+
+/// What is told.
+#[derive(Drop)]
+pub enum ListAnswer {
+    /// A list of an office, with the office's number.
+    Listed { office: OfficeNo, told: ListTold },
+    /// What a loan would be.
+    Previewed(LoanPreview),
+}

@@ -1,0 +1,77 @@
+//! The trait between a store and the desk of the lists: the lists of an office that is there.
+
+use mf_base::{Day, Fault, Name};
+use mf_lists::{ClientLine, ClientLoan, DueLine, StaffLine, StageLine};
+use mf_model::InstitutionStore;
+use mf_office::{Account, OfficeNo};
+use mf_statement::Listing;
+use std::alloc::Global;
+
+/// A store that tells the lists of an office, beside what the desk reads. Each call answers what the institution says,
+/// or gives up with F20, and changes nothing. Of an office that isn't there each tells an empty list.
+pub trait ListStore: InstitutionStore {
+    ghost use Rattle.std.specs.Prelude.{ℕ, List};
+    ghost use Rattle.mf_lists.specs.Lists.{clients_after, due_after, find_clients, stages_after, staff_of};
+    ghost use Rattle.mf_lists_desk.specs.Readings.{in_rows_of, client_loans_at};
+    ghost use Rattle.mf_model.specs.Store.{Reads};
+
+    /// How names are folded before they are compared.
+    ghost folded: { List ℕ → List ℕ };
+
+    /// The first 500 clients of an office whose number is above one, by number.
+    fn clients_after(
+        &mut self,
+        alloc: Global,
+        office: OfficeNo,
+        after: u32,
+    ) -> Result<Listing<ClientLine>, Fault>
+        ensures { Reads Self.stands Self.clean Self.leaves (in_rows_of office (clients_after after)) self.old self.new
+            result };
+
+    /// The loans of a client, by number, or None where there is no such client.
+    fn loans_of_client(
+        &mut self,
+        alloc: Global,
+        client: Account,
+    ) -> Result<Option<Listing<ClientLoan>>, Fault>
+        ensures { Reads Self.stands Self.clean Self.leaves (client_loans_at client) self.old self.new result };
+
+    /// The first 200 active loans of an office whose number is above one and of which something is due by a day and
+    /// outstanding, by number.
+    fn due_after(
+        &mut self,
+        alloc: Global,
+        office: OfficeNo,
+        day: Day,
+        after: u32,
+    ) -> Result<Listing<DueLine>, Fault>
+        ensures { Reads Self.stands Self.clean Self.leaves (in_rows_of office (due_after day after)) self.old self.new
+            result };
+
+    /// The first 200 loans of an office whose number is above one and that have a status, by number.
+    fn stages_after(
+        &mut self,
+        alloc: Global,
+        office: OfficeNo,
+        status: u32,
+        after: u32,
+    ) -> Result<Listing<StageLine>, Fault>
+        ensures { Reads Self.stands Self.clean Self.leaves (in_rows_of office (stages_after status after)) self.old
+            self.new result };
+
+    /// The staff of an office, by number.
+    fn staff_of(&mut self, alloc: Global, office: OfficeNo) -> Result<Listing<StaffLine>, Fault>
+        ensures { Reads Self.stands Self.clean Self.leaves (in_rows_of office (λ k rows. staff_of rows)) self.old
+            self.new result };
+
+    /// The first 50 clients of an office that have a part in their name, or have it as their number or as that of one
+    /// of their loans, by number.
+    fn find_clients(
+        &mut self,
+        alloc: Global,
+        office: OfficeNo,
+        part: &Name,
+    ) -> Result<Listing<ClientLine>, Fault>
+        ensures { Reads Self.stands Self.clean Self.leaves (in_rows_of office (find_clients folded office part.now))
+            self.old self.new result };
+}
