@@ -336,6 +336,16 @@ impl Flaws for ReceiptFlaw {
     }
 }
 
+/// The loan of a row of an account, and the number of its instalment or of its entry.
+#[derive(Clone, Copy, Debug, PartialEq, Eq)]
+pub struct RowKey {
+    pub office: u32,
+    /// The loan's number within the office.
+    pub loan: u32,
+    /// The number within the loan: of an instalment, or of the entry that a share is of.
+    pub number: u32,
+}
+
 /// A row that breaks a condition: by its table, its place there in the order of the key, counted from 0, and what is
 /// wrong.
 #[derive(Clone, Copy, Debug, PartialEq, Eq)]
@@ -354,11 +364,11 @@ pub enum Finding {
     Entry { place: usize, flaw: EntryFlaw },
     Receipt { place: usize, flaw: ReceiptFlaw },
     /// At this place the instalments are not those that the loans' entries give, replayed; one of the two may be
-    /// missing there.
-    Instalment { place: usize },
+    /// missing there. The key is the lesser of the two.
+    Instalment { place: usize, key: Option<RowKey> },
     /// At this place the shares are not those that the loans' entries give, replayed; one of the two may be missing
-    /// there.
-    Share { place: usize },
+    /// there. The key is the lesser of the two.
+    Share { place: usize, key: Option<RowKey> },
     /// No sound institution has these rows, although no row by itself breaks a condition.
     Unsound,
 }

@@ -3,10 +3,13 @@
 ghost use Rattle.std.specs.Prelude.{◌≡◌, ◌↔◌, ℕ, IsTrue, IsNone, IfSome, true, false, option_copied};
 ghost use Rattle.std.specs.List.{Contains, list_any};
 ghost use Rattle.mf_store_audit.specs.Keys.{by_key, is_at, is_beside, number_in_key};
+ghost use Rattle.mf_store_audit.specs.Keys.{instalment_key, share_key};
 ghost use Rattle.mf_store_audit.specs.Places.{IsAfter, number_within};
 
 use crate::rows::find_row;
-use mf_store_schema::{ChargeRow, ClientRow, EntryRow, LoanRow, OfficeRow, ProductRow, StaffRow};
+use mf_store_schema::{
+    ChargeRow, ClientRow, EntryRow, InstalmentRow, LoanRow, OfficeRow, ProductRow, ShareRow, StaffRow,
+};
 
 /// A row that is known by an office, a loan and a number, or by some of these.
 pub(crate) trait Keyed {
@@ -103,6 +106,22 @@ impl Keyed for LoanRow {
 
 impl Keyed for EntryRow {
     ghost key = { λ row. (row.office, row.loan, row.seq) };
+
+    fn key(&self) -> (u32, u32, u32) {
+        (self.office, self.loan, self.seq)
+    }
+}
+
+impl Keyed for InstalmentRow {
+    ghost key = { instalment_key };
+
+    fn key(&self) -> (u32, u32, u32) {
+        (self.office, self.loan, self.number)
+    }
+}
+
+impl Keyed for ShareRow {
+    ghost key = { share_key };
 
     fn key(&self) -> (u32, u32, u32) {
         (self.office, self.loan, self.seq)

@@ -32,7 +32,7 @@ pub use files::{audit_file, audit_file_with};
 pub use find::findings;
 pub use finding::{
     ChargeFlaw, ClientFlaw, EntryFlaw, Finding, LoanFlaw, MetaFlaw, OfficeFlaw, ProductFlaw,
-    ReceiptFlaw, StaffFlaw,
+    ReceiptFlaw, RowKey, StaffFlaw,
 };
 pub use sums_by_office::office_sums;
 pub use totals::{EntryCounts, LoanCounts, MoneySums, OfficeSums, PrincipalSums, Sums, total};

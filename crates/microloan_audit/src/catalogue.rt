@@ -1,5 +1,8 @@
 //! What is said of rows of meta, of charges and of products.
 
+ghost use Rattle.std.specs.Prelude.{◌≡◌};
+ghost use Rattle.microloan_audit.specs.Words as spec;
+
 use mf_store_audit::{ChargeFlaw, MetaFlaw, ProductFlaw};
 
 /// What is said of a row that is not numbered as it should be.
@@ -11,7 +14,9 @@ pub(crate) const NO_NAME: &str =
     "its name is not 1 to 100 characters, none of them a control character";
 
 /// What is said of a row of meta.
-pub(crate) fn words_of_meta(flaw: MetaFlaw) -> &'static str {
+pub(crate) fn words_of_meta(flaw: MetaFlaw) -> &'static str
+    ensures { result.now ≡ spec.meta_words flaw }
+{
     match flaw {
         MetaFlaw::Key => "its key is not 1",
         MetaFlaw::Schema => "its schema is not that of these tables",
@@ -20,7 +25,9 @@ pub(crate) fn words_of_meta(flaw: MetaFlaw) -> &'static str {
 }
 
 /// What is said of a row of a charge.
-pub(crate) fn words_of_charge(flaw: ChargeFlaw) -> &'static str {
+pub(crate) fn words_of_charge(flaw: ChargeFlaw) -> &'static str
+    ensures { result.now ≡ spec.charge_words flaw }
+{
     match flaw {
         ChargeFlaw::Number => NOT_NEXT,
         ChargeFlaw::Limit => "its number is above 999",
@@ -33,7 +40,9 @@ pub(crate) fn words_of_charge(flaw: ChargeFlaw) -> &'static str {
 }
 
 /// What is said of a row of a product.
-pub(crate) fn words_of_product(flaw: ProductFlaw) -> &'static str {
+pub(crate) fn words_of_product(flaw: ProductFlaw) -> &'static str
+    ensures { result.now ≡ spec.product_words flaw }
+{
     match flaw {
         ProductFlaw::Number => NOT_NEXT,
         ProductFlaw::Limit => "its number is above 999",

@@ -1,5 +1,8 @@
 //! What is said of rows of entries and of receipts.
 
+ghost use Rattle.std.specs.Prelude.{◌≡◌};
+ghost use Rattle.microloan_audit.specs.Words as spec;
+
 use crate::catalogue::{NOT_NEXT, OUT_OF_ORDER};
 use mf_store_audit::{EntryFlaw, ReceiptFlaw};
 
@@ -7,7 +10,9 @@ use mf_store_audit::{EntryFlaw, ReceiptFlaw};
 pub(crate) const NOT_REPLAYED: &str = "not what replaying the entries gives";
 
 /// What is said of a row of an entry.
-pub(crate) fn words_of_entry(flaw: EntryFlaw) -> &'static str {
+pub(crate) fn words_of_entry(flaw: EntryFlaw) -> &'static str
+    ensures { result.now ≡ spec.entry_words flaw }
+{
     match flaw {
         EntryFlaw::Order => OUT_OF_ORDER,
         EntryFlaw::Loan => "its loan is not there",
@@ -32,7 +37,9 @@ pub(crate) fn words_of_entry(flaw: EntryFlaw) -> &'static str {
 }
 
 /// What is said of a row of a receipt.
-pub(crate) fn words_of_receipt(flaw: ReceiptFlaw) -> &'static str {
+pub(crate) fn words_of_receipt(flaw: ReceiptFlaw) -> &'static str
+    ensures { result.now ≡ spec.receipt_words flaw }
+{
     match flaw {
         ReceiptFlaw::Order => OUT_OF_ORDER,
         ReceiptFlaw::Entry => "the entry that it names does not carry it",

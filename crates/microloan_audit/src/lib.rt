@@ -6,6 +6,7 @@ mod entries;
 mod line;
 mod loans;
 mod offices;
+mod quoted;
 mod sums;
 mod text;
 mod unread;

@@ -1,25 +1,35 @@
 //! The line of a finding: its table, the row's key as people know it, and the condition that the row breaks.
 
+ghost use Rattle.std.specs.Prelude.{◌≡◌, ◌++◌, string_bytes, slice_get, IfOk, IsOkUnless, codes, decimal};
+ghost use Rattle.mf_office.specs.Written as written;
+ghost use Rattle.microloan_audit.specs.Lines as spec;
+ghost use Rattle.microloan_audit.specs.Quoted.{quoted};
+ghost use Rattle.microloan_audit.specs.Words as words;
+
 use crate::catalogue::{words_of_charge, words_of_meta, words_of_product};
 use crate::entries::{NOT_REPLAYED, words_of_entry, words_of_receipt};
 use crate::loans::words_of_loan;
 use crate::offices::{words_of_client, words_of_office, words_of_staff};
+use crate::quoted::quoted;
 use mf_base::Fault;
 use mf_store_audit::{
     ChargeFlaw, ClientFlaw, EntryFlaw, Finding, LoanFlaw, OfficeFlaw, ProductFlaw, ReceiptFlaw,
-    StaffFlaw,
+    RowKey, StaffFlaw,
 };
-use mf_store_schema::{InstalmentRow, ShareRow};
-use mf_store_sound::{Tables, account_rows};
+use mf_store_sound::Tables;
 use std::alloc::Global;
 
 /// The line of a finding among the rows of these tables, as `loans 0005-000002: its product lends at most 12 periods`.
 /// The error is F20, out of memory.
+#[tactic(auto, unfolding(crate::specs::Lines::finding_line))]
 pub(crate) fn finding_line(
     alloc: Global,
     tables: &Tables,
     finding: Finding,
-) -> Result<String, Fault> {
+) -> Result<String, Fault>
+    ensures text { IfOk result (λ text. string_bytes text ≡ spec.finding_line tables.now finding) }
+    ensures only { IsOkUnless result Fault.F20 }
+{
     match finding {
         Finding::MetaRows => Ok(format!(in alloc;
             "meta: {} rows, and not one",
@@ -35,15 +45,73 @@ pub(crate) fn finding_line(
         Finding::Loan { place, flaw } => loan_line(alloc, tables, place, flaw),
         Finding::Entry { place, flaw } => entry_line(alloc, tables, place, flaw),
         Finding::Receipt { place, flaw } => receipt_line(alloc, tables, place, flaw),
-        Finding::Instalment { place } => instalment_line(alloc, tables, place),
-        Finding::Share { place } => share_line(alloc, tables, place),
+        Finding::Instalment { place, key } => instalment_line(alloc, place, key),
+        Finding::Share { place, key } => share_line(alloc, place, key),
         Finding::Unsound => Ok(format!(in alloc; "no sound institution has these rows")?),
     }
 }
 
 /// The line of a place at which a table has no row. No finding names one.
-fn no_row(alloc: Global, table: &str, place: usize) -> Result<String, Fault> {
+fn no_row(alloc: Global, table: &str, place: usize) -> Result<String, Fault>
+    ensures text { IfOk result (λ text. string_bytes text
+        ≡ table.now ++ (codes ": no row at " ++ decimal place)) }
+    ensures only { IsOkUnless result Fault.F20 }
+{
     Ok(format!(in alloc; "{table}: no row at {place}")?)
+}
+
+/// A table, the key of its row, and what is said of it.
+fn say(alloc: Global, table: &str, key: &str, words: &str) -> Result<String, Fault>
+    ensures text { IfOk result (λ text. string_bytes text ≡ spec.said_of table.now key.now words.now) }
+    ensures only { IsOkUnless result Fault.F20 }
+{
+    Ok(format!(in alloc; "{table} {key}: {words}")?)
+}
+
+/// A number as a text.
+fn number_text(alloc: Global, number: u32) -> Result<String, Fault>
+    ensures text { IfOk result (λ text. string_bytes text ≡ decimal number) }
+    ensures only { IsOkUnless result Fault.F20 }
+{
+    Ok(format!(in alloc; "{number}")?)
+}
+
+/// A client or a loan by its office and its number, whether or not there may be one.
+fn account_text(alloc: Global, office: u32, number: u32) -> Result<String, Fault>
+    ensures text { IfOk result (λ text. string_bytes text ≡ written.account_text office number) }
+    ensures only { IsOkUnless result Fault.F20 }
+{
+    let text = format!(in alloc; "{office:04}-{number:06}")?;
+    Ok(text)
+}
+
+/// A member of staff by their office and number.
+fn caller_text(alloc: Global, office: u32, number: u32) -> Result<String, Fault>
+    ensures text { IfOk result (λ text. string_bytes text ≡ written.caller_text office number) }
+    ensures only { IsOkUnless result Fault.F20 }
+{
+    Ok(format!(in alloc; "{office}/{number}")?)
+}
+
+/// The key of a receipt.
+fn receipt_key(alloc: Global, office: u32, receipt: &str) -> Result<String, Fault>
+    ensures text { IfOk result (λ text. string_bytes text
+        ≡ decimal office ++ (codes " " ++ quoted receipt.now)) }
+    ensures only { IsOkUnless result Fault.F20 }
+{
+    let receipt = quoted(alloc, receipt)?;
+    let receipt = receipt.as_str();
+    Ok(format!(in alloc; "{office} {receipt}")?)
+}
+
+/// The key of an entry.
+fn entry_key(alloc: Global, office: u32, loan: u32, seq: u32) -> Result<String, Fault>
+    ensures text { IfOk result (λ text. string_bytes text ≡ spec.entry_key office loan seq) }
+    ensures only { IsOkUnless result Fault.F20 }
+{
+    let loan = account_text(alloc, office, loan)?;
+    let loan = loan.as_str();
+    Ok(format!(in alloc; "{loan} entry {seq}")?)
 }
 
 fn charge_line(
@@ -51,9 +119,16 @@ fn charge_line(
     tables: &Tables,
     place: usize,
     flaw: ChargeFlaw,
-) -> Result<String, Fault> {
+) -> Result<String, Fault>
+    ensures text { IfOk result (λ text. string_bytes text
+        ≡ spec.charge_line (λ row. words.charge_words flaw) place (slice_get tables.now.charges place)) }
+    ensures only { IsOkUnless result Fault.F20 }
+{
     match tables.charges.get(place) {
-        Some(row) => Ok(format!(in alloc; "charges {}: {}", row.number, words_of_charge(flaw))?),
+        Some(row) => {
+            let key = number_text(alloc, row.number)?;
+            say(alloc, "charges", key.as_str(), words_of_charge(flaw))
+        }
         None => no_row(alloc, "charges", place),
     }
 }
@@ -63,9 +138,16 @@ fn product_line(
     tables: &Tables,
     place: usize,
     flaw: ProductFlaw,
-) -> Result<String, Fault> {
+) -> Result<String, Fault>
+    ensures text { IfOk result (λ text. string_bytes text
+        ≡ spec.product_line (λ row. words.product_words flaw) place (slice_get tables.now.products place)) }
+    ensures only { IsOkUnless result Fault.F20 }
+{
     match tables.products.get(place) {
-        Some(row) => Ok(format!(in alloc; "products {}: {}", row.number, words_of_product(flaw))?),
+        Some(row) => {
+            let key = number_text(alloc, row.number)?;
+            say(alloc, "products", key.as_str(), words_of_product(flaw))
+        }
         None => no_row(alloc, "products", place),
     }
 }
@@ -75,11 +157,16 @@ fn office_line(
     tables: &Tables,
     place: usize,
     flaw: OfficeFlaw,
-) -> Result<String, Fault> {
+) -> Result<String, Fault>
+    ensures text { IfOk result (λ text. string_bytes text
+        ≡ spec.office_line (words.office_words tables.now.offices flaw) place (slice_get tables.now.offices place)) }
+    ensures only { IsOkUnless result Fault.F20 }
+{
     match tables.offices.get(place) {
         Some(row) => {
+            let key = number_text(alloc, row.number)?;
             let words = words_of_office(alloc, &tables.offices, row, flaw)?;
-            Ok(format!(in alloc; "offices {}: {}", row.number, words.as_str())?)
+            say(alloc, "offices", key.as_str(), words.as_str())
         }
         None => no_row(alloc, "offices", place),
     }
@@ -90,11 +177,15 @@ fn staff_line(
     tables: &Tables,
     place: usize,
     flaw: StaffFlaw,
-) -> Result<String, Fault> {
+) -> Result<String, Fault>
+    ensures text { IfOk result (λ text. string_bytes text
+        ≡ spec.staff_line (λ row. words.staff_words flaw) place (slice_get tables.now.staff place)) }
+    ensures only { IsOkUnless result Fault.F20 }
+{
     match tables.staff.get(place) {
         Some(row) => {
-            let words = words_of_staff(flaw);
-            Ok(format!(in alloc; "staff {}/{}: {words}", row.office, row.number)?)
+            let key = caller_text(alloc, row.office, row.number)?;
+            say(alloc, "staff", key.as_str(), words_of_staff(flaw))
         }
         None => no_row(alloc, "staff", place),
     }
@@ -105,11 +196,15 @@ fn client_line(
     tables: &Tables,
     place: usize,
     flaw: ClientFlaw,
-) -> Result<String, Fault> {
+) -> Result<String, Fault>
+    ensures text { IfOk result (λ text. string_bytes text
+        ≡ spec.client_line (λ row. words.client_words flaw) place (slice_get tables.now.clients place)) }
+    ensures only { IsOkUnless result Fault.F20 }
+{
     match tables.clients.get(place) {
         Some(row) => {
-            let words = words_of_client(flaw);
-            Ok(format!(in alloc; "clients {:04}-{:06}: {words}", row.office, row.number)?)
+            let key = account_text(alloc, row.office, row.number)?;
+            say(alloc, "clients", key.as_str(), words_of_client(flaw))
         }
         None => no_row(alloc, "clients", place),
     }
@@ -120,12 +215,16 @@ fn loan_line(
     tables: &Tables,
     place: usize,
     flaw: LoanFlaw,
-) -> Result<String, Fault> {
+) -> Result<String, Fault>
+    ensures text { IfOk result (λ text. string_bytes text
+        ≡ spec.loan_line (words.loan_words tables.now.products flaw) place (slice_get tables.now.loans place)) }
+    ensures only { IsOkUnless result Fault.F20 }
+{
     match tables.loans.get(place) {
         Some(row) => {
+            let key = account_text(alloc, row.office, row.number)?;
             let words = words_of_loan(alloc, &tables.products, row, flaw)?;
-            let words = words.as_str();
-            Ok(format!(in alloc; "loans {:04}-{:06}: {words}", row.office, row.number)?)
+            say(alloc, "loans", key.as_str(), words.as_str())
         }
         None => no_row(alloc, "loans", place),
     }
@@ -136,12 +235,15 @@ fn entry_line(
     tables: &Tables,
     place: usize,
     flaw: EntryFlaw,
-) -> Result<String, Fault> {
+) -> Result<String, Fault>
+    ensures text { IfOk result (λ text. string_bytes text
+        ≡ spec.entry_line (λ row. words.entry_words flaw) place (slice_get tables.now.entries place)) }
+    ensures only { IsOkUnless result Fault.F20 }
+{
     match tables.entries.get(place) {
         Some(row) => {
-            let words = words_of_entry(flaw);
-            let (office, loan, seq) = (row.office, row.loan, row.seq);
-            Ok(format!(in alloc; "entries {office:04}-{loan:06} entry {seq}: {words}")?)
+            let key = entry_key(alloc, row.office, row.loan, row.seq)?;
+            say(alloc, "entries", key.as_str(), words_of_entry(flaw))
         }
         None => no_row(alloc, "entries", place),
     }
@@ -152,61 +254,54 @@ fn receipt_line(
     tables: &Tables,
     place: usize,
     flaw: ReceiptFlaw,
-) -> Result<String, Fault> {
+) -> Result<String, Fault>
+    ensures text { IfOk result (λ text. string_bytes text
+        ≡ spec.receipt_line (λ row. words.receipt_words flaw) place (slice_get tables.now.receipts place)) }
+    ensures only { IsOkUnless result Fault.F20 }
+{
     match tables.receipts.get(place) {
         Some(row) => {
-            let words = words_of_receipt(flaw);
-            let (office, receipt) = (row.office, row.receipt.as_str());
-            Ok(format!(in alloc; "receipts {office} {receipt:?}: {words}")?)
+            let key = receipt_key(alloc, row.office, row.receipt.as_str())?;
+            say(alloc, "receipts", key.as_str(), words_of_receipt(flaw))
         }
         None => no_row(alloc, "receipts", place),
     }
 }
 
-/// The key of a row of an instalment.
-fn instalment_key(row: &InstalmentRow) -> (u32, u32, u32) {
-    (row.office, row.loan, row.number)
+/// The key of an instalment.
+fn instalment_key(alloc: Global, office: u32, loan: u32, number: u32) -> Result<String, Fault>
+    ensures text { IfOk result (λ text. string_bytes text ≡ spec.instalment_key office loan number) }
+    ensures only { IsOkUnless result Fault.F20 }
+{
+    let loan = account_text(alloc, office, loan)?;
+    let loan = loan.as_str();
+    Ok(format!(in alloc; "{loan} instalment {number}")?)
 }
 
-/// The key of a row of a share.
-fn share_key(row: &ShareRow) -> (u32, u32, u32, u32) {
-    (row.office, row.loan, row.seq, row.place)
-}
-
-/// The lesser of two keys: that of the row which one of two tables has at a place, and the other hasn't or has
-/// otherwise.
-fn lesser<K: Ord + Copy>(key: Option<K>, other: Option<K>) -> Option<K> {
-    match (key, other) {
-        (Some(key), Some(other)) => Some(key.min(other)),
-        (one, None) => one,
-        (None, one) => one,
-    }
-}
-
-fn instalment_line(alloc: Global, tables: &Tables, place: usize) -> Result<String, Fault> {
-    let (replayed, _shares) = account_rows(alloc, tables)?;
-    let key = lesser(
-        tables.instalments.get(place).map(instalment_key),
-        replayed.get(place).map(instalment_key),
-    );
+/// The line of an instalment, by the lesser key at its place.
+fn instalment_line(alloc: Global, place: usize, key: Option<RowKey>) -> Result<String, Fault>
+    ensures text { IfOk result (λ text. string_bytes text ≡ spec.instalment_line place key) }
+    ensures only { IsOkUnless result Fault.F20 }
+{
     match key {
-        Some((office, loan, number)) => Ok(format!(in alloc;
-            "instalments {office:04}-{loan:06} instalment {number}: {NOT_REPLAYED}"
-        )?),
+        Some(key) => {
+            let key = instalment_key(alloc, key.office, key.loan, key.number)?;
+            say(alloc, "instalments", key.as_str(), NOT_REPLAYED)
+        }
         None => no_row(alloc, "instalments", place),
     }
 }
 
-fn share_line(alloc: Global, tables: &Tables, place: usize) -> Result<String, Fault> {
-    let (_instalments, replayed) = account_rows(alloc, tables)?;
-    let key = lesser(
-        tables.shares.get(place).map(share_key),
-        replayed.get(place).map(share_key),
-    );
+/// The line of a share, by the lesser key at its place.
+fn share_line(alloc: Global, place: usize, key: Option<RowKey>) -> Result<String, Fault>
+    ensures text { IfOk result (λ text. string_bytes text ≡ spec.share_line place key) }
+    ensures only { IsOkUnless result Fault.F20 }
+{
     match key {
-        Some((office, loan, seq, _place)) => Ok(format!(in alloc;
-            "shares {office:04}-{loan:06} entry {seq}: {NOT_REPLAYED}"
-        )?),
+        Some(key) => {
+            let key = entry_key(alloc, key.office, key.loan, key.number)?;
+            say(alloc, "shares", key.as_str(), NOT_REPLAYED)
+        }
         None => no_row(alloc, "shares", place),
     }
 }

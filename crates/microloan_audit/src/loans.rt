@@ -1,5 +1,9 @@
 //! What is said of rows of loans.
 
+ghost use Rattle.std.specs.Prelude.{◌≡◌, string_bytes, IfOk, IsOkUnless};
+ghost use Rattle.mf_model.specs.Institution.{item_numbered};
+ghost use Rattle.microloan_audit.specs.Words as spec;
+
 use crate::catalogue::{NOT_NEXT, OUT_OF_ORDER};
 use crate::offices::NO_OFFICE;
 use mf_base::Fault;
@@ -14,7 +18,10 @@ pub(crate) fn words_of_loan(
     products: &[ProductRow],
     row: &LoanRow,
     flaw: LoanFlaw,
-) -> Result<String, Fault> {
+) -> Result<String, Fault>
+    ensures text { IfOk result (λ text. string_bytes text ≡ spec.loan_words products.now flaw row.now) }
+    ensures only { IsOkUnless result Fault.F20 }
+{
     let words = match flaw {
         LoanFlaw::Order => OUT_OF_ORDER,
         LoanFlaw::Office => NO_OFFICE,
@@ -33,7 +40,10 @@ pub(crate) fn words_of_loan(
 }
 
 /// What is said of a loan whose product is not there.
-fn words_of_no_product(alloc: Global, row: &LoanRow) -> Result<String, Fault> {
+fn words_of_no_product(alloc: Global, row: &LoanRow) -> Result<String, Fault>
+    ensures text { IfOk result (λ text. string_bytes text ≡ spec.no_product_words row.now) }
+    ensures only { IsOkUnless result Fault.F20 }
+{
     Ok(format!(in alloc; "its product {} is not there", row.product)?)
 }
 
@@ -42,7 +52,11 @@ fn words_of_principal(
     alloc: Global,
     products: &[ProductRow],
     row: &LoanRow,
-) -> Result<String, Fault> {
+) -> Result<String, Fault>
+    ensures text { IfOk result (λ text. string_bytes text
+        ≡ spec.principal_words row.now (item_numbered products.now row.now.product)) }
+    ensures only { IsOkUnless result Fault.F20 }
+{
     let words = match row_numbered(products, row.product) {
         Some(product) if row.principal < product.min_principal => words_of_limit(
             alloc,
@@ -61,7 +75,11 @@ fn words_of_periods(
     alloc: Global,
     products: &[ProductRow],
     row: &LoanRow,
-) -> Result<String, Fault> {
+) -> Result<String, Fault>
+    ensures text { IfOk result (λ text. string_bytes text
+        ≡ spec.periods_words row.now (item_numbered products.now row.now.product)) }
+    ensures only { IsOkUnless result Fault.F20 }
+{
     let words = match row_numbered(products, row.product) {
         Some(product) if row.periods < product.min_periods => words_of_limit(
             alloc,
@@ -81,7 +99,10 @@ fn words_of_periods(
 }
 
 /// What is said of a limit of the loan's product.
-fn words_of_limit(alloc: Global, bound: &str, count: i64, unit: &str) -> Result<String, Fault> {
+fn words_of_limit(alloc: Global, bound: &str, count: i64, unit: &str) -> Result<String, Fault>
+    ensures text { IfOk result (λ text. string_bytes text ≡ spec.limit_words bound.now count unit.now) }
+    ensures only { IsOkUnless result Fault.F20 }
+{
     let ending = if count == 1 { "" } else { "s" };
     Ok(format!(in alloc; "its product lends {bound} {count} {unit}{ending}")?)
 }

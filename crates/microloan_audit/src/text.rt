@@ -1,16 +1,23 @@
 //! The text of an audit.
 
+ghost use Rattle.std.specs.Prelude.{◌≡◌, ◌++◌, string_bytes, IfOk, OnOk, IsOkUnless};
+ghost use Rattle.microloan_audit.specs.Lines.{finding_line};
+ghost use Rattle.microloan_audit.specs.Text as spec;
+
 use crate::line::finding_line;
 use crate::sums::sums_text;
 use crate::unread::unread_line;
 use mf_base::Fault;
-use mf_store_audit::{Audit, Finding};
+use mf_store_audit::{Audit, Finding, Unread};
 use mf_store_sound::Tables;
 use std::alloc::Global;
 
 /// What an audit prints: of a sound institution its sums and the word `sound`, else lines that begin with `audit:`. The
-/// error is F20, out of memory.
-pub fn audit_text(alloc: Global, audit: &Audit) -> Result<String, Fault> {
+/// error is F20: out of memory, or sums that are too great in all.
+pub fn audit_text(alloc: Global, audit: &Audit) -> Result<String, Fault>
+    ensures text { IfOk result (λ text. string_bytes text ≡ spec.audit_text audit.now) }
+    ensures only { IsOkUnless result Fault.F20 }
+{
     match audit {
         Audit::NoTables => audit_line(alloc, "the database has no tables"),
         Audit::OtherTables => audit_line(
@@ -23,25 +30,54 @@ pub fn audit_text(alloc: Global, audit: &Audit) -> Result<String, Fault> {
             findings,
             ..
         } => findings_text(alloc, tables, findings),
-        Audit::Unreadable { unread: None, .. } => audit_line(alloc, "a row that can't be read"),
-        Audit::Unreadable {
-            unread: Some(unread),
-            ..
-        } => audit_line(alloc, unread_line(alloc, unread)?.as_str()),
+        Audit::Unreadable { unread, .. } => unread_text(alloc, unread),
     }
 }
 
 /// A line of an audit.
-fn audit_line(alloc: Global, words: &str) -> Result<String, Fault> {
+#[tactic(auto, unfolding(crate::specs::Text::audit_line))]
+fn audit_line(alloc: Global, words: &str) -> Result<String, Fault>
+    ensures text { IfOk result (λ text. string_bytes text ≡ spec.audit_line words.now) }
+    ensures only { IsOkUnless result Fault.F20 }
+{
     Ok(format!(in alloc; "audit: {words}\n")?)
 }
 
+/// The line of a row that no record can hold.
+fn unread_text(alloc: Global, unread: &Option<Unread>) -> Result<String, Fault>
+    ensures text { IfOk result (λ text. string_bytes text ≡ spec.unread_text unread.now) }
+    ensures only { IsOkUnless result Fault.F20 }
+{
+    match unread {
+        None => audit_line(alloc, "a row that can't be read"),
+        Some(unread) => audit_line(alloc, unread_line(alloc, unread)?.as_str()),
+    }
+}
+
 /// A line for each finding.
-fn findings_text(alloc: Global, tables: &Tables, findings: &[Finding]) -> Result<String, Fault> {
+fn findings_text(alloc: Global, tables: &Tables, findings: &[Finding]) -> Result<String, Fault>
+    ensures text { IfOk result (λ text. string_bytes text ≡ spec.findings_text tables.now findings.now) }
+    ensures only { IsOkUnless result Fault.F20 }
+{
     let mut text = String::new(alloc);
     for finding in findings {
-        let line = finding_line(alloc, tables, *finding)?;
-        text.push_str(audit_line(alloc, line.as_str())?.as_str())?;
+        push_finding(alloc, &mut text, tables, *finding)?;
     }
     Ok(text)
+}
+
+/// Writes the line of a finding.
+fn push_finding(
+    alloc: Global,
+    text: &mut String,
+    tables: &Tables,
+    finding: Finding,
+) -> Result<(), Fault>
+    ensures text { OnOk result (string_bytes text.new
+        ≡ string_bytes text.old ++ spec.audit_line (finding_line tables.now finding)) }
+    ensures only { IsOkUnless result Fault.F20 }
+{
+    let line = finding_line(alloc, tables, finding)?;
+    text.push_str(audit_line(alloc, line.as_str())?.as_str())?;
+    Ok(())
 }

@@ -1,7 +1,7 @@
 use Rattle.std.proofs.Common.{◌≤◌, length, arith}
 use Rattle.mf_store_values.proofs.SameLemmas.{same_all}
-use Rattle.mf_store_audit.proofs.accounts.first_difference.Goals as goal
-use Rattle.mf_store_audit.proofs.accounts.first_difference.Goals.{then-rows-others, else-rows-others}
+use Rattle.mf_store_audit.proofs.accounts.first_place.Goals as goal
+use Rattle.mf_store_audit.proofs.accounts.first_place.Goals.{then-rows-others, else-rows-others}
 
 pub returns-then-rows-others-2-clause-none : goal.returns-then-rows-others-2-clause-none
 returns-then-rows-others-2-clause-none g c none =

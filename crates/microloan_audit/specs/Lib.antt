@@ -1,0 +1,6 @@
+pub mod Lines
+pub mod Quoted
+pub mod SumsText
+pub mod Text
+pub mod Unread
+pub mod Words
