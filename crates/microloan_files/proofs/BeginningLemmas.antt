@@ -171,13 +171,13 @@ module _
       λ trees there. after.whole was_clean trees (rolled_back.outcomes trees there) in
       ∥∥₁_map (left_files stays_sound change_sound files run i sound range (numbered clean) whole left may)
       (λ found. (
-        found.2,
-        found.3,
+        found.2.0,
+        found.2.1,
         record {
           trees = found.0;
           database = found.1;
-          sound = found.4;
-          rows = found.5;
+          sound = found.2.2;
+          rows = found.2.3;
         },
       ))
 
