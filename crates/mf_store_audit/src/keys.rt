@@ -8,7 +8,8 @@ ghost use Rattle.mf_store_audit.specs.Places.{IsAfter, number_within};
 
 use crate::rows::find_row;
 use mf_store_schema::{
-    ChargeRow, ClientRow, EntryRow, InstalmentRow, LoanRow, OfficeRow, ProductRow, ShareRow, StaffRow,
+    ChargeRow, ClientRow, EntryRow, InstalmentRow, LoanRow, OfficeRow, ProductRow, ShareRow,
+    StaffRow,
 };
 
 /// A row that is known by an office, a loan and a number, or by some of these.

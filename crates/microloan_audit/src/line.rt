@@ -210,12 +210,7 @@ fn client_line(
     }
 }
 
-fn loan_line(
-    alloc: Global,
-    tables: &Tables,
-    place: usize,
-    flaw: LoanFlaw,
-) -> Result<String, Fault>
+fn loan_line(alloc: Global, tables: &Tables, place: usize, flaw: LoanFlaw) -> Result<String, Fault>
     ensures text { IfOk result (λ text. string_bytes text
         ≡ spec.loan_line (words.loan_words tables.now.products flaw) place (slice_get tables.now.loans place)) }
     ensures only { IsOkUnless result Fault.F20 }

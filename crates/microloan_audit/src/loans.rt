@@ -71,11 +71,7 @@ fn words_of_principal(
 }
 
 /// What is said of a number of periods that the loan's product does not lend.
-fn words_of_periods(
-    alloc: Global,
-    products: &[ProductRow],
-    row: &LoanRow,
-) -> Result<String, Fault>
+fn words_of_periods(alloc: Global, products: &[ProductRow], row: &LoanRow) -> Result<String, Fault>
     ensures text { IfOk result (λ text. string_bytes text
         ≡ spec.periods_words row.now (item_numbered products.now row.now.product)) }
     ensures only { IsOkUnless result Fault.F20 }

@@ -31,11 +31,7 @@ enum Part {
 /// The tables of what offices come to and in all, and the word `sound`. The error is F20: out of memory, or sums that
 /// are too great in all.
 #[tactic(auto, unfolding(crate::specs::SumsText::sums_text))]
-pub(crate) fn sums_text(
-    alloc: Global,
-    schema: u32,
-    offices: &[OfficeSums],
-) -> Result<String, Fault>
+pub(crate) fn sums_text(alloc: Global, schema: u32, offices: &[OfficeSums]) -> Result<String, Fault>
     ensures text { IfOk result (λ text. string_bytes text ≡ spec.sums_text schema offices.now) }
     ensures only { IsOkUnless result Fault.F20 }
 {
@@ -96,7 +92,9 @@ fn push_heading(alloc: Global, text: &mut String, schema: u32, part: Part) -> Re
             text.push_str(number.as_str())?;
             text.push_str(": clients, loans by status, entries standing and reversed\n")?;
         }
-        Part::Principal => text.push_str("principal: disbursed = paid + written off + outstanding\n")?,
+        Part::Principal => text.push_str(
+            "principal: disbursed = paid + written off + outstanding\n",
+        )?,
         Part::Money => text.push_str("repayments: standing = paid + overpaid + refunded\n")?,
     }
     Ok(())

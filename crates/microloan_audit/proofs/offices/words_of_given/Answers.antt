@@ -13,5 +13,5 @@ returns-clause-text c =
     c.as_str-given.ensures.value ∙ c.in_ok-given.ensures.text in
     c.in_ok-format.ensures.ok
     ∙ ap (λ (t : List ℕ). codes "hierarchy text " ++ (t ++ (codes ", its parent gives "
-        ++ c.as_str-given.result.now))) own
+    ++ c.as_str-given.result.now))) own
     ∙ ap (λ (t : List ℕ). codes "hierarchy text " ++ (quoted row.hkey ++ (codes ", its parent gives " ++ t))) given
