@@ -13,7 +13,7 @@ use Rattle.mf_journal.specs.Following.{Follows, FollowOn, BreaksFirst, head_of, 
 use Rattle.mf_journal.specs.declared.following.Break.{Break}
 use Rattle.mf_journal.specs.declared.following.Head.{Head}
 use Rattle.mf_journal.specs.declared.following.KeptRow.{KeptRow}
-use Rattle.mf_store_journal.specs.Rows.{filed_kept, filed_beginning, IsLineRow}
+use Rattle.mf_store_journal.specs.Rows.{filed_kept, filed_beginning, HasPlace, IsLineRow}
 use Rattle.mf_store_journal.specs.Reading.{page_above, page_size}
 use Rattle.mf_store_journal.specs.Checking.{AreFollowing, StopsAt, IsFlaw}
 use Rattle.mf_store_journal.specs.declared.checking.Flaw.{Flaw}
@@ -22,7 +22,7 @@ use Rattle.mf_store_journal.specs.declared.checking.Flaw.TheVariants.{Broken, No
 -- ---- rows that follow on
 
 pub follow_none : (h : Head) → AreFollowing h [] h
-follow_none h = record { kept = []; rows_are = refl; follow = tt; stands = refl }
+follow_none h = record { kept = []; rows_are = refl; room = tt; follow = tt; stands = refl }
 
 on_both : (h : Head) (xs ys : List KeptRow) → FollowOn h xs → FollowOn (head_after h xs) ys → FollowOn h (xs ++ ys)
 on_both h [] ys on more = more
@@ -36,20 +36,27 @@ map_both : {A B : Type 0} (f : A → B) (xs ys : List A) → map f (xs ++ ys) �
 map_both f [] ys = refl
 map_both f (x ∷ xs) ys = ap (λ l. f x ∷ l) (map_both f xs ys)
 
+room_both : (xs ys : List KeptRow) → AllByRecursion HasPlace xs → AllByRecursion HasPlace ys
+    → AllByRecursion HasPlace (xs ++ ys)
+room_both [] ys all more = more
+room_both (x ∷ xs) ys all more = (all.0, room_both xs ys all.1 more)
+
 -- rows and then others
 pub follow_both : (h now next : Head) (rows more : List Filed) → AreFollowing h rows now → AreFollowing now more next
     → AreFollowing h (rows ++ more) next
 follow_both h now next rows more a b = record {
   kept = a.kept ++ b.kept;
   rows_are = ap₂ (λ x y. x ++ y) a.rows_are b.rows_are ∙ sym (map_both filed_kept a.kept b.kept);
+  room = room_both a.kept b.kept a.room b.room;
   follow = on_both h a.kept b.kept a.follow (subst (λ g. FollowOn g b.kept) a.stands b.follow);
   stands = b.stands ∙ ap (λ g. head_after g b.kept) a.stands ∙ sym (after_both h a.kept b.kept);
 }
 
 -- one row
-pub follow_one : (h : Head) (k : KeptRow) (next : Head) → Follows h k → next ≡ head_of k
+pub follow_one : (h : Head) (k : KeptRow) (next : Head) → HasPlace k → Follows h k → next ≡ head_of k
     → AreFollowing h (filed_kept k ∷ []) next
-follow_one h k next follows is = record { kept = k ∷ []; rows_are = refl; follow = (follows, tt); stands = is }
+follow_one h k next place follows is =
+    record { kept = k ∷ []; rows_are = refl; room = (place, tt); follow = (follows, tt); stands = is }
 
 -- a flaw past rows that follow on
 pub stops_after : (h now : Head) (rows more : List Filed) (flaw : Flaw) → AreFollowing h rows now
@@ -114,9 +121,9 @@ so_far_none h rows [] are = follow_none h
 so_far_none h rows (l ∷ ls) are = follow_none h
 
 pub so_far_more : (h : Head) (rows : List Row) (place : ℕ) (row : Row) (now : Head) (k : KeptRow) (next : Head)
-    → slice_get rows place ≡ Some row → shown_filed (filed_kept k) ≡ row → Follows now k → next ≡ head_of k
-    → SoFar h rows place now → SoFar h rows (place + 1) next
-so_far_more h rows place row now k next there shown follows is far =
+    → slice_get rows place ≡ Some row → shown_filed (filed_kept k) ≡ row → HasPlace k → Follows now k
+    → next ≡ head_of k → SoFar h rows place now → SoFar h rows (place + 1) next
+so_far_more h rows place row now k next there shown room follows is far =
     let one : suc place ≡ place + 1 = omega arith in
     subst (λ (n : ℕ). SoFar h rows n next) one more
   where
@@ -126,7 +133,7 @@ so_far_more h rows place row now k next there shown follows is far =
         let line_is : filed_kept k ≡ at.line = shown_once (filed_kept k) at.line (shown ∙ sym at.shown) in
         subst (λ l. AreFollowing h l next) (ap (λ l. take place lines ++ l ∷ []) line_is ∙ sym at.more)
         (follow_both h now next (take place lines) (filed_kept k ∷ []) (far lines are)
-        (follow_one now k next follows is))
+        (follow_one now k next room follows is))
 
 pub so_far_all : (h : Head) (rows : List Row) (place : ℕ) (now : Head) → length rows ≤ place → SoFar h rows place now
     → (lines : List Filed) → rows ≡ map shown_filed lines → AreFollowing h lines now

@@ -82,13 +82,13 @@ module _ (beginning head : Head) (old now new : State) (rows : List Row) (going 
 
   -- none is left
   pub going_whole : rows ≡ [] → (HasCleanDisk new → IsTrue old.is_open) → HasCleanDisk new → (lines : List Filed)
-      → IsKeeping old lines → (rest : List Filed) → lines ≡ filed_beginning beginning ∷ rest
-      → IsFound lines (Whole head)
-  going_whole none live clean lines keeps rest are =
+      → IsKeeping old lines → CanBegin beginning → (rest : List Filed) → lines ≡ filed_beginning beginning ∷ rest
+      → IsFound lines (Whole (record { begins = beginning; head = head }))
+  going_whole none live clean lines keeps can rest are =
       let k = keeps (live clean) in
       let all = passed_all beginning lines head (going.passed (kept.premise clean) lines k rest are)
       (sym (shown clean lines k) ∙ none) in
-      (beginning, all.0, all.1, all.2)
+      (all.0, all.1, can, all.2)
 
   -- one doesn't follow on
   pub going_stops : (flaw : Flaw) → ((lines : List Filed) → rows ≡ map shown_filed lines → StopsAt head lines flaw)

@@ -5,4 +5,6 @@ pub mod GoingLemmas
 pub mod NotingLemmas
 pub mod RowsLemmas
 pub mod StandingLemmas
+pub mod StrangerLemmas
 pub mod TextsLemmas
+pub mod WrittenLemmas

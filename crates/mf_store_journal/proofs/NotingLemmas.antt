@@ -1,21 +1,20 @@
 -- What a line more, and a beginning, make of all tables together.
-use Rattle.std.proofs.Common.{◌≡◌, ◌∙◌, ℕ, Bool, true, false, List, [], ◌∷◌, ◌++◌, Option, None, Some, IsTrue}
-use Rattle.std.proofs.Common.{refl, sym, ap, subst, true≢false}
+use Rattle.std.proofs.Common.{◌≡◌, ◌∙◌, true, List, [], ◌∷◌, ◌++◌, Option, None, Some}
+use Rattle.std.proofs.Common.{refl, sym, subst, true≢false}
 use Rattle.sqlite.specs.Effect.{Database}
 use Rattle.sqlite.specs.State.{State}
-use Rattle.sqlite_catalog.specs.Listing.{IsSound}
 use Rattle.mf_store_sql.specs.Numbered.{Filed, KeepsLines}
-use Rattle.mf_store_sql.specs.Trees.{AllHold, SameTrees}
+use Rattle.mf_store_sql.specs.Trees.{SameTrees}
 use Rattle.mf_store_sql.specs.Writes.{Serves, Steps}
 use Rattle.mf_store_sql.proofs.SpareLemmas.{all_and, all_changed, all_same}
 use Rattle.mf_store_schema.specs.Rows.{Lists}
 use Rattle.mf_store_schema.specs.Tables.{journal, schema, third_schema}
-use Rattle.mf_store_schema.specs.Writes.{schema_of, Holds, HoldsAll, all_conditions, conditions, journal_conditions}
-use Rattle.mf_store_schema.specs.Writes.{are_some, lists_changed}
+use Rattle.mf_store_schema.specs.Writes.{schema_of, Holds, conditions, journal_conditions}
+use Rattle.mf_store_schema.specs.Writes.{are_some}
 use Rattle.mf_journal.specs.declared.following.Head.{Head}
 use Rattle.mf_journal.specs.declared.following.KeptRow.{KeptRow}
-use Rattle.mf_store_journal.specs.Adding.{KeepsJournal, MakesJournal, PutsLine}
-use Rattle.mf_store_journal.specs.Noting.{FitsNoted, after_noted_write, journal_put, with_journal}
+use Rattle.mf_store_journal.specs.Adding.{MakesJournal, PutsLine}
+use Rattle.mf_store_journal.specs.Noting.{FitsNoted, after_noted_write, with_journal}
 use Rattle.mf_store_journal.specs.Rows.{filed_beginning, filed_kept}
 use Rattle.mf_store_journal.specs.declared.noting.NotedWrite.TheVariants.{Begin, AddLine}
 use Rattle.mf_store_journal.proofs.TextsLemmas.{is_journal}
@@ -99,7 +98,8 @@ begins_journal head old mid new makes puts =
       where
         twelve : (lists : Lists) → SameTrees third_schema.tables (conditions lists
             ++ (23, λ tree. KeepsLines journal tree []) ∷ [])
-        twelve lists = (refl, (refl, (refl, (refl, (refl, (refl, (refl, (refl, (refl, (refl, (refl, (refl, tt))))))))))))
+        twelve lists =
+            (refl, (refl, (refl, (refl, (refl, (refl, (refl, (refl, (refl, (refl, (refl, (refl, tt))))))))))))
 
     turns : (lists : Option Lists) → Stands old.now lists → FitsNoted (Begin head) lists
         → Stands new.now (after_noted_write (Begin head) lists)

@@ -29,7 +29,7 @@ abbrev bytes_of : Value → List ℕ
 bytes_of (Blob b) = b
 bytes_of v = []
 
-abbrev line_in : Filed → JournalLine
+abbrev pub line_in : Filed → JournalLine
 line_in f = record {
   day = number_of (column (values_in f) 0);
   office = number_of (column (values_in f) 1);
@@ -49,7 +49,7 @@ head_in f = record {
   chain = bytes_of (column (values_in f) 9);
 }
 
-lines_back : (h : Head) (ls : List JournalLine) → map line_in (filed_after h ls) ≡ ls
+pub lines_back : (h : Head) (ls : List JournalLine) → map line_in (filed_after h ls) ≡ ls
 lines_back h [] = refl
 lines_back h (l ∷ ls) = ap (λ rest. l ∷ rest) (lines_back (head_with h l) ls)
 
@@ -134,16 +134,19 @@ numbers_rise h (Some ls) = (rows_above h.number h ls (omega arith), rows_rise h 
 
 pub line_fits : (l : JournalLine) (chain : List ℕ) → AreKeepable journal.columns (values_of l chain)
 line_fits l chain = (
-  (l.day, refl),
+  (pos l.day, refl),
   (
-    (l.office, refl),
+    (pos l.office, refl),
     (
-      (l.staff, refl),
+      (pos l.staff, refl),
       (
         (l.told, refl),
         (
           (l.method, refl),
-          ((l.path, refl), ((l.body, refl), ((l.named_office, refl), ((l.named_loan, refl), ((chain, refl), tt))))),
+          (
+            (l.path, refl),
+            ((l.body, refl), ((pos l.named_office, refl), ((pos l.named_loan, refl), ((chain, refl), tt)))),
+          ),
         ),
       ),
     ),

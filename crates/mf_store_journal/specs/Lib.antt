@@ -5,3 +5,4 @@ pub mod Reading
 pub mod Rows
 pub mod Texts
 pub mod WorkedRows
+pub mod Written

@@ -1,8 +1,9 @@
 -- The rows of the table: one for each line of a journal, and before them one that says where the journal begins.
-use Rattle.std.specs.Prelude.{◌≡◌, ℕ, ◌<◌, ◌^◌, pos, suc, List, [], ◌∷◌, length, Option, Some, None}
+use Rattle.std.specs.Prelude.{◌≡◌, ℕ, ◌<◌, ◌^◌, pos, suc, List, [], ◌∷◌, length, map, Option, Some, None}
 use Rattle.sqlite.specs.Order.{Row, column}
 use Rattle.sqlite.specs.declared.types.Value.{Value}
 use Rattle.sqlite.specs.declared.types.Value.TheVariants.{Int, Blob}
+use Rattle.mf_store_sql.specs.Columns.{Field, Named, Number, Amount}
 use Rattle.mf_store_sql.specs.Numbered.{Filed, with_number}
 use Rattle.mf_store_schema.specs.Fields.{HasFields}
 use Rattle.mf_model.specs.Institution.{JournalLine}
@@ -80,7 +81,16 @@ pub record HasPlace (k : KeptRow) : Type 0 where
 abbrev pub IsChain : Value → Type 0
 IsChain v = (bytes : List ℕ) × (v ≡ Blob bytes) × (length bytes ≡ 32)
 
+-- what a column holds of a line: where it may have any integer, a number of 32 bits without a sign
+abbrev pub line_field : Field → Field
+line_field Amount = Number
+line_field field = field
+
+-- the columns of a line, its number first
+abbrev pub line_columns : List Named
+line_columns = map (λ (c : Named). record c { field = line_field c.field }) (with_number journal).columns
+
 -- the values, as they are shown, are those of some line with its number and a chain
 pub record IsLineRow (row : Row) : Type 0 where
-  pub fields : HasFields (with_number journal).columns row
+  pub fields : HasFields line_columns row
   pub chain : IsChain (column row 10)

@@ -13,6 +13,7 @@ ghost use Rattle.mf_store_journal.specs.Rows.{filed_beginning, no_line};
 ghost use Rattle.mf_store_journal.specs.Reading.{IsThird, IsKeeping};
 ghost use Rattle.mf_store_journal.specs.Checking.{AreFollowing, StopsAt, CanBegin, IsFound};
 
+use crate::journal::Journal;
 use crate::numbers::narrow;
 use crate::reading::{head_at, oldest, rows_after};
 use crate::rows::kept_row;
@@ -36,8 +37,8 @@ pub enum Found {
     Nothing,
     /// The first doesn't say where a journal begins.
     NoBeginning,
-    /// Each follows on those before it, and the journal stands here.
-    Whole(Head),
+    /// Each follows on those before it: a journal, which begins and stands so.
+    Whole(Journal),
     /// The first that doesn't follow on those before it.
     Flawed(Flaw),
 }
@@ -55,6 +56,7 @@ fn is_beginning(row: JournalRow<'_>) -> bool
 /// Where the journal begins by its first row; none where no beginning has it.
 fn beginning_in(row: &Row) -> Option<Head>
     ensures some { IfSome result (λ head. shown_filed (filed_beginning head) ≡ row.now) }
+    ensures can { IfSome result CanBegin }
     ensures none { IfNone result ((h : Head) → CanBegin h → ¬ (shown_filed (filed_beginning h) ≡ row.now)) }
 {
     let kept = kept_row(row)?;
@@ -93,7 +95,7 @@ fn follow_from<S: Alter>(connection: &mut Connection<S>, beginning: Head) -> Res
         → OnOk result (IsTrue (state S.Store connection.new).is_open) }
     ensures found { HasCleanDisk (state S.Store connection.new) → (lines : List Filed)
         → IsKeeping (state S.Store connection.old) lines
-        → IfOk result (λ found. (rest : List Filed) → lines ≡ filed_beginning beginning ∷ rest
+        → IfOk result (λ found. CanBegin beginning → (rest : List Filed) → lines ≡ filed_beginning beginning ∷ rest
         → IsFound lines found) }
     ensures mode { connection.new.in_transaction ≡ false }
 {
@@ -105,7 +107,10 @@ fn follow_from<S: Alter>(connection: &mut Connection<S>, beginning: Head) -> Res
         };
         let rows = rows_after(connection, number)?;
         if rows.is_empty() {
-            return Ok(Found::Whole(head));
+            return Ok(Found::Whole(Journal {
+                begins: beginning,
+                head,
+            }));
         }
         match follow_rows(head, &rows) {
             Ok(next) => head = next,

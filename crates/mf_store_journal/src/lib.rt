@@ -4,6 +4,8 @@
 
 mod adding;
 mod checking;
+mod found;
+mod journal;
 pub mod laws;
 mod noting;
 mod numbers;
@@ -12,6 +14,9 @@ mod rows;
 
 pub use adding::{add_line, beginning_row, make_journal, put_line};
 pub use checking::{Flaw, Found, check_journal};
+pub use found::read_journal;
+pub use journal::Journal;
 pub use noting::NotedWrite;
+pub use numbers::has_room;
 pub use reading::{Standing, read_head, rows_after};
 pub use rows::kept_row;

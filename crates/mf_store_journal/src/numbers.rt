@@ -1,6 +1,6 @@
 //! Numbers as the table keeps them: of 32 bits, without a sign.
 
-ghost use Rattle.std.specs.Prelude.{◌≡◌, ◌≤◌, ◌^◌, IfSome, IfNone};
+ghost use Rattle.std.specs.Prelude.{◌≡◌, ◌≤◌, ◌↔◌, ◌^◌, IsTrue, IfSome, IfNone};
 ghost use Rattle.mf_store_journal.specs.Rows.{HasPlace};
 
 use mf_journal::KeptRow;
@@ -45,4 +45,11 @@ pub(crate) fn numbers_of(kept: KeptRow<'_>) -> Option<Numbers>
         named_office: narrow(kept.row.named_office)?,
         named_loan: narrow(kept.row.named_loan)?,
     })
+}
+
+/// Whether all numbers of a line have room in 32 bits, as the table keeps them.
+pub fn has_room(kept: KeptRow<'_>) -> bool
+    ensures { IsTrue result ↔ HasPlace kept.entry }
+{
+    numbers_of(kept).is_some()
 }

@@ -5,7 +5,7 @@ ghost use Rattle.sqlite.specs.Order.{column};
 ghost use Rattle.sqlite.specs.declared.types.Value.TheVariants.{Int, Blob};
 ghost use Rattle.mf_store_sql.specs.Numbered.{shown_filed};
 ghost use Rattle.mf_store_schema.specs.Fields.{IsNumber};
-ghost use Rattle.mf_store_journal.specs.Rows.{filed_kept, IsLineRow, IsChain};
+ghost use Rattle.mf_store_journal.specs.Rows.{filed_kept, HasPlace, IsLineRow, IsChain};
 
 use mf_journal::{JournalRow, KeptRow};
 use sqlite::Row;
@@ -15,6 +15,7 @@ use sqlite_value::value::ValueRef;
 fn number_at(row: &Row, at: usize) -> Option<u64>
     requires { at < length row.now }
     ensures some { IfSome result (λ n. column row.now at ≡ Int (pos n)) }
+    ensures narrow { IfSome result (λ n. n < 2 ^ 32) }
     ensures none { IfNone result (¬ IsNumber (column row.now at)) }
 {
     let Ok(ValueRef::Int(value)) = row.get_ref(at) else {
@@ -42,6 +43,7 @@ fn bytes_at(row: &Row, at: usize) -> Option<&[u8]>
 fn chain_at(row: &Row, at: usize) -> Option<[u8; 32]>
     requires { at < length row.now }
     ensures some { IfSome result (λ chain. column row.now at ≡ Blob chain) }
+    ensures whole { IfSome result (λ chain. length chain ≡ 32) }
     ensures none { IfNone result (¬ IsChain (column row.now at)) }
 {
     let bytes = bytes_at(row, at)?;
@@ -56,6 +58,8 @@ fn chain_at(row: &Row, at: usize) -> Option<[u8; 32]>
 /// The line that has this row, with its number and the chain after it; none where no line of the table has it.
 pub fn kept_row(row: &Row) -> Option<KeptRow<'_>>
     ensures row { IfSome result (λ kept. shown_filed (filed_kept kept) ≡ row.now) }
+    ensures place { IfSome result HasPlace }
+    ensures chain { IfSome result (λ kept. length kept.chain ≡ 32) }
     ensures none { IfNone result (¬ IsLineRow row.now) }
 {
     if row.column_count() != 11 {

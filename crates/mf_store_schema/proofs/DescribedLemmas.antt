@@ -11,7 +11,7 @@ module _ (w : TableWords) (found : Table) where
     name = name t;
     tree = tree t;
     columns = columns t;
-    key = rules.key t;
+    key = keys.rowid t;
     primary = keys.primary t;
     uniques = keys.uniques t;
     orders = keys.orders t;
@@ -24,6 +24,7 @@ module _ (w : TableWords) (found : Table) where
 
   pub keys_are : found ≡ table_in_words w → HasKeys w found
   keys_are is = record {
+    rowid = ap (λ (t : Table). t.key) is;
     primary = ap (λ (t : Table). t.primary) is;
     uniques = ap (λ (t : Table). t.uniques) is;
     orders = ap (λ (t : Table). t.orders) is;
@@ -31,7 +32,6 @@ module _ (w : TableWords) (found : Table) where
 
   pub rules_are : found ≡ table_in_words w → HasNoRules found
   rules_are is = record {
-    key = ap (λ (t : Table). t.key) is;
     checks = ap (λ (t : Table). t.checks) is;
     references = ap (λ (t : Table). t.references) is;
     computed = ap (λ (t : Table). t.computed) is;

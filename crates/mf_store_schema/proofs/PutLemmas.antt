@@ -1,6 +1,6 @@
 -- What one statement makes of all tables together.
 use Rattle.std.proofs.Common.{◌≡◌, ℕ, pos, Bool, true, List, None, Some, Option, IsSome, [], ◌∷◌, refl, sym, map}
-use Rattle.std.proofs.Common.{filter, Ordering, true≢false, false, ◌++◌, ap, subst, ◌∙◌}
+use Rattle.std.proofs.Common.{filter, Ordering, true≢false, ◌++◌, ap, subst, ◌∙◌}
 use Rattle.sqlite.specs.Effect.{Database}
 use Rattle.sqlite.specs.Order.{Row}
 use Rattle.sqlite.specs.declared.types.Value.TheVariants.{Int}

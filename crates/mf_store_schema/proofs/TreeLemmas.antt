@@ -29,7 +29,7 @@ use Rattle.sqlite_store.proofs.ListingLemmas.{all_ordered}
 use Rattle.mf_store_sql.specs.Keep.{same_id}
 use Rattle.mf_store_schema.specs.Versions.{schema_at}
 use Rattle.mf_store_schema.specs.declared.versions.Version.{Version}
-use Rattle.mf_store_schema.specs.declared.versions.Version.TheVariants.{First, Second}
+use Rattle.mf_store_schema.specs.declared.versions.Version.TheVariants.{First, Second, Third}
 use Rattle.mf_store_schema.specs.Whole.{HasRowids, HaveRowidsUnder}
 use Rattle.mf_store_schema.proofs.OpenLemmas.{raw_row}
 
@@ -108,6 +108,7 @@ low_tables trees empty (t ∷ ts) low =
 pub are_low : (v : Version) → AreLow (schema_at v)
 are_low First trees empty = low_tables trees empty (schema_at First).tables refl
 are_low Second trees empty = low_tables trees empty (schema_at Second).tables refl
+are_low Third trees empty = low_tables trees empty (schema_at Third).tables refl
 
 -- files that hold a database, or none
 pub rowids_of_files : (k : Schema) (image : Image) (trees : Trees) → AreLow k → AreFoundIn image trees → IsSound k trees

@@ -13,7 +13,7 @@ use Rattle.mf_store_sql.specs.Writes.{Serves, Steps}
 use Rattle.mf_store_sql.proofs.SpareLemmas.{all_same, all_and}
 use Rattle.mf_store_schema.specs.Tables.{schema, tables, made}
 use Rattle.mf_store_schema.specs.Versions.{schema_at}
-use Rattle.mf_store_schema.specs.declared.versions.Version.TheVariants.{First, Second}
+use Rattle.mf_store_schema.specs.declared.versions.Version.TheVariants.{First, Second, Third}
 use Rattle.mf_store_schema.specs.InstalmentsTexts as Instalments
 use Rattle.mf_store_schema.specs.SharesTexts as Shares
 use Rattle.mf_store_schema.specs.Rows.{Lists, instalment_row, share_row, by_instalment, by_share}
@@ -54,6 +54,7 @@ making_accounts old new makes =
         → Stands new.now (after_upgrade MakeAccountTables lists)
     turns (Own lists) s fits = absurd fits
     turns (At Second m) s fits = absurd (cc)
+    turns (At Third m) s fits = absurd (cc)
     turns (At First m) s fits =
         let made = makes.made (schema_at First) added refl both_defined s.schema_is s.holds.sound in
         let nine = all_same old.now.trees new.now.trees (schema_at First).tables (take 9 (conditions m)) (first_trees m)

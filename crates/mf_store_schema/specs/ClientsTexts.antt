@@ -11,7 +11,7 @@ use Rattle.mf_store_schema.specs.Tables.{schema_keeping, tables, made, clients}
 use Rattle.mf_store_schema.specs.Versions.{schema_at}
 use Rattle.mf_store_schema.specs.Whole.{IsAskable}
 use Rattle.mf_store_schema.specs.declared.versions.Version.{Version}
-use Rattle.mf_store_schema.specs.declared.versions.Version.TheVariants.{First, Second}
+use Rattle.mf_store_schema.specs.declared.versions.Version.TheVariants.{First, Second, Third}
 use Rattle.mf_store_schema.specs.Rows.{client_row, by_client}
 use Rattle.mf_store_schema.specs.declared.clients.ClientRow.{ClientRow}
 
@@ -56,6 +56,7 @@ pub asked : (v : Version) → IsAskable (schema_at v) 3 7 clients
 unfolding understood everything
 asked First = record { there = refl; asks = record { plain = (refl, refl); unlisted = refl; is = refl } }
 asked Second = record { there = (kept false).there; asks = (kept false).shows }
+asked Third = record { there = (kept true).there; asks = (kept true).shows }
 
 -- after the tables before it
 pub defined : IsDefined (made (take 3 tables)) 7 clients

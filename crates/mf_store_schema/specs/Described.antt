@@ -1,15 +1,16 @@
 -- The schema that words describe.
 use Rattle.std.specs.Borrow.{Bor}
-use Rattle.std.specs.Prelude.{◌≡◌, ℕ, [], List, map, None, false}
+use Rattle.std.specs.Prelude.{◌≡◌, ℕ, [], List, map, true, false}
 use Rattle.sqlite.specs.Schema.{Schema}
 use Rattle.sqlite.specs.Table.{Table}
 use Rattle.sqlite_schema.specs.declared.schema.Column.{Column}
 use Rattle.sqlite_schema.specs.declared.schema.Index.{Index}
 use Rattle.sqlite_schema.specs.declared.schema.Stamps.{Stamps}
 use Rattle.sqlite_value.specs.declared.keys.Order.{Order}
-use Rattle.mf_store_sql.specs.Tables.{int, text, maybe_int, maybe_text, table_with, index_on}
+use Rattle.mf_store_sql.specs.Tables.{int, text, maybe_int, maybe_text, typed_column, table_with, index_on}
+use Rattle.sqlite.specs.Kind.TheVariants as kind
 use Rattle.mf_store_schema.specs.declared.words.ColumnWords.{ColumnWords}
-use Rattle.mf_store_schema.specs.declared.words.ColumnWords.TheVariants.{Int, Text, MaybeInt, MaybeText}
+use Rattle.mf_store_schema.specs.declared.words.ColumnWords.TheVariants.{Int, Text, Bytes, MaybeInt, MaybeText}
 use Rattle.mf_store_schema.specs.declared.words.TableWords.{TableWords}
 use Rattle.mf_store_schema.specs.declared.words.IndexWords.{IndexWords}
 
@@ -17,13 +18,14 @@ use Rattle.mf_store_schema.specs.declared.words.IndexWords.{IndexWords}
 abbrev pub column_in_words : ColumnWords → Column
 column_in_words (Int name) = int name.now
 column_in_words (Text name) = text name.now
+column_in_words (Bytes name) = typed_column kind.Blob true name.now
 column_in_words (MaybeInt name) = maybe_int name.now
 column_in_words (MaybeText name) = maybe_text name.now
 
 -- a table with these columns and no rule but its keys
 abbrev pub table_in_words : TableWords → Table
-table_in_words w =
-    table_with w.tree w.name.now (map column_in_words w.columns.now) w.primary.now (map (λ key. key.now) w.uniques.now)
+table_in_words w = record (table_with w.tree w.name.now (map column_in_words w.columns.now) w.primary.now
+    (map (λ key. key.now) w.uniques.now)) { key = w.rowid }
 
 -- the plain order, for each key
 abbrev pub plain_orders : List (Bor (List ℕ)) → List Order
@@ -31,6 +33,7 @@ plain_orders keys = map (λ _. record { digits = 0 }) (map (λ key. key.now) key
 
 -- the table has these keys, each in the plain order
 pub record HasKeys (w : TableWords) (found : Table) : Type 0 where
+  pub rowid : found.key ≡ w.rowid
   pub primary : found.primary ≡ w.primary.now
   pub uniques : found.uniques ≡ map (λ key. key.now) w.uniques.now
   pub orders : found.orders ≡ plain_orders w.uniques.now
@@ -41,7 +44,6 @@ no_stamps = record { places = []; terms = []; formats = [] }
 
 -- the table has no rule but its keys
 pub record HasNoRules (found : Table) : Type 0 where
-  pub key : found.key ≡ None
   pub checks : found.checks ≡ []
   pub references : found.references ≡ []
   pub computed : found.computed ≡ []

@@ -11,7 +11,7 @@ use Rattle.mf_store_schema.specs.Tables.{schema_keeping, tables, made, entries}
 use Rattle.mf_store_schema.specs.Versions.{schema_at}
 use Rattle.mf_store_schema.specs.Whole.{IsAskable}
 use Rattle.mf_store_schema.specs.declared.versions.Version.{Version}
-use Rattle.mf_store_schema.specs.declared.versions.Version.TheVariants.{First, Second}
+use Rattle.mf_store_schema.specs.declared.versions.Version.TheVariants.{First, Second, Third}
 use Rattle.mf_store_schema.specs.Rows.{entry_row, by_entry}
 use Rattle.mf_store_schema.specs.declared.entries.EntryRow.{EntryRow}
 
@@ -56,6 +56,7 @@ pub asked : (v : Version) → IsAskable (schema_at v) 7 15 entries
 unfolding understood everything
 asked First = record { there = refl; asks = record { plain = (refl, refl); unlisted = refl; is = refl } }
 asked Second = record { there = (kept false).there; asks = (kept false).shows }
+asked Third = record { there = (kept true).there; asks = (kept true).shows }
 
 -- after the tables before it
 pub defined : IsDefined (made (take 7 tables)) 15 entries

@@ -11,7 +11,7 @@ use Rattle.mf_store_schema.specs.Tables.{schema_keeping, tables, made, products}
 use Rattle.mf_store_schema.specs.Versions.{schema_at}
 use Rattle.mf_store_schema.specs.Whole.{IsAskable}
 use Rattle.mf_store_schema.specs.declared.versions.Version.{Version}
-use Rattle.mf_store_schema.specs.declared.versions.Version.TheVariants.{First, Second}
+use Rattle.mf_store_schema.specs.declared.versions.Version.TheVariants.{First, Second, Third}
 use Rattle.mf_store_schema.specs.Rows.{product_row, by_product}
 use Rattle.mf_store_schema.specs.declared.products.ProductRow.{ProductRow}
 
@@ -51,6 +51,7 @@ pub asked : (v : Version) → IsAskable (schema_at v) 5 11 products
 unfolding understood everything
 asked First = record { there = refl; asks = record { plain = (refl, refl); unlisted = refl; is = refl } }
 asked Second = record { there = (kept false).there; asks = (kept false).shows }
+asked Third = record { there = (kept true).there; asks = (kept true).shows }
 
 -- after the tables before it
 pub defined : IsDefined (made (take 5 tables)) 11 products

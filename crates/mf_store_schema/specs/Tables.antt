@@ -138,14 +138,15 @@ abbrev pub schema : Schema
 schema = schema_with tables
 
 -- The journal: each line's number, and what the line has; at the end the chain after it. A day is its number, which is
--- what the chain is made of. Texts are bytes as they came.
+-- what the chain is made of. Texts are bytes as they came. SQL lets a stranger write any integer where the program
+-- writes numbers without a sign, so the columns are said to hold any.
 abbrev pub journal : Numbered
 journal = record {
   name = codes "journal";
   number = codes "number";
-  columns = named Number (codes "day") ∷ named Number (codes "office") ∷ named Number (codes "staff")
+  columns = named Amount (codes "day") ∷ named Amount (codes "office") ∷ named Amount (codes "staff")
       ∷ named Bytes (codes "told") ∷ named Bytes (codes "method") ∷ named Bytes (codes "path")
-      ∷ named Bytes (codes "body") ∷ named Number (codes "named_office") ∷ named Number (codes "named_loan")
+      ∷ named Bytes (codes "body") ∷ named Amount (codes "named_office") ∷ named Amount (codes "named_loan")
       ∷ named Bytes (codes "chain") ∷ [];
 }
 

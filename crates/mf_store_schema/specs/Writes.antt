@@ -13,8 +13,8 @@ use Rattle.sqlite.specs.State.{State, ExecutesInside}
 use Rattle.sqlite.specs.declared.error.Error.{Error}
 use Rattle.mf_store_sql.specs.Tables.{no_schema}
 use Rattle.mf_store_sql.specs.Writes.{Serves, Steps}
-use Rattle.mf_store_schema.specs.Tables.{schema_keeping, journal, meta, offices, staff, clients, charges, products, loans, entries}
-use Rattle.mf_store_schema.specs.Tables.{receipts, instalments, shares}
+use Rattle.mf_store_schema.specs.Tables.{schema_keeping, journal, meta, offices, staff, clients, charges, products}
+use Rattle.mf_store_schema.specs.Tables.{loans, entries, receipts, instalments, shares}
 use Rattle.mf_store_schema.specs.Versions.{count, schema_at}
 use Rattle.mf_store_schema.specs.declared.versions.Version.{Version}
 use Rattle.mf_store_schema.specs.Rows.{Lists, empty_lists, meta_row, office_row, staff_row, client_row, charge_row}

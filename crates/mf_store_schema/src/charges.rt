@@ -30,6 +30,7 @@ pub(crate) const WORDS: TableWords = TableWords {
         ColumnWords::Int("calc"),
         ColumnWords::Int("value"),
     ],
+    rowid: None,
     primary: &[1],
     uniques: &[&[1]],
 };

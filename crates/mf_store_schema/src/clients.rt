@@ -29,6 +29,7 @@ pub(crate) const WORDS: TableWords = TableWords {
         ColumnWords::Int("number"),
         ColumnWords::Text("name"),
     ],
+    rowid: None,
     primary: &[1, 2],
     uniques: &[&[1, 2]],
 };

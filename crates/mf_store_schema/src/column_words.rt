@@ -37,6 +37,7 @@ fn is_column(found: &Column, wanted: &ColumnWords) -> bool
     match wanted {
         ColumnWords::Int(name) => is_typed(found, Kind::Integer, true, name),
         ColumnWords::Text(name) => is_typed(found, Kind::Text, true, name),
+        ColumnWords::Bytes(name) => is_typed(found, Kind::Blob, true, name),
         ColumnWords::MaybeInt(name) => is_typed(found, Kind::Integer, false, name),
         ColumnWords::MaybeText(name) => is_typed(found, Kind::Text, false, name),
     }

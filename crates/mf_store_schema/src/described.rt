@@ -19,7 +19,8 @@ fn is_placed(found: &Table, wanted: &TableWords) -> bool
 fn has_keys(found: &Table, wanted: &TableWords) -> bool
     ensures { IsTrue result ↔ HasKeys wanted.now found.now }
 {
-    found.primary.as_slice() == wanted.primary
+    found.key == wanted.rowid
+        && found.primary.as_slice() == wanted.primary
         && are_keys(found.uniques.as_slice(), wanted.uniques)
         && are_plain(found.orders.as_slice(), wanted.uniques)
 }

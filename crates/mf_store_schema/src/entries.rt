@@ -39,6 +39,7 @@ pub(crate) const WORDS: TableWords = TableWords {
         ColumnWords::Text("staff"),
         ColumnWords::Int("reversed"),
     ],
+    rowid: None,
     primary: &[1, 2, 3],
     uniques: &[&[1, 2, 3]],
 };

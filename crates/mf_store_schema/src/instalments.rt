@@ -57,6 +57,7 @@ pub(crate) const WORDS: TableWords = TableWords {
         ColumnWords::Int("waived_principal"),
         ColumnWords::Int("written_off_principal"),
     ],
+    rowid: None,
     primary: &[1, 2, 3],
     uniques: &[&[1, 2, 3]],
 };

@@ -13,6 +13,7 @@ mod described;
 mod entries;
 mod groups;
 mod instalments;
+mod journal;
 pub mod laws;
 mod loans;
 mod logs;

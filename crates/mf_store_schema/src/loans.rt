@@ -42,6 +42,7 @@ pub(crate) const WORDS: TableWords = TableWords {
         ColumnWords::MaybeText("approved"),
         ColumnWords::MaybeText("disbursed"),
     ],
+    rowid: None,
     primary: &[1, 2],
     uniques: &[&[1, 2]],
 };

@@ -27,6 +27,7 @@ pub(crate) const WORDS: TableWords = TableWords {
         ColumnWords::Int("schema"),
         ColumnWords::Text("day"),
     ],
+    rowid: None,
     primary: &[1],
     uniques: &[&[1]],
 };

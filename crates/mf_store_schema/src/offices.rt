@@ -36,6 +36,7 @@ pub(crate) const WORDS: TableWords = TableWords {
         ColumnWords::Text("hkey"),
         ColumnWords::Text("name"),
     ],
+    rowid: None,
     primary: &[1],
     uniques: &[&[3], &[1]],
 };

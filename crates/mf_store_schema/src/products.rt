@@ -46,6 +46,7 @@ pub(crate) const WORDS: TableWords = TableWords {
         ColumnWords::MaybeInt("overdue_charge"),
         ColumnWords::Int("retired"),
     ],
+    rowid: None,
     primary: &[1],
     uniques: &[&[1]],
 };

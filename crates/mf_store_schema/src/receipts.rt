@@ -36,6 +36,7 @@ pub(crate) const WORDS: TableWords = TableWords {
         ColumnWords::Int("loan"),
         ColumnWords::Int("seq"),
     ],
+    rowid: None,
     primary: &[1, 2],
     uniques: &[&[1, 2]],
 };

@@ -52,8 +52,7 @@ fn are_no_stamps(stamps: &Stamps) -> bool
 pub(crate) fn has_no_rules(found: &Table) -> bool
     ensures { IsTrue result ↔ HasNoRules found.now }
 {
-    found.key.is_none()
-        && are_no_terms(&found.checks)
+    are_no_terms(&found.checks)
         && found.references.is_empty()
         && found.computed.is_empty()
         && are_no_stamps(&found.stamps)

@@ -37,6 +37,7 @@ pub(crate) const WORDS: TableWords = TableWords {
         ColumnWords::Int("how"),
         ColumnWords::Int("amount"),
     ],
+    rowid: None,
     primary: &[1, 2, 3, 4],
     uniques: &[&[1, 2, 3, 4]],
 };

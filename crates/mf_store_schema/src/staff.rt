@@ -30,6 +30,7 @@ pub(crate) const WORDS: TableWords = TableWords {
         ColumnWords::Text("name"),
         ColumnWords::Int("role"),
     ],
+    rowid: None,
     primary: &[1, 2],
     uniques: &[&[1, 2]],
 };

@@ -9,12 +9,13 @@ use crate::described::is_schema;
 use crate::versions::Version;
 use crate::words::{IndexWords, TableWords};
 use crate::{
-    charges, clients, entries, instalments, loans, meta, offices, products, receipts, shares, staff,
+    charges, clients, entries, instalments, journal, loans, meta, offices, products, receipts,
+    shares, staff,
 };
 use sqlite_schema::schema::Schema;
 
-/// Today's tables; the first version has the first nine.
-const TABLES: [TableWords; 11] = [
+/// The tables of all versions: the first has nine of them, the second eleven, and the third the journal too.
+const TABLES: [TableWords; 12] = [
     meta::WORDS,
     offices::WORDS,
     staff::WORDS,
@@ -26,9 +27,10 @@ const TABLES: [TableWords; 11] = [
     receipts::WORDS,
     instalments::WORDS,
     shares::WORDS,
+    journal::WORDS,
 ];
 
-/// Their indexes; the first version has the first ten.
+/// Their indexes; the first version has the first ten. The journal has none.
 const INDEXES: [IndexWords; 12] = [
     meta::INDEX,
     offices::TEXT_INDEX,
@@ -57,7 +59,8 @@ fn is_at(found: &Schema, version: Version) -> bool
 {
     match version {
         Version::First => is_schema(found, &TABLES[..9], &INDEXES[..10]),
-        Version::Second => is_schema(found, &TABLES, &INDEXES),
+        Version::Second => is_schema(found, &TABLES[..11], &INDEXES),
+        Version::Third => is_schema(found, &TABLES, &INDEXES),
     }
 }
 
@@ -66,6 +69,9 @@ pub fn version_of(found: &Schema) -> Option<Version>
     ensures some { IfSome result (λ version. IsOfVersion version found.now) }
     ensures none { IfNone result (¬ IsKnown found.now) }
 {
+    if is_at(found, Version::Third) {
+        return Some(Version::Third);
+    }
     if is_at(found, Version::Second) {
         return Some(Version::Second);
     }

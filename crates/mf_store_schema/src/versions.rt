@@ -5,8 +5,10 @@
 pub enum Version {
     /// Nine tables, which keep no instalments and no shares.
     First,
-    /// Today's: also the tables of instalments and of shares.
+    /// Also the tables of instalments and of shares.
     Second,
+    /// Also the journal.
+    Third,
 }
 
 impl Version {
@@ -20,6 +22,7 @@ impl Version {
         match self {
             Version::First => 1,
             Version::Second => 2,
+            Version::Third => 3,
         }
     }
 }

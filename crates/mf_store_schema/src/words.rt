@@ -1,10 +1,11 @@
 //! Words that describe tables.
 
-/// A column of a STRICT table, by its name: of type INTEGER or TEXT, and NOT NULL or not. It has no default.
+/// A column of a STRICT table, by its name: of type INTEGER, TEXT or BLOB, and NOT NULL or not. It has no default.
 #[derive(Clone, Copy)]
 pub enum ColumnWords {
     Int(&'static str),
     Text(&'static str),
+    Bytes(&'static str),
     MaybeInt(&'static str),
     MaybeText(&'static str),
 }
@@ -15,6 +16,8 @@ pub struct TableWords {
     pub tree: u32,
     pub name: &'static str,
     pub columns: &'static [ColumnWords],
+    /// The column that the rowid stands for, counted from 0, if there is one.
+    pub rowid: Option<usize>,
     pub primary: &'static [usize],
     pub uniques: &'static [&'static [usize]],
 }

@@ -19,4 +19,5 @@ returns-in-Some-clause-found g c clean lines keeps is =
     let same = shown_once first.0 (filed_beginning c.in-Some.beginning)
     (first.3 ∙ sym c.in-Some.ensures.some) in
     let are = first.2 ∙ ap (λ f. f ∷ first.1) same in
-    IfOk-weaker c.follow_from.result _ _ (λ found h. h first.1 are) (c.follow_from.ensures.found clean lines keeps)
+    IfOk-weaker c.follow_from.result _ _ (λ found h. h c.in-Some.ensures.can first.1 are)
+    (c.follow_from.ensures.found clean lines keeps)

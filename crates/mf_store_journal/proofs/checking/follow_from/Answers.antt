@@ -37,7 +37,7 @@ returns-in-Err-clause-kept g c =
     (state g.S.Store c.rows_after.new.connection) (c.pages.invariant.going).kept c.rows_after.ensures.kept
 
 pub returns-in-Err-clause-found : goal.returns-in-Err-clause-found
-returns-in-Err-clause-found g c clean lines keeps rest are =
+returns-in-Err-clause-found g c clean lines keeps can rest are =
     let old = state g.S.Store c.args.connection.now in
     let now = state g.S.Store c.pages.connection in
     let new = state g.S.Store c.rows_after.new.connection in
@@ -55,7 +55,7 @@ returns-then-is_empty-clause-kept g c =
     (state g.S.Store c.rows_after.new.connection) (c.pages.invariant.going).kept c.rows_after.ensures.kept
 
 pub returns-then-is_empty-clause-found : goal.returns-then-is_empty-clause-found
-returns-then-is_empty-clause-found g c clean lines keeps rest are =
+returns-then-is_empty-clause-found g c clean lines keeps can rest are =
     let old = state g.S.Store c.args.connection.now in
     let now = state g.S.Store c.pages.connection in
     let new = state g.S.Store c.rows_after.new.connection in
@@ -66,4 +66,4 @@ returns-then-is_empty-clause-found g c clean lines keeps rest are =
     ∙ ap (λ n. page_above n lines) c.in-Some.ensures.some)
     (nil_from_length rows.items (sym (rows.ok).0 ∙ empty _ c.if-is_empty.ensures))
     (λ clean. (still_unchanged old now new (was.going).kept c.rows_after.ensures.kept).was_open clean
-    (c.in_ok-rows.ensures.open clean)) clean lines keeps rest are
+    (c.in_ok-rows.ensures.open clean)) clean lines keeps can rest are

@@ -13,7 +13,8 @@ loop-place-preserved c =
     let there = slice_get-get_or c.args.rows.now c.loop-place.place row c.loop-place-test.true
     ∙ ap Some (sym c.index-rows-place.is) in
     so_far_more c.args.head c.args.rows.now c.loop-place.place row c.loop-place.now c.in-Some.kept c.in-Ok.next there
-    c.in-Some.ensures.row c.in-Ok.ensures.follows.0 c.in-Ok.ensures.follows.1 c.loop-place.invariant
+    c.in-Some.ensures.row c.in-Some.ensures.place c.in-Ok.ensures.follows.0
+    c.in-Ok.ensures.follows.1 c.loop-place.invariant
 
 pub returns-in_default-clause-flawed : goal.returns-in_default-clause-flawed
 returns-in_default-clause-flawed c =
