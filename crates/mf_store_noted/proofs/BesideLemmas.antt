@@ -1,6 +1,5 @@
 -- What writes make of the rows of an institution they make beside a journal as well.
-use Rattle.std.proofs.Common.{◌≡◌, ◌∙◌, true, false, List, [], ◌∷◌, Option, None, Some, refl, sym, ap, subst, true≢false}
-use Rattle.std.specs.Option.{is_some}
+use Rattle.std.proofs.Common.{◌≡◌, ◌∙◌, true, List, [], ◌∷◌, Option, None, Some, refl, sym, ap, subst, true≢false}
 use Rattle.std.specs.Prelude.{IsSome}
 use Rattle.mf_model.specs.Institution.{Institution}
 use Rattle.mf_journal.specs.declared.following.Head.{Head}
@@ -14,8 +13,8 @@ use Rattle.mf_store_schema.specs.declared.writes.StoreWrite.TheVariants as write
 use Rattle.mf_store_values.specs.Flat.{tables_of}
 use Rattle.mf_store_commits.specs.Becoming.{Becomes, SpareMeta, spares_meta}
 use Rattle.mf_store_noted.specs.Becoming.{BecomesKept}
-use Rattle.mf_store_noted.specs.Kept.{IsBegun, IsJournalOf, begins_of, meta_kept, rows_kept, tables_kept}
-use Rattle.mf_store_noted.specs.declared.journal.Journal.{Journal}
+use Rattle.mf_store_noted.specs.Kept.{IsBegun, IsJournalOf, begins_of, meta_kept, rows_kept}
+use Rattle.mf_store_journal.specs.declared.journal.Journal.{Journal}
 
 module _ (meta : List MetaRow) (journal : List Filed) where
   -- the lists with another row of meta, and with a journal
@@ -120,4 +119,4 @@ becomes_beside journal writes i j b spare day same = record {
 -- a journal that is the institution's begins somewhere
 pub begun_of : (journal : Option Journal) (i : Institution) → IsJournalOf journal i → IsBegun (begins_of journal) i
 begun_of None i none = none
-begun_of (Some journal) i stands = ap is_some stands.1
+begun_of (Some journal) i has = (has.0, has.1, has.2.can_be)

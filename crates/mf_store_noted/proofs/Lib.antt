@@ -1,6 +1,9 @@
 pub mod BeginningLemmas
 pub mod BesideLemmas
+pub mod CanBeLemmas
 pub mod LineLemmas
 pub mod MakesLemmas
 pub mod NotedLemmas
+pub mod OneTextLemmas
 pub mod TurnedLemmas
+pub mod UpgradingLemmas

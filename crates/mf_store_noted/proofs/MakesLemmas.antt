@@ -1,5 +1,5 @@
 -- From writes that were applied, or not, to the change with its line.
-use Rattle.std.proofs.Common.{◌≡◌, ◌∙◌, inr, List, [], ◌∷◌, Option, None, Some, IsTrue, refl, sym, ap, subst, arith}
+use Rattle.std.proofs.Common.{◌≡◌, ◌∙◌, inr, List, ◌∷◌, Option, Some, IsTrue, refl, sym, ap, subst, arith}
 use Rattle.std.proofs.Common.{Ok, Err}
 use Rattle.sqlite.specs.Effect.{Database}
 use Rattle.sqlite.specs.Held.{Held, state}
@@ -19,7 +19,7 @@ use Rattle.mf_store_noted.specs.Becoming.{BecomesKept}
 use Rattle.mf_store_noted.specs.Kept.{IsBegun, IsJournalOf, begins_of, rows_kept, tables_kept}
 use Rattle.mf_store_noted.specs.Tabled.{HasGoodDisk, IsKeptIn, IsTabled, LeavesTables}
 use Rattle.mf_store_noted.specs.Writing.{MakesWrites, with_line_after}
-use Rattle.mf_store_noted.specs.declared.journal.Journal.{Journal}
+use Rattle.mf_store_journal.specs.declared.journal.Journal.{Journal}
 use Rattle.mf_store_noted.proofs.TurnedLemmas.{settled_leaves, turned_kept, turned_leaves}
 
 module _ {W : Type 0} (after : W → Option Lists → Option Lists) (Fits : W → Option Lists → Type 0) (ws : List W)

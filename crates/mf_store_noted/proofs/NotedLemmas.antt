@@ -1,6 +1,5 @@
 -- What writes and a line after them make of the tables of an institution that keeps a journal.
-use Rattle.std.proofs.Common.{◌≡◌, ◌∙◌, true, List, [], ◌∷◌, ◌++◌, Option, None, Some, refl, sym, ap, subst}
-use Rattle.std.specs.Option.{is_some}
+use Rattle.std.proofs.Common.{◌≡◌, ◌∙◌, true, List, [], ◌∷◌, ◌++◌, Option, Some, refl, sym, ap, subst}
 use Rattle.mf_model.specs.Institution.{Institution, JournalLine, with_line}
 use Rattle.mf_model.specs.Sound.{IsSound}
 use Rattle.mf_journal.specs.Following.{Follows, line_of}
@@ -16,7 +15,7 @@ use Rattle.mf_store_journal.specs.declared.noting.NotedWrite.{NotedWrite}
 use Rattle.mf_store_journal.specs.declared.noting.NotedWrite.TheVariants.{Put, Begin, AddLine}
 use Rattle.mf_store_journal.proofs.RowsLemmas.{rows_more}
 use Rattle.mf_store_noted.specs.Becoming.{BecomesKept}
-use Rattle.mf_store_noted.specs.Kept.{IsBegun, StandsAt, noted_with, rows_kept, tables_kept}
+use Rattle.mf_store_noted.specs.Kept.{noted_with, rows_kept, tables_kept}
 use Rattle.mf_store_noted.specs.Puts.{ArePuts, IsPut}
 
 -- ---- the writes, and what stands after them
@@ -27,7 +26,8 @@ put_after (Put w) write is lists = ap (λ x. after_write x lists) is
 put_after (Begin head) write is lists = absurd is
 put_after (AddLine kept) write is lists = absurd is
 
-pub put_fits : (put : NotedWrite) (write : StoreWrite) → IsPut put write → (lists : Option Lists) → FitsLists write lists
+pub put_fits : (put : NotedWrite) (write : StoreWrite) → IsPut put write → (lists : Option Lists)
+    → FitsLists write lists
     → FitsNoted put lists
 put_fits (Put w) write is lists fits = subst (λ x. FitsLists x lists) (sym is) fits
 put_fits (Begin head) write is lists fits = absurd is
@@ -65,6 +65,10 @@ put_more (p ∷ ps) [] are put write is = absurd are
 put_more (p ∷ ps) (w ∷ ws) are put write is = (are.0, put_more ps ws are.1 put write is)
 
 -- ---- the line
+
+-- the institution's journal has lines after which the journal that begins here stands so
+abbrev pub StandsAt : Head → Institution → Head → Type 0
+StandsAt begins i head = (lines : List JournalLine) × (i.journal ≡ Some lines) × (head ≡ head_with_all begins lines)
 
 -- the row of a line that follows is the one that the journal has of it
 row_of_line : (head : Head) (kept : KeptRow) → Follows head kept
@@ -109,9 +113,6 @@ module _ (begins head : Head) (i j : Institution) (kept : KeptRow) (noted puts :
 
   pub next_sound : IsSound next
   next_sound = record { catalogue = b.sound.catalogue; tree = b.sound.tree; each = b.sound.each }
-
-  pub next_begun : IsBegun (Some begins) next
-  next_begun = ap (λ journal. is_some (with_line (line_of kept) journal)) stands.1
 
   pub fits : AllFit after_noted_write FitsNoted noted (Some (tables_kept (Some begins) i))
   fits = subst (λ ns. AllFit after_noted_write FitsNoted ns (Some (tables_kept (Some begins) i))) (sym items)

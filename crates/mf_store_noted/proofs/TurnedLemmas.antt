@@ -1,5 +1,5 @@
 -- What writes make of tables, and what a stop leaves of them, whatever kind of writes they are.
-use Rattle.std.proofs.Common.{◌≡◌, ◌∙◌, ◌⊎◌, inl, inr, true, List, [], ◌∷◌, Option, None, Some, IsTrue, refl, ap, subst}
+use Rattle.std.proofs.Common.{◌≡◌, ◌∙◌, ◌⊎◌, inl, inr, List, [], ◌∷◌, Option, Some, IsTrue, ap, subst}
 use Rattle.std.proofs.Common.{arith, Result, Ok, Err, OnOk, OnErr}
 use Rattle.sqlite.specs.Effect.{Database}
 use Rattle.sqlite.specs.Held.{Held, state}
@@ -16,7 +16,7 @@ use Rattle.mf_store_schema.specs.Rows.{Lists}
 use Rattle.mf_store_schema.specs.Tables.{IsPresent}
 use Rattle.mf_store_schema.specs.Writes.{schema_of, Holds, are_some}
 use Rattle.mf_store_noted.specs.Kept.{IsBegun, rows_kept, tables_kept}
-use Rattle.mf_store_noted.specs.Tabled.{HasGoodDisk, HoldsRowsOf, IsKeptIn, LeavesTables, StayTabled}
+use Rattle.mf_store_noted.specs.Tabled.{HasGoodDisk, IsKeptIn, LeavesTables, StayTabled}
 
 module _ {S : Type 0} (g : Ghosts S) where
   -- a call that leaves the tables as they are

@@ -1,5 +1,5 @@
 -- What tables keep of an institution that keeps a journal, too.
-use Rattle.std.specs.Prelude.{◌≡◌, ℕ, List, [], ◌∷◌, ◌++◌, Option, None, Some, IsSome, option_map}
+use Rattle.std.specs.Prelude.{◌≡◌, ℕ, List, [], ◌∷◌, Option, None, Some, option_map}
 use Rattle.mf_base.specs.DayText.{day_text}
 use Rattle.mf_model.specs.Institution.{Institution, JournalLine, with_line}
 use Rattle.mf_journal.specs.declared.following.Head.{Head}
@@ -7,8 +7,9 @@ use Rattle.mf_store_sql.specs.Numbered.{Filed}
 use Rattle.mf_store_schema.specs.Rows.{Lists}
 use Rattle.mf_store_schema.specs.declared.meta.MetaRow.{MetaRow}
 use Rattle.mf_store_values.specs.Flat.{schema_number, tables_of}
-use Rattle.mf_store_journal.specs.Rows.{head_with_all, journal_rows_in}
-use Rattle.mf_store_noted.specs.declared.journal.Journal.{Journal}
+use Rattle.mf_store_journal.specs.Rows.{journal_rows_in}
+use Rattle.mf_store_journal.specs.Written.{CanBeLines, HasLines}
+use Rattle.mf_store_journal.specs.declared.journal.Journal.{Journal}
 use Rattle.mf_store_noted.specs.declared.journal.Place.{Place}
 
 -- the number of the schema: that of today's tables alone, or with a journal, which begins somewhere
@@ -36,23 +37,18 @@ tables_kept journal i = record (tables_of i) {
 abbrev pub noted_with : JournalLine → Institution → Institution
 noted_with line i = record i { journal = with_line line i.journal }
 
--- the journal that begins here stands so after its lines
-abbrev pub StandsAt : Head → Institution → Head → Type 0
-StandsAt begins i head = (lines : List JournalLine) × (i.journal ≡ Some lines) × (head ≡ head_with_all begins lines)
-
 -- where a journal begins, if one is kept
 abbrev pub begins_of : Option Journal → Option Head
 begins_of journal = option_map (λ (j : Journal). j.begins) journal
 
--- a journal begins somewhere just where the institution keeps one
+-- a journal begins somewhere just where the institution keeps one, whose lines can be those of one that begins there
 abbrev pub IsBegun : Option Head → Institution → Type 0
 IsBegun None i = i.journal ≡ None
-IsBegun (Some begins) i = IsSome i.journal
+IsBegun (Some begins) i = (lines : List JournalLine) × (i.journal ≡ Some lines) × CanBeLines begins lines
 
 -- the journal that is kept, if one is, is the institution's
 abbrev pub IsJournalOf : Option Journal → Institution → Type 0
-IsJournalOf None i = i.journal ≡ None
-IsJournalOf (Some journal) i = StandsAt journal.begins i journal.head
+IsJournalOf journal i = HasLines journal i.journal
 
 -- the journal whose next line has this place
 abbrev pub journal_at : Option Place → Option Journal

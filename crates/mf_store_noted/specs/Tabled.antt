@@ -6,14 +6,16 @@ use Rattle.sqlite.specs.Tree.{Trees}
 use Rattle.sqlite_trees.specs.declared.store.Store.{Ghosts}
 use Rattle.mf_model.specs.Institution.{Institution, newly_made}
 use Rattle.mf_model.specs.Sound.{IsSound}
+use Rattle.mf_journal.specs.Founding.{founding}
 use Rattle.mf_journal.specs.declared.following.Head.{Head}
 use Rattle.mf_store_sql.specs.Writes.{Serves}
 use Rattle.mf_store_schema.specs.Calls.{OnlyFaultsShut}
+use Rattle.mf_store_schema.specs.Rows.{Lists}
 use Rattle.mf_store_schema.specs.Tables.{IsPresent}
 use Rattle.mf_store_schema.specs.Writes.{schema_of, Holds}
 use Rattle.mf_store_values.specs.Flat.{tables_of}
-use Rattle.mf_store_noted.specs.Kept.{IsBegun, IsJournalOf, begins_of, tables_kept}
-use Rattle.mf_store_noted.specs.declared.journal.Journal.{Journal}
+use Rattle.mf_store_noted.specs.Kept.{IsBegun, IsJournalOf, begins_of, journaled, tables_kept}
+use Rattle.mf_store_journal.specs.declared.journal.Journal.{Journal}
 
 -- the trees hold the institution's rows, and its journal's wherever that begins, and nothing else
 pub record HoldsRowsOf (trees : Trees) (i : Institution) : Type 0 where
@@ -56,13 +58,20 @@ module _ {S : Type 0} (g : Ghosts S) where
         → IsKeptIn journal new i
     pub stop : HasGoodDisk new → (is : List Institution) → LeavesTables old is → LeavesTables new is
 
-  -- Where a new institution could not be made on this day, nothing is changed, a stop leaves nothing more than before
-  -- but that institution, whole, and only a fault of the disk shuts the connection.
-  pub record IsUnfounded (day : ℕ) (old new : Held S) : Type 0 where
+  -- Where a new institution with these lists could not be made, nothing is changed, a stop leaves nothing more than
+  -- before but that institution, whole, and only a fault of the disk shuts the connection.
+  pub record IsUnfoundedAs (made : Lists) (old new : Held S) : Type 0 where
     pub premise : HasGoodDisk new → HasGoodDisk old
     pub was_open : HasGoodDisk new → IsTrue (state g new).is_open → IsTrue (state g old).is_open
     pub same : HasGoodDisk new → IsTrue (state g new).is_open → (state g new).now ≡ (state g old).now
     pub shuts : OnlyFaultsShut (state g old) (state g new)
     pub stop : HasGoodDisk new → Serves schema_of Holds (state g old).now None → (trees : Trees)
-        → (state g new).may_leave trees → (state g old).may_leave trees
-        ⊎ Holds trees (Some (tables_of (newly_made day)))
+        → (state g new).may_leave trees → (state g old).may_leave trees ⊎ Holds trees (Some made)
+
+  -- so of a new institution on a day that keeps no journal
+  abbrev pub IsUnfounded : ℕ → Held S → Held S → Type 0
+  IsUnfounded day = IsUnfoundedAs (tables_of (newly_made day))
+
+  -- and of one that keeps one
+  abbrev pub IsUnfoundedJournaled : ℕ → Held S → Held S → Type 0
+  IsUnfoundedJournaled day = IsUnfoundedAs (tables_kept (Some (founding 3 day)) (journaled (newly_made day)))

@@ -9,8 +9,8 @@ use Rattle.mf_store_schema.specs.Calls.{OnlyFaultsShut}
 use Rattle.mf_store_schema.specs.declared.writes.StoreWrite.{StoreWrite}
 use Rattle.mf_store_noted.specs.Becoming.{BecomesKept}
 use Rattle.mf_store_noted.specs.Kept.{begins_of}
-use Rattle.mf_store_noted.specs.Tabled.{HasGoodDisk, IsKeptIn, IsTabled, LeavesTables}
-use Rattle.mf_store_noted.specs.declared.journal.Journal.{Journal}
+use Rattle.mf_store_noted.specs.Tabled.{HasGoodDisk, IsTabled, LeavesTables}
+use Rattle.mf_store_journal.specs.declared.journal.Journal.{Journal}
 use Rattle.mf_store_noted.specs.declared.journal.Place.{Place}
 
 -- the day of the next line; of no journal there is none

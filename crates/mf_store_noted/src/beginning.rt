@@ -1,6 +1,7 @@
 //! Journals that begin: of a new institution, and of one that keeps none.
 
-ghost use Rattle.std.specs.Prelude.{◌≡◌, ◌≤◌, ◌⊎◌, ℕ, [], ◌∷◌, None, Some, false, IsTrue, OnOk, OnErr, IfOk, IfErr};
+ghost use Rattle.std.specs.Prelude.{◌≡◌, ◌≤◌, ◌⊎◌, ◌↔◌, ℕ, [], ◌∷◌, None, Some, false, IsTrue, OnOk, OnErr, IfOk};
+ghost use Rattle.std.specs.Prelude.{IfErr};
 ghost use Rattle.mf_base.specs.declared.fault.Fault.TheVariants.{F20};
 ghost use Rattle.sqlite.specs.Held.{state};
 ghost use Rattle.sqlite.specs.State.{HasCleanDisk};
@@ -14,16 +15,17 @@ ghost use Rattle.mf_store_schema.specs.declared.writes.StoreWrite.TheVariants.{P
 ghost use Rattle.mf_model.specs.Sound.{IsSound};
 ghost use Rattle.mf_journal.specs.Founding.{founding};
 ghost use Rattle.mf_store_commits.specs.Becoming.{Begins};
+ghost use Rattle.mf_store_journal.specs.Checking.{CanBegin};
 ghost use Rattle.mf_store_noted.specs.Kept.{journaled, meta_kept, tables_kept};
 ghost use Rattle.mf_store_noted.specs.Tabled.{IsKeptIn, LeavesTables};
 
 use crate::noted::puts;
-use crate::writing::number_of;
+use crate::writing::day_number;
 use mf_base::{Day, Fault};
 use mf_journal::Head;
 use mf_model::laws;
 use mf_store_commits::first_writes;
-use mf_store_journal::NotedWrite;
+use mf_store_journal::{NotedWrite, beginning_row, has_room};
 use mf_store_schema::{MetaRow, StoreWrite, Text};
 use mf_store_sql::apply;
 use sqlite::{Alter, Connection};
@@ -35,9 +37,10 @@ pub const JOURNALED_SCHEMA: u32 = 3;
 /// Where the journal of an institution begins that is founded on a business day. The error is F20.
 pub fn founding_head(day: Day) -> Result<Head, Fault>
     ensures head { IfOk result (λ head. head ≡ founding 3 day) }
+    ensures can { IfOk result CanBegin }
     ensures gives_up { IfErr result (λ fault. fault ≡ F20) }
 {
-    let number = number_of(day)?;
+    let number = day_number(day)?;
     Ok(Head::founding(JOURNALED_SCHEMA as u64, number))
 }
 
@@ -51,6 +54,13 @@ fn journaled_meta(alloc: Global, day: Day) -> Result<StoreWrite, Fault>
         schema: JOURNALED_SCHEMA,
         day: Text::new(day.text(alloc)?),
     }))
+}
+
+/// Whether a journal can begin here: its numbers have room in the table.
+fn can_begin(begins: Head) -> bool
+    ensures { IsTrue result ↔ CanBegin begins }
+{
+    has_room(beginning_row(begins))
 }
 
 /// Puts the row of meta, and begins the journal, in one commit.
@@ -82,6 +92,9 @@ fn begin_with<S: Alter>(
         ⊎ Holds trees (Some (tables_kept (Some begins) (journaled i))) }
     ensures mode { connection.new.in_transaction ≡ false }
 {
+    if !can_begin(begins) {
+        return Err(Fault::F20);
+    }
     match apply(
         connection,
         &[NotedWrite::Put(meta), NotedWrite::Begin(begins)],
@@ -141,6 +154,8 @@ fn found_with<S: Alter>(
     ensures shuts { OnlyFaultsShut (state S.Store connection.old) (state S.Store connection.new) }
     ensures open { HasCleanDisk (state S.Store connection.new)
         → OnOk result (IsTrue (state S.Store connection.new).is_open) }
+    ensures was_open { HasCleanDisk (state S.Store connection.new) → IsTrue (state S.Store connection.new).is_open
+        → IsTrue (state S.Store connection.old).is_open }
     ensures made { HasCleanDisk (state S.Store connection.new) → OnOk result ((day : ℕ)
         → IsSound (newly_made day) → Begins writes.now day → meta.now ≡ PutMeta (meta_kept (Some begins) day)
         → Serves schema_of Holds (state S.Store connection.old).now None
@@ -160,6 +175,9 @@ fn found_with<S: Alter>(
         ⊎ Holds trees (Some (tables_kept (Some begins) (journaled (newly_made day)))) }
     ensures mode { connection.new.in_transaction ≡ false }
 {
+    if !can_begin(begins) {
+        return Err(Fault::F20);
+    }
     let mut noted = puts(alloc, writes)?;
     noted.push(NotedWrite::Put(meta))?;
     noted.push(NotedWrite::Begin(begins))?;
@@ -184,6 +202,8 @@ pub fn found_journaled<S: Alter>(
     ensures shuts { OnlyFaultsShut (state S.Store connection.old) (state S.Store connection.new) }
     ensures open { HasCleanDisk (state S.Store connection.new)
         → OnOk result (IsTrue (state S.Store connection.new).is_open) }
+    ensures was_open { HasCleanDisk (state S.Store connection.new) → IsTrue (state S.Store connection.new).is_open
+        → IsTrue (state S.Store connection.old).is_open }
     ensures made { HasCleanDisk (state S.Store connection.new) → OnOk result (Serves schema_of Holds
         (state S.Store connection.old).now None
         → IsKeptIn S.Store (Some begins) connection.new (journaled (newly_made day))) }

@@ -1,14 +1,7 @@
-//! The journal that tables keep, and the place of its next line.
+//! The place of the next line of a journal that tables keep.
 
 use mf_base::Day;
-use mf_journal::Head;
-
-/// A journal: where it begins, and where it stands.
-#[derive(Clone, Copy)]
-pub struct Journal {
-    pub begins: Head,
-    pub head: Head,
-}
+use mf_store_journal::Journal;
 
 /// Where the next line of a journal stands.
 #[derive(Clone, Copy)]

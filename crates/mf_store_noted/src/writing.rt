@@ -9,12 +9,13 @@ ghost use Rattle.mf_model.specs.declared.note.RequestText.TheVariants.{Received,
 ghost use Rattle.mf_store_noted.specs.Kept.{journal_at};
 ghost use Rattle.mf_store_noted.specs.Writing.{MakesWrites, day_at};
 
-use crate::journal::{Journal, Place};
+use crate::journal::Place;
 use crate::noted::with_line;
 use mf_base::{Day, Fault};
 use mf_journal::{JournalRow, KeptRow, repayment_body, repayment_path};
 use mf_model::{Names, Note, ReceivedText, RepaymentText, RequestText};
 use mf_office::Caller;
+use mf_store_journal::{Journal, has_room};
 use mf_store_schema::StoreWrite;
 use mf_store_sql::apply;
 use sqlite::{Alter, Connection};
@@ -37,7 +38,7 @@ fn write_alone<S: Alter>(
 }
 
 /// The number of a day; 1 January 2000 is 0. The error is F20.
-pub(crate) fn number_of(day: Day) -> Result<u64, Fault>
+pub(crate) fn day_number(day: Day) -> Result<u64, Fault>
     ensures number { IfOk result (λ number. number ≡ day) }
     ensures gives_up { IfErr result (λ fault. fault ≡ F20) }
 {
@@ -89,6 +90,9 @@ fn write_row<'a, S: Alter>(
         row,
         chain,
     };
+    if !has_room(kept) {
+        return Err(Fault::F20);
+    }
     let noted = with_line(alloc, writes, kept)?;
     match apply(connection, &noted) {
         Ok(()) => Ok(Some(Journal {
@@ -114,7 +118,7 @@ fn write_text<S: Alter>(
         (noted_as caller (received_now (Received text.now)) names)) connection.old connection.new result }
     ensures mode { connection.new.in_transaction ≡ false }
 {
-    let today = number_of(place.day)?;
+    let today = day_number(place.day)?;
     let row = row_of(today, caller, names, *text);
     write_row(alloc, connection, writes, place.journal, row)
 }

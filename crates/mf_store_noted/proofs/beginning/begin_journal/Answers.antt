@@ -1,6 +1,5 @@
 use Rattle.std.proofs.Common.{◌∙◌, Some, sym, ap}
 use Rattle.std.proofs.lemmas.Result.{on_ok_weaker}
-use Rattle.sqlite.specs.Held.{state}
 use Rattle.mf_store_schema.specs.declared.writes.StoreWrite.TheVariants.{PutMeta}
 use Rattle.mf_store_noted.specs.Kept.{meta_kept}
 use Rattle.mf_store_noted.proofs.beginning.begin_journal.Goals as goal

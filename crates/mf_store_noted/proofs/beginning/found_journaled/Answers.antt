@@ -1,6 +1,5 @@
 use Rattle.std.proofs.Common.{sym, subst}
 use Rattle.std.proofs.lemmas.Result.{on_ok_weaker}
-use Rattle.sqlite.specs.Held.{state}
 use Rattle.mf_store_commits.specs.Becoming.{Begins}
 use Rattle.mf_store_noted.proofs.beginning.found_journaled.Goals as goal
 

@@ -1,4 +1,3 @@
-use Rattle.std.proofs.Common.{rules}
 use Rattle.mf_store_noted.proofs.writing.write_kept.Goals as goal
 
 pub returns-in_default-clause-makes : goal.returns-in_default-clause-makes

@@ -1,7 +1,6 @@
-use Rattle.std.proofs.Common.{◌≡◌, ◌∙◌, Some, ap, ap₂, sym, subst, codes, List, ℕ}
-use Rattle.mf_model.specs.Calls as calls
+use Rattle.std.proofs.Common.{◌∙◌, Some, ap, subst, codes}
 use Rattle.mf_model.specs.Institution.{noted_line}
-use Rattle.mf_model.specs.Notes.{noted_as, repayment_body, repayment_received}
+use Rattle.mf_model.specs.Notes.{noted_as, repayment_body}
 use Rattle.mf_store_noted.specs.Writing.{MakesWrites}
 use Rattle.mf_store_noted.proofs.writing.write_repayment.Goals as goal
 

@@ -12,7 +12,8 @@ returns-in-Ok-clause-makes g c =
     made_writes after_noted_write FitsNoted c.deref.result.now (Some c.args.journal) _ c.args.writes.now
     (line_of_row c.args.row) g.S.Store c.args.connection.now c.apply.new.connection
     (λ i j t b. turn_with_line c.args.journal c.in-Some.head c.args.row c.deref.result.now told.0 c.args.writes.now
-    (c.deref.ensures.value ∙ told.1) told.2 c.in-Some.ensures.added.0 c.in-Some.ensures.added.1 i j t.keeps b)
+    (c.deref.ensures.value ∙ told.1) told.2 c.in-Some.ensures.added.0 c.in-Some.ensures.added.1
+    (c.has_room.ensures.0 (search rules)) i j t.keeps b)
     c.apply.ensures.was_open c.apply.ensures.crash refl c.in-Ok.ensures.ok c.in-Ok.ensures.settled
     (λ trees live may. g.met.S.Store.settled c.apply.new.connection.store trees live may)
 
@@ -22,7 +23,8 @@ returns-clause-makes g c =
     unmade_writes after_noted_write FitsNoted c.deref.result.now (Some c.args.journal) _ c.args.writes.now
     (line_of_row c.args.row) g.S.Store c.args.connection.now c.apply.new.connection
     (λ i j t b. turn_with_line c.args.journal c.in-Some.head c.args.row c.deref.result.now told.0 c.args.writes.now
-    (c.deref.ensures.value ∙ told.1) told.2 c.in-Some.ensures.added.0 c.in-Some.ensures.added.1 i j t.keeps b)
+    (c.deref.ensures.value ∙ told.1) told.2 c.in-Some.ensures.added.0 c.in-Some.ensures.added.1
+    (c.has_room.ensures.0 (search rules)) i j t.keeps b)
     c.apply.ensures.was_open c.apply.ensures.crash c.in-Err.ensures.err
 
 pub returns-in_default-clause-makes : goal.returns-in_default-clause-makes

@@ -3,7 +3,7 @@ use Rattle.std.specs.Prelude.{unsigned_abs}
 use Rattle.std.proofs.lemmas.Int.{to_z-of_z}
 use Rattle.mf_base.specs.Calendar.{date_of}
 use Rattle.mf_base.specs.DayText.{day_text}
-use Rattle.mf_store_noted.proofs.writing.number_of.Goals as goal
+use Rattle.mf_store_noted.proofs.writing.day_number.Goals as goal
 
 first_text : codes "2000-01-01" ≡ day_text 0
 unfolding day_text date_of
