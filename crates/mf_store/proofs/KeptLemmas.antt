@@ -9,9 +9,8 @@ use Rattle.std.specs.List.{IsDistinct}
 use Rattle.std.proofs.lemmas.Map.{lookup-remove_entry}
 use Rattle.std.proofs.lemmas.Bool.{false_from_ne_true}
 use Rattle.std.proofs.lemmas.Bool.Decides.{nat_tests}
-use Rattle.std.specs.Prelude.{◌&&◌, not, is_ok}
+use Rattle.std.specs.Prelude.{◌&&◌, not}
 use Rattle.std.specs.Cmp.{IsEquivalence, nat_eq_equiv}
-use Rattle.std.proofs.lemmas.Result.{on_ok_weaker}
 use Rattle.lru.specs.LruCache.{LruCache, lru_cache, put_entries}
 use Rattle.lru.proofs.CallerLemmas.{Contains-lookup_entry, lookup-put_entries}
 use Rattle.sqlite.specs.Held.{Held, state}
@@ -32,12 +31,12 @@ use Rattle.mf_store.specs.Learning.{Tells, counts_told, catalogue_told, day_told
 use Rattle.mf_store.specs.declared.known.News.{News}
 use Rattle.mf_store.specs.declared.known.News.TheVariants.{OfficeCounts, BusinessDay}
 use Rattle.mf_store.specs.declared.known.News.TheVariants as news
-use Rattle.mf_store_noted.specs.Kept.{IsJournalOf, begins_of}
-use Rattle.mf_store_noted.specs.Tabled.{IsKeptIn, IsTabled, HasGoodDisk, LeavesTables}
-use Rattle.mf_store_noted.specs.declared.journal.Journal.{Journal}
+use Rattle.mf_store_noted.specs.Kept.{begins_of}
+use Rattle.mf_store_noted.specs.Tabled.{IsTabled, HasGoodDisk, LeavesTables}
+use Rattle.mf_store_journal.specs.declared.journal.Journal.{Journal}
 use Rattle.mf_store_noted.proofs.TurnedLemmas.{unchanged_stays}
 use Rattle.mf_store_schema.specs.Calls.{IsAsBefore, OnlyFaultsShut}
-use Rattle.mf_store.specs.Stands.{StandsFor, IsClean, Leaves, IsOpen, IsOpenUntil, Stays, AsksTables, MayAskTables}
+use Rattle.mf_store.specs.Stands.{StandsFor, IsClean, IsOpen, IsOpenUntil, Stays, AsksTables, MayAskTables}
 
 module _ {S : Type 0} (g : Ghosts S) where
   pub tabled : (k : KnownStore S) (i : Institution) → StandsFor g k i → IsTabled g k.journal k.connection i

@@ -18,3 +18,4 @@ pub mod StatusLemmas
 pub mod MadeLemmas
 pub mod KnownAccountLemmas
 pub mod DayLemmas
+pub mod BeginLemmas

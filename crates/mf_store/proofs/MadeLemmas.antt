@@ -1,8 +1,8 @@
 -- From writes that were made with the line of their request, or not, to the commit.
-use Rattle.std.proofs.Common.{◌≡◌, ◌∙◌, ℕ, List, [], ◌∷◌, Option, None, Some, Result, Ok, Err, IfErr, IsTrue, OnOk, OnErr}
-use Rattle.std.proofs.Common.{inr, refl, sym, ap, subst}
+use Rattle.std.proofs.Common.{◌≡◌, ◌∙◌, ℕ, List, [], ◌∷◌, Option, None, Some, Result, Ok, Err, IsTrue}
+use Rattle.std.proofs.Common.{inr, sym, ap, subst}
 use Rattle.std.specs.Prelude.{is_ok}
-use Rattle.sqlite.specs.Held.{Held, state}
+use Rattle.sqlite.specs.Held.{Held}
 use Rattle.sqlite_trees.specs.declared.store.Store.{Ghosts}
 use Rattle.mf_base.specs.declared.fault.Fault.{Fault}
 use Rattle.mf_base.specs.declared.fault.Fault.TheVariants.{F20}
@@ -17,12 +17,11 @@ use Rattle.mf_store_noted.specs.Becoming.{BecomesBeside, BecomesKept}
 use Rattle.mf_store_noted.specs.Kept.{IsJournalOf, IsToday, begins_of, journal_at}
 use Rattle.mf_store_noted.specs.Tabled.{IsTabled, LeavesTables}
 use Rattle.mf_store_noted.specs.Writing.{MakesWrites, day_at, noted_after, with_line_after}
-use Rattle.mf_store_noted.specs.declared.journal.Journal.{Journal}
+use Rattle.mf_store_journal.specs.declared.journal.Journal.{Journal}
 use Rattle.mf_store_noted.specs.declared.journal.Place.{Place}
 use Rattle.mf_store_noted.proofs.BesideLemmas.{becomes_beside, begun_of}
 use Rattle.mf_store.specs.Facts.{Facts, KnownStore, AreTrueOf}
 use Rattle.mf_store.specs.Learning.{Tells}
-use Rattle.mf_store.specs.declared.known.News.{News}
 use Rattle.mf_store.specs.declared.known.News.TheVariants as news
 use Rattle.mf_store.specs.Stands.{StandsFor, IsClean, Leaves, Stays, MakesCommit, WritesNoted}
 use Rattle.mf_store.proofs.KeptLemmas.{account_told, shuts_alike, tabled}

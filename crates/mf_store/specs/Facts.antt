@@ -18,8 +18,8 @@ use Rattle.mf_model.specs.contracts.store.CatalogueCounts as catalogue_row
 use Rattle.mf_model.specs.Institution.{Institution, product_in}
 use Rattle.mf_model.specs.Store.{counts_at, catalogue_counts, role_of, account_at}
 use Rattle.mf_store_values.specs.Flat.{key_at}
-use Rattle.mf_store_noted.specs.declared.journal.Journal.{Journal}
-use Rattle.mf_store_noted.specs.contracts.journal.Journal as journal_row
+use Rattle.mf_store_journal.specs.declared.journal.Journal.{Journal}
+use Rattle.mf_store_journal.specs.contracts.journal.Journal as journal_row
 
 -- the key of what is known of a caller: the office's number, and the staff number in it
 abbrev pub caller_key : Caller → ℕ × ℕ

@@ -10,6 +10,7 @@ mod catalogue;
 mod commits;
 mod counts;
 mod institution;
+mod journal;
 mod kept;
 mod known;
 pub mod laws;

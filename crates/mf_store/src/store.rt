@@ -1,7 +1,7 @@
 //! The store: what it reads of its tables and knows beside them, how it is made and given back.
 
 ghost use Rattle.std.specs.Prelude.{◌≡◌, ◌<◌, ◌≤◌, ◌⊎◌, [], ◌∷◌, Option, length, false, None, Some, IsTrue};
-ghost use Rattle.std.specs.Prelude.{IfOk, IfErr, IfSome};
+ghost use Rattle.std.specs.Prelude.{◌↔◌, IfOk, IfErr, IfSome, IsSome};
 ghost use Rattle.std.specs.Prelude.{map, filter, option_map, take};
 ghost use Rattle.mf_base.specs.declared.fault.Fault.TheVariants.{F20};
 ghost use Rattle.mf_base.specs.DayText.{last_entered_day};
@@ -17,12 +17,11 @@ ghost use Rattle.mf_model.specs.Notes.{noted_now};
 ghost use Rattle.mf_store_noted.specs.Becoming.{BecomesBeside};
 ghost use Rattle.mf_journal.specs.Founding.{founding};
 ghost use Rattle.mf_store_noted.specs.Kept.{IsBegun, IsToday, begins_of, journal_at, journaled, number_kept};
-ghost use Rattle.mf_store_noted.specs.Kept.{tables_kept};
-ghost use Rattle.sqlite.specs.Tree.{Trees};
-ghost use Rattle.mf_store_noted.specs.Tabled.{IsTabled, HasGoodDisk, IsUnfounded};
+ghost use Rattle.mf_store_noted.specs.Tabled.{IsTabled, HasGoodDisk, IsUnfounded, IsUnfoundedJournaled};
 ghost use Rattle.mf_store_values.specs.ReceiptRows.{receipt_in};
 ghost use Rattle.mf_store_schema.specs.Rows.{loan_row, office_row, is_loan_above, is_between_keys};
 ghost use Rattle.mf_store_schema.specs.Writes.{schema_of, Holds};
+ghost use Rattle.mf_store.specs.Beginning.{BeginsJournal};
 ghost use Rattle.mf_store.specs.Facts.{KnownStore, AreTrueOf, nothing_known};
 ghost use Rattle.mf_store.specs.Learning.{Tells};
 ghost use Rattle.mf_store.specs.Stands.{StandsFor, IsClean, Leaves, IsOpen, Stays, AsksTables, MayAskTables};
@@ -36,7 +35,7 @@ use mf_model::{Note, laws};
 use mf_office::{Account, Caller, Key, Role};
 use mf_store_commits::{entry_writes, first_writes, reversal_writes};
 use mf_store_noted::{
-    JOURNALED_SCHEMA, Journal, Place, found_journaled, founding_head, write_kept,
+    JOURNALED_SCHEMA, Journal, Place, begin_upgraded, found_journaled, founding_head, write_kept,
 };
 use mf_store_schema::{
     Listed, ReceiptRow, SCHEMA, StoreWrite, find_receipt, list_rows, loans_above, offices_within,
@@ -176,15 +175,9 @@ impl<S: Alter> Store<S> {
             → Serves schema_of Holds (state S.Store connection).now None
             → Leaves S.Store store (journaled (newly_made day) ∷ [])) }
         ensures open { IfOk result (λ store. IsClean S.Store store → IsOpen S.Store store) }
+        ensures was_open { IfOk result (λ store. IsClean S.Store store → IsTrue (state S.Store connection).is_open) }
         ensures gives_up { IfErr result (λ e. e.0 ≡ F20) }
-        ensures same { IfErr result (λ e. HasGoodDisk S.Store e.1 → IsTrue (state S.Store e.1).is_open
-            → (state S.Store e.1).now ≡ (state S.Store connection).now) }
-
-        // A stop leaves what it could leave before, or the new institution with its journal, whole.
-        ensures stop { IfErr result (λ e. HasGoodDisk S.Store e.1
-            → Serves schema_of Holds (state S.Store connection).now None → (trees : Trees)
-            → (state S.Store e.1).may_leave trees → (state S.Store connection).may_leave trees
-            ⊎ Holds trees (Some (tables_kept (Some (founding 3 day)) (journaled (newly_made day))))) }
+        ensures given_back { IfErr result (λ e. IsUnfoundedJournaled S.Store day connection e.1) }
         ensures alone { IfErr result (λ e. e.1.in_transaction ≡ false) }
     {
         let begins = match founding_head(day) {
@@ -208,14 +201,14 @@ impl<S: Alter> Store<S> {
         }
     }
 
-    /// A store over tables that hold an institution without a journal, which it doesn't ask for anything, with room for
-    /// what it comes to know of it.
-    pub fn over(connection: Connection<S>, known: Known) -> Store<S>
+    /// A store over tables that hold an institution and, where it keeps one, this journal. It doesn't ask them for
+    /// anything, and has room for what it comes to know.
+    pub fn over(connection: Connection<S>, known: Known, journal: Option<Journal>) -> Store<S>
         requires alone { connection.in_transaction ≡ false }
         requires nothing { known ≡ nothing_known }
         ensures same { result.connection ≡ connection }
-        ensures stands { (i : Institution) → IsTabled S.Store None connection i → StandsFor S.Store result i }
-        ensures leaves { IsOpen S.Store result → (i : Institution) → IsTabled S.Store None connection i
+        ensures stands { (i : Institution) → IsTabled S.Store journal connection i → StandsFor S.Store result i }
+        ensures leaves { IsOpen S.Store result → (i : Institution) → IsTabled S.Store journal connection i
             → Leaves S.Store result (i ∷ []) }
     {
         // With nothing to commit a stop leaves just the tables as they are; the call brings that into the proof.
@@ -223,7 +216,7 @@ impl<S: Alter> Store<S> {
         Store {
             connection,
             known,
-            journal: None,
+            journal,
         }
     }
 
@@ -308,6 +301,24 @@ impl<S: Alter> Store<S> {
             None => SCHEMA,
             Some(_) => JOURNALED_SCHEMA,
         }
+    }
+
+    /// Whether it keeps a journal.
+    pub fn keeps_journal(&self) -> bool
+        ensures { IsTrue result ↔ IsSome self.now.journal }
+    {
+        self.journal.is_some()
+    }
+
+    /// Gives the institution a journal, where the store keeps none.
+    pub(crate) fn begin_upgraded(&mut self, alloc: Global) -> Result<(), Fault>
+        requires { self.old.journal ≡ None }
+        ensures { BeginsJournal S.Store self.old self.new result }
+    {
+        let day = self.business_day()?;
+        let journal = begin_upgraded(alloc, &mut self.connection, day)?;
+        self.journal = Some(journal);
+        Ok(())
     }
 
     /// Where the next line of the journal stands, if one is kept: its day is the business day.

@@ -1,49 +1,63 @@
 -- From what is said of the rows that were read to what is said of the tables.
-use Rattle.std.proofs.Common.{◌≡◌, sym, ◌∙◌, subst}
+use Rattle.std.proofs.Common.{◌≡◌, inl, inr, List, Option, refl, sym, ◌∙◌, subst}
 use Rattle.sqlite.specs.Effect.{Database}
-use Rattle.mf_model.specs.Institution.{Institution}
+use Rattle.mf_model.specs.Institution.{Institution, JournalLine}
 use Rattle.mf_store_schema.specs.Rows.{Lists}
 use Rattle.mf_store_schema.specs.Versions.{IsOfVersion}
 use Rattle.mf_store_schema.specs.Writes.{HoldsAt}
 use Rattle.mf_store_schema.specs.declared.versions.Version.{Version}
+use Rattle.mf_store_schema.specs.declared.versions.Version.TheVariants.{First, Second, Third}
 use Rattle.mf_store_sound.specs.Schemas.{lists_at, tables_at}
 use Rattle.mf_store_audit.specs.Findings.{AllBreak, AreOfNone}
-use Rattle.mf_store_sound.specs.Held.{CanBeHeld, DoRise}
+use Rattle.mf_store_sound.specs.Held.{CanBeHeld, DoRise, KeepsJournalAt}
 use Rattle.mf_store_sound.proofs.JudgedLemmas.{can_be_held, holds_sound, rows_are}
 use Rattle.mf_store_sound.proofs.SchemaLemmas.{one_version}
-use Rattle.mf_store_audit.specs.Audits.{IsAuditOfRows, IsAuditOf, HoldsInAt, HoldsNone}
+use Rattle.mf_store_audit.specs.Audits.{FindsSound, IsAuditOfRows, IsAuditOf, IsWithJournal, HoldsInAt, HoldsNone}
 use Rattle.mf_store_audit.specs.declared.audits.Audit.{Audit}
 use Rattle.mf_store_audit.specs.declared.audits.Audit.TheVariants.{NoTables, OtherTables, Sound, Unsound, Unreadable}
+use Rattle.mf_store_audit.specs.declared.audits.Audit.TheVariants as audit
+
+-- the journal doesn't show in the other tables
+other_tables : (v : Version) (i : Institution) (journal : Option (List JournalLine))
+    → tables_at v (record i { journal = journal }) ≡ tables_at v i
+other_tables First i journal = refl
+other_tables Second i journal = refl
+other_tables Third i journal = refl
 
 module _ (db : Database) (v : Version) (ours : IsOfVersion v db.schema) where
   -- a database has the tables of one version alone
   at_ours : (w : Version) (i : Institution) → HoldsInAt w db i → HoldsAt v db.trees (tables_at v i)
-  at_ours w i held =
-      subst (λ (x : Version). HoldsAt x db.trees (tables_at x i)) (one_version w v (sym held.0 ∙ ours)) held.1
+      × KeepsJournalAt v db.trees i.journal
+  at_ours w i held = subst (λ (x : Version). HoldsAt x db.trees (tables_at x i) × KeepsJournalAt x db.trees i.journal)
+      (one_version w v (sym held.0 ∙ ours)) (held.1, held.2)
 
   module _ (tables : Lists) (only : (lists : Lists) → HoldsAt v db.trees lists → tables ≡ lists_at v lists) where
     none_held : AreOfNone v tables → HoldsNone db
-    none_held none w i sound held = none i sound (rows_are v db.trees tables only i (at_ours w i held))
+    none_held none w i sound held = none i sound (rows_are v db.trees tables only i (at_ours w i held).0)
 
-    pub of_rows : (DoRise tables → HoldsAt v db.trees tables) → (a : Audit) → IsAuditOfRows v tables a → IsAuditOf db a
-    of_rows keeps NoTables told = absurd told
-    of_rows keeps OtherTables told = absurd told
-    of_rows keeps (Sound w sums) told =
+    pub of_rows : (DoRise tables → HoldsAt v db.trees tables) → (a : Audit)
+        → (FindsSound a → (journal : Option (List JournalLine)) × KeepsJournalAt v db.trees journal)
+        → IsAuditOfRows v tables a → IsAuditOf db a
+    of_rows keeps NoTables kept told = absurd told
+    of_rows keeps OtherTables kept told = absurd told
+    of_rows keeps (Sound w sums) kept told =
         let its = told.1 in
+        let journal = kept tt in
         let found = holds_sound v db.trees tables keeps (record {
           institution = its.institution;
           sound = its.sound;
           rows_are = its.has;
-        }) in
-        let held = subst (HoldsAt v db.trees) (rows_are v db.trees tables only found.institution found.holds
-        ∙ sym its.has) found.holds in
+        }) journal.0 journal.1 in
+        let whole : Institution = record its.institution { journal = journal.0 } in
+        let holds = subst (HoldsAt v db.trees) (rows_are v db.trees tables only found.institution found.holds
+        ∙ sym its.has ∙ sym (other_tables v its.institution journal.0)) found.holds in
         record {
-          institution = its.institution;
-          sound = its.sound;
-          has = subst (λ (x : Version). HoldsInAt x db its.institution) (sym told.0) (ours, held);
+          institution = whole;
+          sound = record { catalogue = its.sound.catalogue; tree = its.sound.tree; each = its.sound.each };
+          has = subst (λ (x : Version). HoldsInAt x db whole) (sym told.0) (ours, holds, journal.1);
           sums_are = its.sums_are;
         }
-    of_rows keeps (Unsound w rows findings) told =
+    of_rows keeps (Unsound w rows findings) kept told =
         let all : (lists : Lists) → HoldsAt v db.trees lists → rows ≡ lists_at v lists =
         λ lists held. told.1 ∙ only lists held in
         let breaks = subst (λ l. AllBreak v l findings.items) (sym told.1) told.3 in (
@@ -52,8 +66,21 @@ module _ (db : Database) (v : Version) (ours : IsOfVersion v db.schema) where
               → rows ≡ lists_at x lists)) (sym told.0) (ours, all),
           subst (λ (x : Version). AllBreak x rows findings.items) (sym told.0) breaks,
         )
-    of_rows keeps (Unreadable w unread) told = absurd told
+    of_rows keeps (Unreadable w unread) kept told = absurd told
+    of_rows keeps (audit.BrokenJournal broken) kept told = absurd told
+
+    -- with the journal beside the other tables
+    pub of_rows_with_journal : v ≡ Third → (DoRise tables → HoldsAt v db.trees tables) → (others whole : Audit)
+        → IsAuditOfRows v tables others → IsWithJournal db.trees others whole → IsAuditOf db whole
+    of_rows_with_journal third keeps others whole told (inl (same, kept)) = subst (IsAuditOf db) (sym same)
+        (of_rows keeps others (λ found. let j = kept found in
+        (j.0, subst (λ x. KeepsJournalAt x db.trees j.0) (sym third) j.1)) told)
+    of_rows_with_journal third keeps others whole told (inr (broken, is, none, its)) = subst (IsAuditOf db) (sym is) (
+      subst (λ x. IsOfVersion x db.schema) third ours,
+      λ w i sound held. none (i.journal, subst (λ x. KeepsJournalAt x db.trees i.journal) third (at_ours w i held).1),
+      its,
+    )
 
   -- tables with a row that no record can hold
   pub unread_none : ((lists : Lists) → CanBeHeld lists → ¬ HoldsAt v db.trees lists) → HoldsNone db
-  unread_none none w i sound held = none (tables_at v i) (can_be_held v i sound) (at_ours w i held)
+  unread_none none w i sound held = none (tables_at v i) (can_be_held v i sound) (at_ours w i held).0

@@ -11,11 +11,14 @@ use Rattle.mf_store_sql.specs.Tables.{no_schema}
 use Rattle.mf_store_schema.specs.Schemas.{IsKnown}
 use Rattle.mf_store_schema.specs.Versions.{IsOfVersion, schema_at}
 use Rattle.mf_store_schema.specs.declared.versions.Version.{Version}
+use Rattle.mf_store_schema.specs.declared.versions.Version.TheVariants.{Third}
 use Rattle.mf_store_sound.specs.Files.{ShowsFile}
 use Rattle.mf_store_sound.proofs.FileLemmas.{under, seen}
+use Rattle.mf_store_sound.proofs.SchemaLemmas.{no_views}
 use Rattle.mf_store_audit.specs.Audits.{IsAuditOf, IsAuditOfFile}
 use Rattle.mf_store_audit.specs.declared.audits.Audit.{Audit}
 use Rattle.mf_store_audit.specs.declared.audits.Audit.TheVariants.{NoTables, OtherTables, Sound, Unsound, Unreadable}
+use Rattle.mf_store_audit.specs.declared.audits.Audit.TheVariants as audit
 
 module _ (image : Image) (s : State) (shows : ShowsFile image s) (trees : Trees) (k : Schema)
     (holds : HoldsDatabase image trees) (sound : IsSound k trees) where
@@ -33,10 +36,10 @@ module _ (image : Image) (s : State) (shows : ShowsFile image s) (trees : Trees)
       ∙ bare) trees holds sound) ∙ is
 
   as_known : IsKnown k → IsKnown s.now.schema
-  as_known known = (known.0, was_seen (schema_at known.0) refl known.1)
+  as_known known = (known.0, was_seen (schema_at known.0) (no_views known.0) known.1)
 
   known_is_held : (v : Version) → IsOfVersion v s.now.schema → s.now ≡ held
-  known_is_held v is = is_held (schema_at v) refl is
+  known_is_held v is = is_held (schema_at v) (no_views v) is
 
   told_of : (audit : Audit) → IsAuditOf s.now audit → IsAuditOf held audit
   told_of NoTables told = subst (λ db. IsAuditOf db NoTables) (is_held no_schema refl told) told
@@ -44,6 +47,8 @@ module _ (image : Image) (s : State) (shows : ShowsFile image s) (trees : Trees)
   told_of (Sound v sums) told = subst (λ db. IsAuditOf db (Sound v sums)) (known_is_held v told.has.0) told
   told_of (Unsound v rows findings) told = subst (λ db. IsAuditOf db (Unsound v rows findings))
       (known_is_held v told.1.0) told
+  told_of (audit.BrokenJournal broken) told = subst (λ db. IsAuditOf db (audit.BrokenJournal broken))
+      (known_is_held Third told.0) told
   told_of (Unreadable v unread) told = subst (λ db. IsAuditOf db (Unreadable v unread)) (known_is_held v told.0) told
 
 module _ (image : Image) (s : State) (shows : ShowsFile image s) where

@@ -1,8 +1,12 @@
 -- What is unchanged under the schema that there is stays so over two steps, and under any schema.
+use Rattle.std.proofs.Common.{◌≡◌, ◌⊎◌, inl, inr, true, false, subst}
 use Rattle.sqlite.specs.Schema.{Schema}
 use Rattle.sqlite.specs.State.{State}
 use Rattle.mf_store_schema.specs.Schemas.{IsKnown, IsUnchangedUnder}
 use Rattle.mf_store_schema.specs.Tables.{IsPresent}
+use Rattle.mf_store_schema.specs.Versions.{IsOfVersion}
+use Rattle.mf_store_schema.specs.declared.versions.Version.{Version}
+use Rattle.mf_store_schema.specs.declared.versions.Version.TheVariants.{Second, Third}
 use Rattle.mf_store_schema.proofs.ReadLemmas.{unchanged_then}
 use Rattle.mf_store_sound.proofs.NestedLemmas.{unchanged_fewer}
 
@@ -26,3 +30,8 @@ under_common k one = (((one, (one, one)), (one, (one, one))), (one, (one, one)))
 pub under_all : (k : Schema) → IsKnown k → IsPresent k
     → (Six (IsKnown k) × Three (IsKnown k)) × (IsPresent k × IsPresent k)
 under_all k one is = (under_common k one, (is, is))
+
+-- a version with tables of accounts has today's, with or without a journal
+pub present_of : (v : Version) → (v ≡ Second) ⊎ (v ≡ Third) → (k : Schema) → IsOfVersion v k → IsPresent k
+present_of v (inl is) k ours = (false, subst (λ w. IsOfVersion w k) is ours)
+present_of v (inr is) k ours = (true, subst (λ w. IsOfVersion w k) is ours)

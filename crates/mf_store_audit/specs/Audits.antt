@@ -1,12 +1,12 @@
 -- What an audit says of rows, and of a database.
-use Rattle.std.specs.Prelude.{◌≡◌, ◌≢◌, List, map, IfSome}
+use Rattle.std.specs.Prelude.{◌≡◌, ◌≢◌, ◌⊎◌, List, map, Option, IfSome}
 use Rattle.sqlite.specs.Effect.{Database}
 use Rattle.sqlite.specs.Files.{HoldsDatabase}
 use Rattle.sqlite.specs.Schema.{Schema}
 use Rattle.sqlite.specs.Tree.{Trees}
 use Rattle.sqlite_catalog.specs.Listing.{IsSound as IsSoundDatabase}
 use Rattle.sqlite_wal.specs.Recovery.{Image}
-use Rattle.mf_model.specs.Institution.{Institution}
+use Rattle.mf_model.specs.Institution.{Institution, JournalLine}
 use Rattle.mf_model.specs.Sound.{IsSound}
 use Rattle.mf_store_sql.specs.Tables.{no_schema}
 use Rattle.mf_store_schema.specs.Rows.{Lists}
@@ -14,6 +14,13 @@ use Rattle.mf_store_schema.specs.Schemas.{IsKnown}
 use Rattle.mf_store_schema.specs.Versions.{IsOfVersion}
 use Rattle.mf_store_schema.specs.Writes.{HoldsAt}
 use Rattle.mf_store_schema.specs.declared.versions.Version.{Version}
+use Rattle.mf_store_sql.specs.Numbered.{Filed, KeepsLines}
+use Rattle.mf_store_schema.specs.Tables.{journal}
+use Rattle.mf_store_schema.specs.declared.versions.Version.TheVariants.{Third}
+use Rattle.mf_store_journal.specs.Checking.{IsFound}
+use Rattle.mf_store_journal.specs.declared.checking.Found.TheVariants.{Nothing, Flawed}
+use Rattle.mf_store_journal.specs.declared.checking.Found.TheVariants.{NoBeginning as NoFirst}
+use Rattle.mf_store_sound.specs.Held.{KeepsJournalAt}
 use Rattle.mf_store_sound.specs.Schemas.{lists_at, tables_at}
 use Rattle.mf_store_audit.specs.Findings.{AllBreak, AreOfNone}
 use Rattle.mf_store_audit.specs.Sums.{sums_of_office}
@@ -21,6 +28,9 @@ use Rattle.mf_store_audit.specs.declared.totals.OfficeSums.{OfficeSums}
 use Rattle.mf_store_audit.specs.Unread.{IsUnread}
 use Rattle.mf_store_audit.specs.declared.audits.Audit.{Audit}
 use Rattle.mf_store_audit.specs.declared.audits.Audit.TheVariants.{NoTables, OtherTables, Sound, Unsound, Unreadable}
+use Rattle.mf_store_audit.specs.declared.audits.Audit.TheVariants as audit
+use Rattle.mf_store_audit.specs.declared.journal.BrokenJournal.{BrokenJournal}
+use Rattle.mf_store_audit.specs.declared.journal.BrokenJournal.TheVariants.{NoRows, NoBeginning, Row}
 
 -- a sound institution of which this holds has these sums, office by office
 pub record AreSumsOf (Has : Institution → Type 0) (sums : List OfficeSums) : Type 0 where
@@ -37,10 +47,12 @@ IsAuditOfRows v lists (Sound version sums) = (version ≡ v) × AreSumsOf (λ i.
 IsAuditOfRows v lists (Unsound version tables findings) =
     (version ≡ v) × (tables ≡ lists) × AreOfNone v lists × AllBreak v lists findings.items
 IsAuditOfRows v lists (Unreadable version unread) = ⊥
+IsAuditOfRows v lists (audit.BrokenJournal broken) = ⊥
 
--- a database has the tables of a version, with the rows of an institution and nothing else
+-- a database has the tables of a version, with the rows of an institution, and its journal's, and nothing else
 abbrev pub HoldsInAt : Version → Database → Institution → Type 0
-HoldsInAt v db i = IsOfVersion v db.schema × HoldsAt v db.trees (tables_at v i)
+HoldsInAt v db i =
+    IsOfVersion v db.schema × HoldsAt v db.trees (tables_at v i) × KeepsJournalAt v db.trees i.journal
 
 -- whatever lists the tables of a version hold, they are these
 abbrev pub AreAllHeld : Version → Database → Lists → Type 0
@@ -51,6 +63,17 @@ AreAllHeld v db tables =
 abbrev pub HoldsNone : Database → Type 0
 HoldsNone db = (v : Version) (i : Institution) → IsSound i → ¬ HoldsInAt v db i
 
+-- the lines in the journal's table are none, or no beginning stands first, or this is wrong with the first that is
+-- wrong
+abbrev pub IsBrokenBy : List Filed → BrokenJournal → Type 0
+IsBrokenBy lines NoRows = IsFound lines Nothing
+IsBrokenBy lines NoBeginning = IsFound lines NoFirst
+IsBrokenBy lines (Row flaw) = IsFound lines (Flawed flaw)
+
+-- so whatever lines the table keeps
+abbrev pub IsBroken : Trees → BrokenJournal → Type 0
+IsBroken trees broken = (lines : List Filed) → KeepsLines journal (trees 23) lines → IsBrokenBy lines broken
+
 -- what is said of a database
 abbrev pub IsAuditOf : Database → Audit → Type 0
 IsAuditOf db NoTables = db.schema ≡ no_schema
@@ -60,6 +83,27 @@ IsAuditOf db (Unsound version tables findings) =
     HoldsNone db × AreAllHeld version db tables × AllBreak version tables findings.items
 IsAuditOf db (Unreadable version unread) =
     IsOfVersion version db.schema × HoldsNone db × IfSome unread (λ u. IsUnread u.table u.value u.place db.trees)
+IsAuditOf db (audit.BrokenJournal broken) = IsOfVersion Third db.schema × HoldsNone db × IsBroken db.trees broken
+
+-- an audit says that it found a sound institution
+abbrev pub FindsSound : Audit → Type 0
+FindsSound NoTables = ⊥
+FindsSound OtherTables = ⊥
+FindsSound (Sound version sums) = Unit {0}
+FindsSound (Unsound version tables findings) = ⊥
+FindsSound (Unreadable version unread) = ⊥
+FindsSound (audit.BrokenJournal broken) = ⊥
+
+-- the trees keep a journal that the program can have written
+abbrev pub KeepsSomeJournal : Trees → Type 0
+KeepsSomeJournal trees = (journal : Option (List JournalLine)) × KeepsJournalAt Third trees journal
+
+-- the audit of the other tables is that of all, but where it finds a sound institution and no journal is kept it tells
+-- what is wrong with that
+abbrev pub IsWithJournal : Trees → Audit → Audit → Type 0
+IsWithJournal trees others whole = ((whole ≡ others) × (FindsSound others → KeepsSomeJournal trees))
+    ⊎ ((broken : BrokenJournal) × (whole ≡ audit.BrokenJournal broken) × (¬ KeepsSomeJournal trees)
+    × IsBroken trees broken)
 
 -- the same of the database that a file held
 pub record IsAuditOfFile (image : Image) (audit : Audit) : Type 0 where

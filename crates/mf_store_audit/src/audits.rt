@@ -12,6 +12,7 @@ ghost use Rattle.mf_store_audit.specs.Audits.{IsAuditOfRows, IsAuditOf};
 
 use crate::find::findings;
 use crate::finding::Finding;
+use crate::journal::{BrokenJournal, audit_journal};
 use crate::searched::unread_at;
 use crate::sums_by_office::office_sums;
 use crate::totals::OfficeSums;
@@ -45,6 +46,8 @@ pub enum Audit {
         version: Version,
         unread: Option<Unread>,
     },
+    /// Their other rows are those of a sound institution, and the journal's are not.
+    BrokenJournal(BrokenJournal),
 }
 
 /// Whether there are no findings.
@@ -93,7 +96,11 @@ fn audit_known<S: Alter, P: Progress>(
         let unread = unread_at(alloc, connection, version)?;
         return Ok(Audit::Unreadable { version, unread });
     };
-    audit_rows(alloc, version, tables, all)
+    let audit = audit_rows(alloc, version, tables, all)?;
+    match version {
+        Version::First | Version::Second => Ok(audit),
+        Version::Third => audit_journal(connection, audit),
+    }
 }
 
 /// Audits the tables of a connection, whatever tables and rows stand there: tells each row that breaks a condition, or

@@ -10,6 +10,7 @@ mod entries;
 mod files;
 mod find;
 mod finding;
+mod journal;
 mod keys;
 mod loans;
 mod meta;
@@ -34,6 +35,7 @@ pub use finding::{
     ChargeFlaw, ClientFlaw, EntryFlaw, Finding, LoanFlaw, MetaFlaw, OfficeFlaw, ProductFlaw,
     ReceiptFlaw, RowKey, StaffFlaw,
 };
+pub use journal::BrokenJournal;
 pub use sums_by_office::office_sums;
 pub use totals::{EntryCounts, LoanCounts, MoneySums, OfficeSums, PrincipalSums, Sums, total};
 pub use unread::{TableName, Unread, UnreadValue};

@@ -78,7 +78,9 @@ pub(crate) fn unread_at<S: Alter>(
 {
     match version {
         Version::First => Common::unread(alloc, connection),
-        Version::Second => <(Common, Accounts) as Searched>::unread(alloc, connection),
+        Version::Second | Version::Third => {
+            <(Common, Accounts) as Searched>::unread(alloc, connection)
+        }
     }
 }
 

@@ -18,7 +18,7 @@ use Rattle.mf_store_schema.specs.Writes.{schema_of, Holds}
 use Rattle.mf_store_schema.specs.Whole.{HaveRowids}
 use Rattle.mf_store_sound.specs.Files.{HasNoTables, ShowsFile}
 use Rattle.mf_store_sound.proofs.BlankLemmas.{empty_if_nothing}
-use Rattle.mf_store_sound.proofs.SchemaLemmas.{nothing_listed, one_schema}
+use Rattle.mf_store_sound.proofs.SchemaLemmas.{no_views, nothing_listed, one_schema}
 
 module _ (image : Image) (s : State) (opens : Opens s) (live : IsLive s) (found : FindsIn image s) where
   now_are : (trees : Trees) → HoldsDatabase image trees → s.now.trees ≡ trees
@@ -65,7 +65,7 @@ module _ (image : Image) (s : State) (shows : ShowsFile image s) where
 
   own_views : (s.now.schema ≡ no_schema) ⊎ IsKnown s.now.schema → s.now.schema.views ≡ []
   own_views (inl none) = ap (λ (k : Schema). k.views) none
-  own_views (inr known) = ap (λ (k : Schema). k.views) known.1
+  own_views (inr known) = ap (λ (k : Schema). k.views) known.1 ∙ no_views known.0
 
   -- where the connection has the tables of the program, or none, so has the file
   pub is_one : (s.now.schema ≡ no_schema) ⊎ IsKnown s.now.schema → (trees : Trees) (k : Schema)

@@ -1,5 +1,5 @@
 -- All tables as nested pairs, in the order of the schema, and as a record of lists.
-use Rattle.std.proofs.Common.{◌≡◌, ℕ, zero, suc, false, List, [], ◌∷◌, take, drop, sym, subst}
+use Rattle.std.proofs.Common.{◌≡◌, ℕ, zero, suc, true, false, List, [], ◌∷◌, take, drop, refl, sym, subst}
 use Rattle.std.specs.List.{AllByRecursion}
 use Rattle.sqlite.specs.Effect.{Database}
 use Rattle.sqlite.specs.Schema.{Schema}
@@ -11,7 +11,7 @@ use Rattle.mf_store_schema.specs.Versions.{IsOfVersion, schema_at}
 use Rattle.mf_store_schema.specs.Whole.{HasRowids, HaveRowids}
 use Rattle.mf_store_schema.specs.Writes.{conditions, HoldsAt}
 use Rattle.mf_store_schema.specs.declared.versions.Version.{Version}
-use Rattle.mf_store_schema.specs.declared.versions.Version.TheVariants.{First, Second}
+use Rattle.mf_store_schema.specs.declared.versions.Version.TheVariants.{First, Second, Third}
 use Rattle.sqlite.specs.State.{State}
 use Rattle.sqlite.specs.Tree.{Trees}
 use Rattle.mf_store_sql.specs.Trees.{Condition, AllHold}
@@ -31,6 +31,7 @@ use Rattle.mf_store_schema.specs.declared.receipts.ReceiptRow.{ReceiptRow}
 use Rattle.mf_store_schema.specs.declared.shares.ShareRow.{ShareRow}
 use Rattle.mf_store_schema.specs.declared.staff.StaffRow.{StaffRow}
 use Rattle.mf_store_sound.specs.Held.{AllTrue, Saying, said_of_each}
+use Rattle.mf_store_sound.specs.Schemas.{HasAccounts, lists_at, without_accounts, without_journal}
 
 infixr 4 ◌also◌
 -- one, and then the others
@@ -135,10 +136,12 @@ pub common_held : (v : Version) (trees : Trees) (lists : Lists) → HoldsAt v tr
     → AllHold trees (take 9 (conditions lists))
 common_held First trees lists h = h.all
 common_held Second trees lists h = first_held trees 9 (conditions lists) h.all
+common_held Third trees lists h = first_held trees 9 (conditions lists) h.all
 
 pub common_rowids : (v : Version) (trees : Trees) → HaveRowids v trees → HaveRowids First trees
 common_rowids First trees all = all
 common_rowids Second trees all = first_all (λ (t : Table). HasRowids (trees t.tree)) 9 (schema_at Second).tables all
+common_rowids Third trees all = first_all (λ (t : Table). HasRowids (trees t.tree)) 9 (schema_at Third).tables all
 
 -- what nothing changes where all versions' tables are read
 pub unchanged_common : (v : Version) (a b : State) → IsUnchangedUnder (λ k. Nine (IsKnown k) (Unit {0})) a b
@@ -146,16 +149,41 @@ pub unchanged_common : (v : Version) (a b : State) → IsUnchangedUnder (λ k. N
 unchanged_common v a b = unchanged_fewer (λ k. Nine (IsKnown k) (Unit {0})) (IsOfVersion v) a b
     (λ k its. under_common k (v, its))
 
-pub common_hold : (v : Version) → v ≡ First → (db : Database) (lists : Lists) → IsOfVersion v db.schema
+pub common_hold : (v : Version) → ¬ HasAccounts v → (db : Database) (lists : Lists) → IsOfVersion v db.schema
     → IsSound db.schema db.trees → AllHold db.trees (take 9 (conditions lists)) → HoldsAt v db.trees lists
-common_hold v is db lists ours sound all = subst (λ w. HoldsAt w db.trees lists) (sym is) (record {
-  sound = subst (λ k. IsSound k db.trees) (subst (λ w. IsOfVersion w db.schema) is ours) sound;
-  all = all;
-})
+common_hold First none db lists ours sound all =
+    record { sound = subst (λ k. IsSound k db.trees) ours sound; all = all }
+common_hold Second none db lists ours sound all = absurd (none tt)
+common_hold Third none db lists ours sound all = absurd (none tt)
 
-module _ (v : Version) (is : v ≡ Second) where
+present_at : (v : Version) → HasAccounts v → (k : Schema) → IsOfVersion v k → IsPresent k
+present_at First has k ours = absurd has
+present_at Second has k ours = (false, ours)
+present_at Third has k ours = (true, ours)
+
+accounts_hold : (v : Version) → HasAccounts v → (trees : Trees) (lists : Lists) → HoldsAt v trees lists
+    → AllHold trees (drop 9 (conditions lists))
+accounts_hold First has trees lists h = absurd has
+accounts_hold Second has trees lists h = h.all.1.1.1.1.1.1.1.1.1
+accounts_hold Third has trees lists h = h.all.1.1.1.1.1.1.1.1.1
+
+rowids_of_accounts : (v : Version) → HasAccounts v → (trees : Trees) → HaveRowids v trees
+    → HasRowids (trees 19) × (HasRowids (trees 21) × Unit {0})
+rowids_of_accounts First has trees rowids = absurd has
+rowids_of_accounts Second has trees rowids = rowids.1.1.1.1.1.1.1.1.1
+rowids_of_accounts Third has trees rowids = let last = rowids.1.1.1.1.1.1.1.1.1 in last.0 also last.1.0 also tt
+
+all_hold : (v : Version) → HasAccounts v → (db : Database) (lists : Lists) → IsOfVersion v db.schema
+    → IsSound db.schema db.trees → AllHold db.trees (conditions lists) → HoldsAt v db.trees lists
+all_hold First has db lists ours sound all = absurd has
+all_hold Second has db lists ours sound all =
+    record { sound = subst (λ k. IsSound k db.trees) ours sound; all = all }
+all_hold Third has db lists ours sound all =
+    record { sound = subst (λ k. IsSound k db.trees) ours sound; all = all }
+
+module _ (v : Version) (has : HasAccounts v) where
   has_accounts : (k : Schema) → IsOfVersion v k → IsPresent k × (IsPresent k × Unit {0})
-  has_accounts k ours = let its : IsPresent k = (false, subst (λ w. IsOfVersion w k) is ours) in
+  has_accounts k ours = let its : IsPresent k = present_at v has k ours in
       its also its also tt
 
   -- and then those of accounts
@@ -174,16 +202,25 @@ module _ (v : Version) (is : v ≡ Second) where
 
     pub accounts_held : (lists : Lists) → HoldsAt v was.trees lists → AllHold now.trees (drop 9 (conditions lists))
     accounts_held lists h = subst (λ (d : Database). AllHold d.trees (drop 9 (conditions lists))) (sym same)
-        (subst (λ w. HoldsAt w was.trees lists) is h).all.1.1.1.1.1.1.1.1.1
+        (accounts_hold v has was.trees lists h)
 
     pub accounts_rowids : HaveRowids v was.trees → HasRowids (now.trees 19) × (HasRowids (now.trees 21) × Unit {0})
     accounts_rowids rowids = subst (λ (d : Database). HasRowids (d.trees 19) × (HasRowids (d.trees 21) × Unit {0}))
-        (sym same) (subst (λ w. HaveRowids w was.trees) is rowids).1.1.1.1.1.1.1.1.1
+        (sym same) (rowids_of_accounts v has was.trees rowids)
 
     pub both_hold : (lists : Lists) → IsSound was.schema was.trees → AllHold was.trees (take 9 (conditions lists))
         → AllHold now.trees (drop 9 (conditions lists)) → HoldsAt v was.trees lists
-    both_hold lists sound common accounts = subst (λ w. HoldsAt w was.trees lists) (sym is) (record {
-      sound = subst (λ k. IsSound k was.trees) (subst (λ w. IsOfVersion w was.schema) is ours) sound;
-      all = all_and was.trees (take 9 (conditions lists)) (drop 9 (conditions lists)) common
-          (subst (λ (d : Database). AllHold d.trees (drop 9 (conditions lists))) same accounts);
-    })
+    both_hold lists sound common accounts = all_hold v has was lists ours sound
+        (all_and was.trees (take 9 (conditions lists)) (drop 9 (conditions lists)) common
+        (subst (λ (d : Database). AllHold d.trees (drop 9 (conditions lists))) same accounts))
+
+-- these lists are all that the version has tables for, and no others where it has none of accounts
+pub lists_whole : (v : Version) → HasAccounts v → (lists : Lists) → lists_at v lists ≡ without_journal lists
+lists_whole First has lists = absurd has
+lists_whole Second has lists = refl
+lists_whole Third has lists = refl
+
+pub lists_bare : (v : Version) → ¬ HasAccounts v → (lists : Lists) → lists_at v lists ≡ without_accounts lists
+lists_bare First none lists = refl
+lists_bare Second none lists = absurd (none tt)
+lists_bare Third none lists = absurd (none tt)

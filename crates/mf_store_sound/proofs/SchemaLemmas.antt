@@ -24,7 +24,7 @@ use Rattle.mf_store_sql.specs.Tables.{no_schema}
 use Rattle.mf_store_schema.specs.Schemas.{IsKnown}
 use Rattle.mf_store_schema.specs.Versions.{schema_at}
 use Rattle.mf_store_schema.specs.declared.versions.Version.{Version}
-use Rattle.mf_store_schema.specs.declared.versions.Version.TheVariants.{First, Second}
+use Rattle.mf_store_schema.specs.declared.versions.Version.TheVariants.{First, Second, Third}
 
 same_zipped : {A B : Type 0} (R : A → B → Type 0) → ((x : A) (y z : B) → R x y → R x z → y ≡ z)
     → (xs : List A) (ys zs : List B) → AllZip R xs ys → AllZip R xs zs → ys ≡ zs
@@ -121,15 +121,33 @@ nothing_listed trees s none sound =
 
 -- ---- the schemas differ
 
+pub no_views : (v : Version) → (schema_at v).views ≡ []
+no_views First = refl
+no_views Second = refl
+no_views Third = refl
+
 pub none_at : (v : Version) → no_schema ≡ schema_at v → ⊥
 none_at First is = let e : 0 ≡ 9 = ap (λ (k : Schema). length k.tables) is in omega (arith, e)
 none_at Second is = let e : 0 ≡ 11 = ap (λ (k : Schema). length k.tables) is in omega (arith, e)
+none_at Third is = let e : 0 ≡ 12 = ap (λ (k : Schema). length k.tables) is in omega (arith, e)
+
+-- how many tables a version has, with the journal's
+abbrev tables_in : Version → ℕ
+tables_in v = length (schema_at v).tables
+
+apart : {P : Type 0} (v w : Version) → (tables_in v ≡ tables_in w → ⊥) → schema_at v ≡ schema_at w → P
+apart v w differ is = absurd (differ (ap (λ (k : Schema). length k.tables) is))
 
 pub one_version : (v w : Version) → schema_at v ≡ schema_at w → v ≡ w
 one_version First First is = refl
-one_version First Second is = let e : 9 ≡ 11 = ap (λ (k : Schema). length k.tables) is in absurd (omega (arith, e))
-one_version Second First is = let e : 11 ≡ 9 = ap (λ (k : Schema). length k.tables) is in absurd (omega (arith, e))
+one_version First Second is = apart First Second (λ e. omega (arith, e)) is
+one_version First Third is = apart First Third (λ e. omega (arith, e)) is
+one_version Second First is = apart Second First (λ e. omega (arith, e)) is
 one_version Second Second is = refl
+one_version Second Third is = apart Second Third (λ e. omega (arith, e)) is
+one_version Third First is = apart Third First (λ e. omega (arith, e)) is
+one_version Third Second is = apart Third Second (λ e. omega (arith, e)) is
+one_version Third Third is = refl
 
 pub known_some : (k : Schema) → IsKnown k → k ≢ no_schema
 known_some k known is = none_at known.0 (sym is ∙ known.1)

@@ -17,7 +17,7 @@ use Rattle.mf_store_sound.specs.Told.{IsToldOf, IsToldOfFile}
 use Rattle.mf_store_sound.specs.declared.judging.Contents.{Contents}
 use Rattle.mf_store_sound.specs.declared.judging.Contents.TheVariants.{Nothing, Known, Others}
 use Rattle.mf_store_sound.proofs.FileLemmas.{under, seen}
-use Rattle.mf_store_sound.proofs.SchemaLemmas.{none_at}
+use Rattle.mf_store_sound.proofs.SchemaLemmas.{no_views, none_at}
 
 -- ---- what is told of the connection is told of the file
 
@@ -39,13 +39,13 @@ module _ (image : Image) (s : State) (shows : ShowsFile image s) where
         contents
     told_tables Nothing told = is_seen no_schema refl told
     told_tables (Known v held) told = (
-      is_seen (schema_at v) refl told.0,
+      is_seen (schema_at v) (no_views v) told.0,
       subst (λ (t : Trees). IsTrue held ↔ HoldsSoundAt v t) (shows.holds trees holds) told.1,
     )
     told_tables Others told = (λ none. told.0 (was_seen no_schema refl none), λ known. told.1 (as_known known))
       where
         as_known : IsKnown k → IsKnown s.now.schema
-        as_known known = (known.0, was_seen (schema_at known.0) refl known.1)
+        as_known known = (known.0, was_seen (schema_at known.0) (no_views known.0) known.1)
 
   pub told_of_file : (contents : Contents) → IsToldOf s.now contents → IsToldOfFile image contents
   told_of_file contents told = record {

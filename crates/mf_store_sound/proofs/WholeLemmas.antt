@@ -12,10 +12,10 @@ use Rattle.mf_store_schema.specs.declared.shares.ShareRow.{ShareRow}
 use Rattle.mf_store_values.specs.Accounts.{account_instalments, account_shares, PlacedLoan, all_placed, AreLoansOf}
 use Rattle.mf_store_values.specs.Accounts.{AreAccounts}
 use Rattle.mf_store_values.specs.Flat.{charge_as, product_as, numbered_from, instalment_in, share_in, tables_of}
-use Rattle.mf_store_sound.specs.Schemas.{tables_at, tables_under, without_accounts}
+use Rattle.mf_store_sound.specs.Schemas.{HasAccounts, tables_at, tables_under, without_accounts}
 use Rattle.mf_store_schema.specs.Versions.{number_of}
 use Rattle.mf_store_schema.specs.declared.versions.Version.{Version}
-use Rattle.mf_store_schema.specs.declared.versions.Version.TheVariants.{First, Second}
+use Rattle.mf_store_schema.specs.declared.versions.Version.TheVariants.{First, Second, Third}
 use Rattle.mf_store_sound.specs.Sound.{AreOfSoundAt, AreUnder}
 use Rattle.mf_store_sound.proofs.AllLoanLemmas.{all_rows_of}
 use Rattle.mf_store_sound.proofs.TableLemmas.{of_parts}
@@ -70,14 +70,15 @@ pub bare_of : (v : Version) (t : Lists) (i : Institution) → tables_at v i ≡ 
     → tables_under (number_of v) i ≡ without_accounts t
 bare_of First t i is = ap without_accounts is
 bare_of Second t i is = ap without_accounts is
+bare_of Third t i is = ap without_accounts is
 
 pub under_of : (v : Version) (t : Lists) → AreOfSoundAt v t → AreUnder (number_of v) t
 under_of v t h =
     record { institution = h.institution; sound = h.sound; rows_are = bare_of v t h.institution h.rows_are }
 
-pub bare_is : (t : Lists) (B : Type 0) → t.journal ≡ [] → AreUnder 1 t → B ↔ ((t.instalments ≡ []) × (t.shares ≡ []))
-    → B ↔ AreOfSoundAt First t
-bare_is t B none u empty = (
+pub bare_is : (v : Version) → ¬ HasAccounts v → (t : Lists) (B : Type 0) → t.journal ≡ [] → AreUnder (number_of v) t
+    → B ↔ ((t.instalments ≡ []) × (t.shares ≡ [])) → B ↔ AreOfSoundAt v t
+bare_is First lacks t B none u empty = (
   λ yes.
       let both = empty.0 yes in
       record {
@@ -91,29 +92,45 @@ bare_is t B none u empty = (
       },
   λ h. empty.1 (ap (λ (l : Lists). l.instalments) (sym h.rows_are), ap (λ (l : Lists). l.shares) (sym h.rows_are)),
 )
+bare_is Second lacks t B none u empty = absurd (lacks tt)
+bare_is Third lacks t B none u empty = absurd (lacks tt)
 
-pub whole_is : (t : Lists) (B : Type 0) → t.journal ≡ [] → AreUnder 2 t → Told (λ instalments shares k ps. B
-    ↔ AreAccounts k ps instalments shares) t → B ↔ AreOfSoundAt Second t
+-- the rows under the version's number, and those of accounts
+abbrev with_accounts : Version → Institution → Lists
+with_accounts v i = record (tables_under (number_of v) i) {
+  instalments = (tables_of i).instalments;
+  shares = (tables_of i).shares;
+}
+
+tables_are : (v : Version) → HasAccounts v → (i : Institution) → tables_at v i ≡ with_accounts v i
+tables_are First has i = absurd has
+tables_are Second has i = refl
+tables_are Third has i = refl
+
+pub whole_is : (v : Version) → HasAccounts v → (t : Lists) (B : Type 0) → t.journal ≡ [] → AreUnder (number_of v) t
+    → Told (λ instalments shares k ps. B ↔ AreAccounts k ps instalments shares) t → B ↔ AreOfSoundAt v t
 unfolding under_of
-whole_is t B none u told =
-    let at : (v : AreUnder 2 t) → B ↔ AreAccounts v.institution.catalogue (all_placed v.institution.offices)
-    t.instalments t.shares = λ v. told_at (λ instalments shares k ps. B ↔ AreAccounts k ps instalments shares) 2 t v
-    told in (
+whole_is v has t B none u told =
+    let at : (w : AreUnder (number_of v) t) → B ↔ AreAccounts w.institution.catalogue
+    (all_placed w.institution.offices) t.instalments t.shares = λ w. told_at (λ instalments shares k ps. B
+    ↔ AreAccounts k ps instalments shares) (number_of v) t w told in (
       λ yes.
           let kept = (accounts_are u.institution t.instalments t.shares).0 ((at u).0 yes) in
           record {
             institution = u.institution;
             sound = u.sound;
-            rows_are = λ z. record (u.rows_are z) {
+            rows_are = tables_are v has u.institution ∙ (λ z. record (u.rows_are z) {
               instalments = sym kept.0 z;
               shares = sym kept.1 z;
               journal = sym none z;
-            };
+            });
           },
-      λ h. (at (under_of Second t h)).1 ((accounts_are h.institution t.instalments t.shares).1 (
-        ap (λ (l : Lists). l.instalments) (sym h.rows_are),
-        ap (λ (l : Lists). l.shares) (sym h.rows_are),
-      )),
+      λ h.
+          let rows = sym h.rows_are ∙ tables_are v has h.institution in
+          (at (under_of v t h)).1 ((accounts_are h.institution t.instalments t.shares).1 (
+            ap (λ (l : Lists). l.instalments) rows,
+            ap (λ (l : Lists). l.shares) rows,
+          )),
     )
 
 -- ---- rows of accounts that replaying gives

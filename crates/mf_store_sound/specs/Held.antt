@@ -1,13 +1,17 @@
 -- What tables hold whatever rows stand there: rows of records, and those of a sound institution.
-use Rattle.std.specs.Prelude.{◌≡◌, List, [], ◌∷◌, None, map}
+use Rattle.std.specs.Prelude.{◌≡◌, List, [], ◌∷◌, Option, None, Some, map}
 use Rattle.std.specs.List.{AllByRecursion}
 use Rattle.std.specs.declared.cmp.Ordering.{Ordering}
 use Rattle.std.specs.declared.cmp.Ordering.TheVariants.{Less}
 use Rattle.sqlite.specs.Order.{Row}
 use Rattle.sqlite.specs.Tree.{Trees}
 use Rattle.sqlite_trees.specs.Tree.{IsAscending}
-use Rattle.mf_model.specs.Institution.{Institution}
+use Rattle.mf_model.specs.Institution.{Institution, JournalLine}
 use Rattle.mf_model.specs.Sound.{IsSound}
+use Rattle.mf_journal.specs.declared.following.Head.{Head}
+use Rattle.mf_store_journal.specs.Rows.{head_with_all}
+use Rattle.mf_store_journal.specs.Written.{KeepsJournalFrom}
+use Rattle.mf_store_journal.specs.declared.journal.Journal.{Journal}
 use Rattle.mf_store_schema.specs.Tables as table
 use Rattle.mf_store_sql.specs.Columns.{Named}
 use Rattle.mf_store_schema.specs.Fields.{HasFields}
@@ -18,7 +22,7 @@ use Rattle.mf_store_schema.specs.Rows.{by_instalment, by_share}
 use Rattle.mf_store_schema.specs.Writes.{HoldsAt}
 use Rattle.mf_store_sound.specs.Schemas.{tables_at}
 use Rattle.mf_store_schema.specs.declared.versions.Version.{Version}
-use Rattle.mf_store_schema.specs.declared.versions.Version.TheVariants.{Second}
+use Rattle.mf_store_schema.specs.declared.versions.Version.TheVariants.{First, Second, Third}
 
 -- each comes before the next
 abbrev pub Rises : {A : Type 0} → (A → A → Ordering) → List A → Type 0
@@ -59,13 +63,26 @@ pub record DoRise (lists : Lists) : Type 0 where
 pub record CanBeHeld (lists : Lists) : Type 0 where
   pub all : AllTrue (said_of_each (λ A columns row cmp items. CanHoldRows columns row items) lists)
 
--- the trees hold the rows of a sound institution that keeps no journal, by the tables of a version, and nothing else
+-- the trees keep this journal where the version has a table of one; else there is none
+abbrev pub KeepsJournalAt : Version → Trees → Option (List JournalLine) → Type 0
+KeepsJournalAt First trees journal = journal ≡ None
+KeepsJournalAt Second trees journal = journal ≡ None
+KeepsJournalAt Third trees journal =
+    (begins : Head) × (lines : List JournalLine) × (journal ≡ Some lines) × KeepsJournalFrom begins trees lines
+
+-- the journal that was found is this one, as the trees keep it
+abbrev pub IsFoundIn : Trees → Option Journal → Option (List JournalLine) → Type 0
+IsFoundIn trees None journal = journal ≡ None
+IsFoundIn trees (Some found) journal = (lines : List JournalLine) × (journal ≡ Some lines)
+    × KeepsJournalFrom found.begins trees lines × (found.head ≡ head_with_all found.begins lines)
+
+-- the trees hold the rows of a sound institution, and its journal's, by the tables of a version, and nothing else
 pub record HoldsSoundAt (v : Version) (trees : Trees) : Type 0 where
   pub institution : Institution
-  pub plain : institution.journal ≡ None
   pub sound : IsSound institution
   pub holds : HoldsAt v trees (tables_at v institution)
+  pub keeps : KeepsJournalAt v trees institution.journal
 
--- the same by today's tables
+-- the same by tables without a journal
 abbrev pub HoldsSound : Trees → Type 0
 HoldsSound trees = HoldsSoundAt Second trees

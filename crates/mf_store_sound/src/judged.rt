@@ -1,6 +1,6 @@
 //! Whether the tables of a connection, whatever rows stand there, are those of a sound institution.
 
-ghost use Rattle.std.specs.Prelude.{◌≡◌, [], IsTrue, OnOk, IfOk, IfErr, IfSome, IfNone, false};
+ghost use Rattle.std.specs.Prelude.{◌≡◌, [], List, Option, IsTrue, OnOk, IfOk, IfErr, IfSome, IfNone, false};
 ghost use Rattle.mf_base.specs.declared.fault.Fault.TheVariants.{F20};
 ghost use Rattle.sqlite.specs.Held.{state};
 ghost use Rattle.sqlite.specs.State.{HasCleanDisk};
@@ -10,11 +10,14 @@ ghost use Rattle.mf_store_schema.specs.Writes.{HoldsAt};
 ghost use Rattle.mf_store_schema.specs.Schemas.{IsUnchangedUnder};
 ghost use Rattle.mf_store_schema.specs.Whole.{HaveRowids};
 ghost use Rattle.mf_store_sound.specs.Schemas.{lists_at, tables_at};
-ghost use Rattle.mf_store_sound.specs.Held.{CanBeHeld, DoRise, HoldsSoundAt};
+ghost use Rattle.mf_model.specs.Institution.{JournalLine};
+ghost use Rattle.mf_store_schema.specs.declared.versions.Version.TheVariants.{Third};
+ghost use Rattle.mf_store_sound.specs.Held.{CanBeHeld, DoRise, HoldsSoundAt, IsFoundIn, KeepsJournalAt};
 
 use crate::sound::is_sound;
-use crate::tables::Tables;
+use crate::tables::{Tables, has_accounts};
 use mf_base::Fault;
+use mf_store_journal::{Journal, read_journal};
 use mf_store_schema::{
     ChargeRow, ClientRow, EntryRow, Group, InstalmentRow, Last, LoanRow, MetaRow, OfficeRow,
     ProductRow, Progress, ReceiptRow, ShareRow, StaffRow, Version,
@@ -113,20 +116,67 @@ pub fn read_tables<S: Alter, P: Progress>(
     let Some(common) = found else {
         return Ok(None);
     };
-    match version {
-        Version::First => Ok(Some(all_of(common, Vec::new(alloc), Vec::new(alloc)))),
-        Version::Second => {
-            let more = Accounts::read_group(alloc, connection, progress)?;
-            let Some((instalments, shares)) = more else {
-                return Ok(None);
-            };
-            Ok(Some(all_of(common, instalments, shares.rows)))
-        }
+    if !has_accounts(version) {
+        return Ok(Some(all_of(common, Vec::new(alloc), Vec::new(alloc))));
+    }
+    let more = Accounts::read_group(alloc, connection, progress)?;
+    let Some((instalments, shares)) = more else {
+        return Ok(None);
+    };
+    Ok(Some(all_of(common, instalments, shares.rows)))
+}
+
+/// What sound tables hold: their rows, and where the journal begins and stands, where the version has one.
+#[derive(Drop)]
+pub struct SoundTables {
+    pub tables: Tables,
+    pub journal: Option<Journal>,
+}
+
+/// The rows with the journal beside them, in tables of the third version, and none where no journal is kept there that
+/// the program can have written.
+///
+/// The clauses on the journal speak of a connection whose tables are those of the version, whatever rows stand there.
+fn with_journal<S: Alter>(
+    connection: &mut Connection<S>,
+    tables: Tables,
+) -> Result<Option<SoundTables>, Fault>
+    requires alone { connection.old.in_transaction ≡ false }
+    ensures kept { IsUnchangedUnder (IsOfVersion Third) (state S.Store connection.old)
+        (state S.Store connection.new) }
+    ensures gives_up { IfErr result (λ fault. fault ≡ F20) }
+    ensures open { HasCleanDisk (state S.Store connection.new)
+        → OnOk result (IsTrue (state S.Store connection.new).is_open) }
+    ensures rows { IfOk result (λ x. IfSome x (λ found. found.tables ≡ tables)) }
+    ensures some { HasCleanDisk (state S.Store connection.new)
+        → IsOfVersion Third (state S.Store connection.old).now.schema
+        → HaveRowids Third (state S.Store connection.old).now.trees
+        → IfOk result (λ x. IfSome x (λ found. (journal : Option (List JournalLine))
+        × KeepsJournalAt Third (state S.Store connection.old).now.trees journal)) }
+    ensures only { HasCleanDisk (state S.Store connection.new)
+        → IsOfVersion Third (state S.Store connection.old).now.schema
+        → IfOk result (λ x. IfSome x (λ found. (journal : Option (List JournalLine))
+        → KeepsJournalAt Third (state S.Store connection.old).now.trees journal
+        → IsFoundIn (state S.Store connection.old).now.trees found.journal journal)) }
+    ensures none { HasCleanDisk (state S.Store connection.new)
+        → IsOfVersion Third (state S.Store connection.old).now.schema
+        → IfOk result (λ x. IfNone x ((journal : Option (List JournalLine))
+        → ¬ KeepsJournalAt Third (state S.Store connection.old).now.trees journal)) }
+    ensures mode { connection.new.in_transaction ≡ false }
+{
+    match read_journal(connection) {
+        Ok(Some(journal)) => Ok(Some(SoundTables {
+            tables,
+            journal: Some(journal),
+        })),
+        Ok(None) => Ok(None),
+        Err(fault) => Err(fault),
     }
 }
 
-/// The rows of the tables of a version where they are those of a sound institution, and none where no sound one has
-/// them. It changes nothing. The error is F20.
+/// The rows of the tables of a version where they are those of a sound institution, with the journal where the version
+/// has one, and none where no sound one has them or no journal is kept that the program can have written. It changes
+/// nothing. The error is F20.
 ///
 /// The answer speaks of a connection whose tables are those of the version, whatever rows stand there.
 pub fn read_sound<S: Alter, P: Progress>(
@@ -134,7 +184,7 @@ pub fn read_sound<S: Alter, P: Progress>(
     connection: &mut Connection<S>,
     version: Version,
     progress: &mut P,
-) -> Result<Option<Tables>, Fault>
+) -> Result<Option<SoundTables>, Fault>
     requires alone { connection.old.in_transaction ≡ false }
     ensures kept { IsUnchangedUnder (IsOfVersion version) (state S.Store connection.old)
         (state S.Store connection.new) }
@@ -144,12 +194,17 @@ pub fn read_sound<S: Alter, P: Progress>(
     ensures sound { HasCleanDisk (state S.Store connection.new)
         → IsOfVersion version (state S.Store connection.old).now.schema
         → HaveRowids version (state S.Store connection.old).now.trees
-        → IfOk result (λ x. IfSome x (λ tables. HoldsSoundAt version (state S.Store connection.old).now.trees)) }
+        → IfOk result (λ x. IfSome x (λ found. HoldsSoundAt version (state S.Store connection.old).now.trees)) }
     ensures rows { HasCleanDisk (state S.Store connection.new)
         → IsOfVersion version (state S.Store connection.old).now.schema
         → IfOk result (λ x. IfSome x
-        (λ tables. (held : HoldsSoundAt version (state S.Store connection.old).now.trees)
-        → tables_at version held.institution ≡ tables)) }
+        (λ found. (held : HoldsSoundAt version (state S.Store connection.old).now.trees)
+        → tables_at version held.institution ≡ found.tables)) }
+    ensures journal { HasCleanDisk (state S.Store connection.new)
+        → IsOfVersion version (state S.Store connection.old).now.schema
+        → IfOk result (λ x. IfSome x
+        (λ found. (held : HoldsSoundAt version (state S.Store connection.old).now.trees)
+        → IsFoundIn (state S.Store connection.old).now.trees found.journal held.institution.journal)) }
     ensures none { HasCleanDisk (state S.Store connection.new)
         → IsOfVersion version (state S.Store connection.old).now.schema
         → IfOk result (λ x. IfNone x (¬ HoldsSoundAt version (state S.Store connection.old).now.trees)) }
@@ -162,5 +217,11 @@ pub fn read_sound<S: Alter, P: Progress>(
     if !sound {
         return Ok(None);
     }
-    Ok(Some(tables))
+    match version {
+        Version::First | Version::Second => Ok(Some(SoundTables {
+            tables,
+            journal: None,
+        })),
+        Version::Third => with_journal(connection, tables),
+    }
 }

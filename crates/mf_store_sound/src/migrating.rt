@@ -1,4 +1,4 @@
-//! Rows of a sound institution brought from a version's tables to today's, one version after the other.
+//! Rows of a sound institution brought from the first version's tables to the second's.
 
 ghost use Rattle.std.specs.Prelude.{◌≡◌, IfOk, IfErr};
 ghost use Rattle.mf_base.specs.declared.fault.Fault.TheVariants.{F20};
@@ -15,7 +15,7 @@ use std::alloc::Global;
 
 /// The step from the first version to the second: the rows of accounts are added, as replaying the entries gives them,
 /// and the number is the second's. The error is F20.
-fn with_accounts(alloc: Global, tables: Tables) -> Result<Tables, Fault>
+pub fn with_accounts(alloc: Global, tables: Tables) -> Result<Tables, Fault>
     ensures next { IfOk result (λ next. (i : Institution) → IsSound i → tables_at First i ≡ tables
         → next ≡ tables_at Second i) }
     ensures gives_up { IfErr result (λ fault. fault ≡ F20) }
@@ -43,16 +43,4 @@ fn with_accounts(alloc: Global, tables: Tables) -> Result<Tables, Fault>
         instalments,
         shares,
     })
-}
-
-/// The rows that a sound institution has in today's tables, by those that it has in a version's. The error is F20.
-pub fn migrate(alloc: Global, version: Version, tables: Tables) -> Result<Tables, Fault>
-    ensures today { IfOk result (λ today. (i : Institution) → IsSound i → tables_at version i ≡ tables
-        → today ≡ tables_at Second i) }
-    ensures gives_up { IfErr result (λ fault. fault ≡ F20) }
-{
-    match version {
-        Version::First => with_accounts(alloc, tables),
-        Version::Second => Ok(tables),
-    }
 }

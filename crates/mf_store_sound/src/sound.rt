@@ -14,7 +14,7 @@ use crate::numbered::are_numbered;
 use crate::office_parts::{Belongings, are_office_parts};
 use crate::offices::are_offices;
 use crate::receipts::are_receipts;
-use crate::tables::Tables;
+use crate::tables::{Tables, has_accounts};
 use mf_base::Fault;
 use mf_model::MOST_IN_CATALOGUE;
 use mf_store_schema::{InstalmentRow, ShareRow, Version};
@@ -72,18 +72,18 @@ pub fn is_sound(alloc: Global, version: Version, tables: &Tables) -> Result<bool
     if !are_under(alloc, version.number(), tables)? {
         return Ok(false);
     }
-    match version {
-        Version::First => Ok(tables.has_no_accounts()),
-        Version::Second => are_accounts(
-            alloc,
-            &tables.charges,
-            &tables.products,
-            &tables.loans,
-            &tables.entries,
-            &tables.instalments,
-            &tables.shares,
-        ),
+    if !has_accounts(version) {
+        return Ok(tables.has_no_accounts());
     }
+    are_accounts(
+        alloc,
+        &tables.charges,
+        &tables.products,
+        &tables.loans,
+        &tables.entries,
+        &tables.instalments,
+        &tables.shares,
+    )
 }
 
 /// The rows of instalments and of shares that the accounts of an institution have, by its other rows under any

@@ -1,8 +1,11 @@
 //! The rows of all tables, as they were read.
 
+ghost use Rattle.std.specs.Prelude.{◌↔◌, IsTrue};
+ghost use Rattle.mf_store_sound.specs.Schemas.{HasAccounts};
+
 use mf_store_schema::{
     ChargeRow, ClientRow, EntryRow, InstalmentRow, LoanRow, MetaRow, OfficeRow, ProductRow,
-    ReceiptRow, ShareRow, StaffRow,
+    ReceiptRow, ShareRow, StaffRow, Version,
 };
 use std::marker::Model;
 
@@ -60,8 +63,20 @@ impl Tables {
 
     /// Whether there are no rows of accounts.
     pub(crate) fn has_no_accounts(&self) -> bool
-        ensures { IsTrue result ↔ ((self.now.instalments ≡ []) × (self.now.shares ≡ [])) }
+        ensures none { IsTrue result ↔ ((self.now.instalments ≡ []) × (self.now.shares ≡ [])) }
+        ensures journal { self.now.journal ≡ [] }
     {
         self.instalments.is_empty() && self.shares.is_empty()
+    }
+}
+
+/// Whether a version has tables of accounts.
+pub(crate) fn has_accounts(version: Version) -> bool
+    ensures { IsTrue result ↔ HasAccounts version }
+{
+    match version {
+        Version::First => false,
+        Version::Second => true,
+        Version::Third => true,
     }
 }

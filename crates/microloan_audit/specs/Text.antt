@@ -5,8 +5,11 @@ use Rattle.mf_store_schema.specs.Rows.{Lists}
 use Rattle.mf_store_schema.specs.Versions.{number_of}
 use Rattle.mf_store_audit.specs.declared.audits.Audit.{Audit}
 use Rattle.mf_store_audit.specs.declared.audits.Audit.TheVariants.{NoTables, OtherTables, Sound, Unsound, Unreadable}
+use Rattle.mf_store_audit.specs.declared.audits.Audit.TheVariants as audit
 use Rattle.mf_store_audit.specs.declared.finding.Finding.{Finding}
+use Rattle.mf_store_audit.specs.declared.journal.BrokenJournal.{BrokenJournal}
 use Rattle.mf_store_audit.specs.declared.unread.Unread.{Unread}
+use Rattle.microloan_audit.specs.Journal.{journal_line}
 use Rattle.microloan_audit.specs.Lines.{finding_line}
 use Rattle.microloan_audit.specs.SumsText.{sums_text}
 use Rattle.microloan_audit.specs.Unread.{unread_line}
@@ -24,6 +27,10 @@ abbrev pub unread_text : Option Unread → List ℕ
 unread_text None = audit_line (codes "a row that can't be read")
 unread_text (Some u) = audit_line (unread_line u)
 
+-- the line of a journal that the program cannot have written
+abbrev pub journal_text : BrokenJournal → List ℕ
+journal_text broken = audit_line (journal_line broken)
+
 -- what an audit prints: of a sound institution its sums and the word `sound`, else lines that begin with `audit:`
 abbrev pub audit_text : Audit → List ℕ
 audit_text NoTables = audit_line (codes "the database has no tables")
@@ -31,3 +38,4 @@ audit_text OtherTables = audit_line (codes "the database has other tables than t
 audit_text (Sound version sums) = sums_text (number_of version) sums.items
 audit_text (Unsound version tables findings) = findings_text tables findings.items
 audit_text (Unreadable version unread) = unread_text unread
+audit_text (audit.BrokenJournal broken) = journal_text broken

@@ -3,6 +3,7 @@
 
 mod catalogue;
 mod entries;
+mod journal;
 mod line;
 mod loans;
 mod offices;

@@ -4,11 +4,12 @@ ghost use Rattle.std.specs.Prelude.{◌≡◌, ◌++◌, string_bytes, IfOk, OnO
 ghost use Rattle.microloan_audit.specs.Lines.{finding_line};
 ghost use Rattle.microloan_audit.specs.Text as spec;
 
+use crate::journal::journal_line;
 use crate::line::finding_line;
 use crate::sums::sums_text;
 use crate::unread::unread_line;
 use mf_base::Fault;
-use mf_store_audit::{Audit, Finding, Unread};
+use mf_store_audit::{Audit, BrokenJournal, Finding, Unread};
 use mf_store_sound::Tables;
 use std::alloc::Global;
 
@@ -31,6 +32,7 @@ pub fn audit_text(alloc: Global, audit: &Audit) -> Result<String, Fault>
             ..
         } => findings_text(alloc, tables, findings),
         Audit::Unreadable { unread, .. } => unread_text(alloc, unread),
+        Audit::BrokenJournal(broken) => journal_text(alloc, *broken),
     }
 }
 
@@ -52,6 +54,14 @@ fn unread_text(alloc: Global, unread: &Option<Unread>) -> Result<String, Fault>
         None => audit_line(alloc, "a row that can't be read"),
         Some(unread) => audit_line(alloc, unread_line(alloc, unread)?.as_str()),
     }
+}
+
+/// The line of a journal that the program cannot have written.
+fn journal_text(alloc: Global, broken: BrokenJournal) -> Result<String, Fault>
+    ensures text { IfOk result (λ text. string_bytes text ≡ spec.journal_text broken) }
+    ensures only { IsOkUnless result Fault.F20 }
+{
+    audit_line(alloc, journal_line(alloc, broken)?.as_str())
 }
 
 /// A line for each finding.

@@ -1,13 +1,14 @@
-use Rattle.std.proofs.Common.{sym, subst}
+use Rattle.std.proofs.Common.{None, sym, subst}
 use Rattle.std.specs.Option.{IfSome}
 use Rattle.std.proofs.lemmas.Result.{IfOk-weaker}
 use Rattle.sqlite.specs.Effect.{Database}
 use Rattle.sqlite.specs.Held.{state}
 use Rattle.mf_store_schema.specs.Versions.{IsOfVersion}
 use Rattle.mf_store_schema.proofs.ReadLemmas.{at_none, at_some}
-use Rattle.mf_store_audit.specs.Audits.{IsAuditOf}
+use Rattle.mf_store_audit.specs.Audits.{IsAuditOf, IsWithJournal}
 use Rattle.mf_store_audit.specs.Unread.{IsUnread}
-use Rattle.mf_store_audit.proofs.AuditLemmas.{of_rows, unread_none}
+use Rattle.mf_store_audit.proofs.AuditLemmas.{of_rows, of_rows_with_journal, unread_none}
+use Rattle.mf_store_sound.proofs.JudgedLemmas.{none_kept, ours_there, rowids_there, unchanged_twice}
 use Rattle.mf_store_audit.proofs.KeptLemmas.{then_under}
 use Rattle.mf_store_audit.proofs.audits.audit_known.Goals as goal
 
@@ -37,11 +38,34 @@ returns-in_default-clause-exact g c clean ours rowids =
           (λ u. IsUnread u.table u.value u.place d.trees)) same found,
     )
 
-pub returns-clause-exact : goal.returns-clause-exact
-returns-clause-exact g c clean ours rowids =
+pub returns-in-First-clause-exact : goal.returns-in-First-clause-exact
+returns-in-First-clause-exact g c clean ours rowids =
+    let v = c.args.version in
     let db = (state g.S.Store c.args.connection.now).now in
     let tables = c.in-Some.tables in
     let only = at_some c.in_ok-tables.field-0 _ tables c.in-Some.is (c.in_ok-tables.ensures.only clean ours) in
     let keeps = at_some c.in_ok-tables.field-0 _ tables c.in-Some.is (c.in_ok-tables.ensures.keeps clean ours rowids) in
-    IfOk-weaker c.audit_rows.result _ (IsAuditOf db)
-    (λ a told. of_rows db c.args.version ours tables only keeps a told) c.audit_rows.ensures.exact
+    of_rows db v ours tables only keeps c.in_ok-audit.audit (λ _. (None, none_kept v c.in-First.is db.trees))
+    c.in_ok-audit.ensures.exact
+
+pub returns-in-Third-clause-kept : goal.returns-in-Third-clause-kept
+returns-in-Third-clause-kept g c = unchanged_twice c.args.version c.in-Third.is
+    (state g.S.Store c.args.connection.now) (state g.S.Store c.read_tables.new.connection)
+    (state g.S.Store c.audit_journal.new.connection) c.read_tables.ensures.kept c.audit_journal.ensures.kept
+
+pub returns-in-Third-clause-exact : goal.returns-in-Third-clause-exact
+returns-in-Third-clause-exact g c clean ours rowids =
+    let v = c.args.version in
+    let third = c.in-Third.is in
+    let db = (state g.S.Store c.args.connection.now).now in
+    let now = (state g.S.Store c.read_tables.new.connection).now in
+    let early = c.audit_journal.ensures.kept.premise clean in
+    let same = c.read_tables.ensures.kept.same early (c.in_ok-tables.ensures.open early) ours in
+    let tables = c.in-Some.tables in
+    let only = at_some c.in_ok-tables.field-0 _ tables c.in-Some.is (c.in_ok-tables.ensures.only early ours) in
+    let keeps = at_some c.in_ok-tables.field-0 _ tables c.in-Some.is (c.in_ok-tables.ensures.keeps early ours rowids) in
+    IfOk-weaker c.audit_journal.result _ (IsAuditOf db) (λ whole told.
+    of_rows_with_journal db v ours tables only third keeps c.in_ok-audit.audit whole c.in_ok-audit.ensures.exact
+    (subst (λ (d : Database). IsWithJournal d.trees c.in_ok-audit.audit whole) same told))
+    (c.audit_journal.ensures.exact clean (ours_there v third db now same ours)
+    (rowids_there v third db now same rowids))

@@ -1,8 +1,7 @@
-use Rattle.std.proofs.Common.{false, subst}
 use Rattle.sqlite.specs.Held.{state}
 use Rattle.mf_store_schema.specs.Versions.{IsOfVersion}
 use Rattle.mf_store_sound.proofs.NestedLemmas.{unchanged_fewer}
-use Rattle.mf_store_audit.proofs.KeptLemmas.{under_common, under_all}
+use Rattle.mf_store_audit.proofs.KeptLemmas.{under_common, under_all, present_of}
 use Rattle.mf_store_audit.proofs.searched.unread_at.Goals as goal
 
 pub returns-in-First-clause-kept : goal.returns-in-First-clause-kept
@@ -17,14 +16,11 @@ returns-in-First-clause-found g c clean its =
 pub returns-in-Second-clause-kept : goal.returns-in-Second-clause-kept
 returns-in-Second-clause-kept g c = unchanged_fewer _ (IsOfVersion c.args.version)
     (state g.S.Store c.args.connection.now) (state g.S.Store c.unread-in-Second.new.connection)
-    (λ k its. under_all k (c.args.version, its) (false, subst (λ v. IsOfVersion v k) c.in-Second.is its))
+    (λ k its. under_all k (c.args.version, its) (present_of c.args.version c.in-Second.is k its))
     c.unread-in-Second.ensures.kept
 
 pub returns-in-Second-clause-found : goal.returns-in-Second-clause-found
 returns-in-Second-clause-found g c clean its =
     let k = (state g.S.Store c.args.connection.now).now.schema in
-    c.unread-in-Second.ensures.found clean (under_all k (c.args.version, its) (
-      false,
-      subst (λ v. IsOfVersion v k)
-          c.in-Second.is its,
-    ))
+    c.unread-in-Second.ensures.found clean (under_all k (c.args.version, its)
+    (present_of c.args.version c.in-Second.is k its))

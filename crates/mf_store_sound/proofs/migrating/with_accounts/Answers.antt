@@ -1,7 +1,6 @@
 use Rattle.std.proofs.Common.{◌≡◌, [], ◌∷◌, sym, ap, ◌∙◌, rules}
 use Rattle.std.specs.Vec.Iter.{into_iter_items}
 use Rattle.mf_store_schema.specs.Rows.{Lists}
-use Rattle.mf_store_schema.specs.declared.meta.MetaRow.{MetaRow}
 use Rattle.mf_store_sound.specs.Schemas.{without_accounts}
 use Rattle.mf_store_sound.proofs.MigrateLemmas.{meta_migrated, migrated}
 use Rattle.mf_store_sound.proofs.migrating.with_accounts.Goals as goal

@@ -1,7 +1,6 @@
 use Rattle.std.proofs.Common.{refl}
 use Rattle.std.proofs.lemmas.Result.{IfOk-weaker}
 use Rattle.mf_store_values.specs.Accounts.{AreAccounts}
-use Rattle.mf_store_sound.specs.Schemas.{without_accounts}
 use Rattle.mf_store_sound.proofs.TableLemmas.{of_parts}
 use Rattle.mf_store_sound.proofs.WholeLemmas.{Told, rows_under_are}
 use Rattle.mf_store_sound.proofs.sound.account_rows.Goals as goal

@@ -1,8 +1,6 @@
-use Rattle.std.proofs.Common.{◌⊎◌, [], Some, refl, subst}
-use Rattle.sqlite.specs.Held.{state}
-use Rattle.mf_model.specs.Institution.{newly_made}
-use Rattle.mf_store_schema.specs.Writes.{Holds}
-use Rattle.mf_store_noted.specs.Kept.{journaled, tables_kept}
+use Rattle.std.proofs.Common.{[], refl}
+use Rattle.mf_store_noted.proofs.CanBeLemmas.{can_be_none}
+use Rattle.mf_store.proofs.FirstLemmas.{unfounded_journaled}
 use Rattle.mf_store.proofs.KeptLemmas.{first_known}
 use Rattle.mf_store.proofs.store.Store.create_journaled.Goals as goal
 
@@ -10,11 +8,11 @@ pub returns-in-Ok-found_journaled-clause-stands : goal.returns-in-Ok-found_journ
 returns-in-Ok-found_journaled-clause-stands g c clean none =
     first_known g.S.Store _ _ _ _ c.in-Ok-nothing.ensures.nothing (record {
       kept = c.in-Ok-found_journaled.ensures.made clean none;
-      keeps = ([], refl, refl);
+      keeps = ([], refl, record { can_be = can_be_none _ c.in-Ok.ensures.can; stands = refl });
     })
 
-pub returns-in-Err-found_journaled-clause-stop : goal.returns-in-Err-found_journaled-clause-stop
-returns-in-Err-found_journaled-clause-stop g c clean none trees may =
-    subst (λ begins. (state g.S.Store c.args.connection).may_leave trees
-    ⊎ Holds trees (Some (tables_kept (Some begins) (journaled (newly_made c.args.day))))) c.in-Ok.ensures.head
-    (c.in-Err-found_journaled.ensures.stop clean none trees may)
+pub returns-in-Err-found_journaled-clause-given_back : goal.returns-in-Err-found_journaled-clause-given_back
+returns-in-Err-found_journaled-clause-given_back g c =
+    let e = c.in-Err-found_journaled.ensures in
+    unfounded_journaled g.S.Store c.args.connection c.found_journaled.new.connection c.args.day c.in-Ok.begins
+    c.in-Ok.ensures.head e.premise e.was_open e.same e.shuts e.stop
