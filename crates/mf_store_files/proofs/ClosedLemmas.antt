@@ -18,7 +18,7 @@ use Rattle.mf_model.specs.Sound.{IsSound}
 use Rattle.mf_store_schema.specs.Writes.{Holds}
 use Rattle.mf_store_noted.specs.Kept.{begins_of, tables_kept}
 use Rattle.mf_store_noted.specs.Tabled.{HasGoodDisk, HoldsOneOf, HoldsRowsOf, IsTabled, LeavesTables}
-use Rattle.mf_store_noted.specs.declared.journal.Journal.{Journal}
+use Rattle.mf_store_journal.specs.declared.journal.Journal.{Journal}
 use Rattle.mf_store_noted.proofs.BesideLemmas.{begun_of}
 use Rattle.mf_store_files.specs.Closed.{HoldsInstitution, HoldsByItself}
 

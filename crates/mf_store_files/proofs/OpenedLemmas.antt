@@ -19,7 +19,7 @@ use Rattle.mf_store_schema.specs.Schemas.{IsKnown}
 use Rattle.mf_store_schema.specs.Versions.{schema_at}
 use Rattle.mf_store_schema.specs.Writes.{Holds, HoldsAt}
 use Rattle.mf_store_schema.specs.declared.versions.Version.{Version}
-use Rattle.mf_store_schema.specs.declared.versions.Version.TheVariants.{Second}
+use Rattle.mf_store_schema.specs.declared.versions.Version.TheVariants.{First, Second, Third}
 use Rattle.mf_store_values.specs.Flat.{tables_of}
 use Rattle.mf_store_sound.specs.Schemas.{tables_at}
 use Rattle.mf_store.specs.Facts.{KnownStore}
@@ -27,11 +27,12 @@ use Rattle.mf_store.specs.Stands.{IsClean}
 use Rattle.mf_store_files.specs.declared.adopted.Refused.{Refused}
 use Rattle.mf_store_files.specs.declared.adopted.Refused.TheVariants.{NoInstitution, Failed}
 use Rattle.mf_store_sound.specs.Files.{HasNoTables, ShowsFile}
-use Rattle.mf_store_files.specs.Versions.{IsTabledAt}
-use Rattle.mf_store_sound.specs.Held.{HoldsSoundAt}
+use Rattle.mf_store_files.specs.Versions.{IsTabledAt, LacksJournal}
+use Rattle.mf_store_sound.specs.Held.{HoldsSoundAt, KeepsJournalAt}
 use Rattle.mf_store_files.specs.Opened.{HoldsNoneSound, OpensAsFound, StaysAsFound}
 use Rattle.mf_store_files.specs.Taken.{IsTaken, IsGivenBack}
 use Rattle.mf_store_sound.proofs.FileLemmas.{under, is_one, left_as_held}
+use Rattle.mf_store_sound.proofs.SchemaLemmas.{no_views}
 
 module _ {S : Type 0} (g : StoreGhosts S) (h : Held S) (trees : Trees) where
   module _ (own : Schema) (is : (state g h).now ≡ record { schema = own; trees = trees }) where
@@ -45,7 +46,8 @@ module _ {S : Type 0} (g : StoreGhosts S) (h : Held S) (trees : Trees) where
       → (held : HoldsSoundAt v trees) → IsTabledAt g v h held.institution
   tabled_as v is held = record {
     sound = held.sound;
-    plain = held.plain;
+    journal = λ live. subst (λ t. KeepsJournalAt v t held.institution.journal) (sym (trees_are (schema_at v) is))
+        held.keeps;
     keeps = λ live. record {
       schema_is = schema_is (schema_at v) is;
       holds = subst (λ t. HoldsAt v t (tables_at v held.institution)) (sym (trees_are (schema_at v) is)) held.holds;
@@ -66,7 +68,7 @@ module _ {D : Type 0} {g : Ghosts D} (image : Image) (h : Held (FileStore D g)) 
         → IsSound (schema_at v) trees → HoldsSoundAt v trees
     sound clean v trees holds its =
         let good = taken.premise clean in
-        let is = now_under good (schema_at v) refl trees holds its in
+        let is = now_under good (schema_at v) (no_views v) trees holds its in
         let ours = schema_is over_files h trees (schema_at v) is in
         subst (HoldsSoundAt v) (trees_are over_files h trees (schema_at v) is)
         (taken.sound clean v ours ((shown good).rowids v ours))
@@ -74,7 +76,7 @@ module _ {D : Type 0} {g : Ghosts D} (image : Image) (h : Held (FileStore D g)) 
     tabled : IsClean over_files store → (v : Version) (trees : Trees) → HoldsDatabase image trees
         → (held : HoldsSoundAt v trees) → IsTabledAt over_files v h held.institution
     tabled clean v trees holds held = tabled_as over_files h trees v
-        (now_under (taken.premise clean) (schema_at v) refl trees holds held.holds.sound) held
+        (now_under (taken.premise clean) (schema_at v) (no_views v) trees holds held.holds.sound) held
 
     pub opens_as_found : OpensAsFound image store
     opens_as_found = record {
@@ -86,22 +88,23 @@ module _ {D : Type 0} {g : Ghosts D} (image : Image) (h : Held (FileStore D g)) 
     }
 
   module _ (new : Held (FileStore D g)) (fault : Fault) (back : IsGivenBack over_files h new fault) where
-    unchanged : HasCleanDisk (file_state new) → (trees : Trees) → HoldsDatabase image trees
-        → IsSound (schema_at Second) trees → (left : Trees) → (file_state new).may_leave left → left ≡ trees
-    unchanged clean trees holds its left may =
+    unchanged : HasCleanDisk (file_state new) → (v : Version) → v ≢ First → (trees : Trees)
+        → HoldsDatabase image trees → IsSound (schema_at v) trees → (left : Trees)
+        → (file_state new).may_leave left → left ≡ trees
+    unchanged clean v later trees holds its left may =
         let good = back.still clean in
-        let ours = schema_is over_files h trees (schema_at Second)
-        (now_under good (schema_at Second) refl trees holds its) in
-        left_as_held image (file_state h) (shown good) trees holds left ((back.unchanged ours).stop clean (λ live. ours)
-        left may)
+        let ours = schema_is over_files h trees (schema_at v)
+        (now_under good (schema_at v) (no_views v) trees holds its) in
+        left_as_held image (file_state h) (shown good) trees holds left ((back.unchanged v later ours).stop clean
+        (λ live. ours) left may)
 
     left_at : HasCleanDisk (file_state new) → (v : Version) (trees : Trees) → HoldsDatabase image trees
         → (held : HoldsSoundAt v trees)
         → (left : Trees) → (file_state new).may_leave left → left ≡ trees
-        ⊎ Holds left (Some (tables_of held.institution))
+        ⊎ ((v ≡ First) × Holds left (Some (tables_of held.institution)))
     left_at clean v trees holds held left may =
         let good = back.still clean in
-        let is = now_under good (schema_at v) refl trees holds held.holds.sound in
+        let is = now_under good (schema_at v) (no_views v) trees holds held.holds.sound in
         let kept = back.left v (schema_is over_files h trees (schema_at v) is) in
         elim (kept.stop clean held.institution (tabled_as over_files h trees v is held) left may) [
           | inl before ↦ inl (left_as_held image (file_state h) (shown good) trees holds left before)
@@ -113,7 +116,7 @@ module _ {D : Type 0} {g : Ghosts D} (image : Image) (h : Held (FileStore D g)) 
         → (left : Trees) → (file_state new).may_leave left → left ≡ trees
     refused_at clean v trees holds its none_held left may =
         let good = back.still clean in
-        let is = now_under good (schema_at v) refl trees holds its in
+        let is = now_under good (schema_at v) (no_views v) trees holds its in
         let ours = schema_is over_files h trees (schema_at v) is in
         let are = trees_are over_files h trees (schema_at v) is in
         let kept = back.left v ours in
@@ -150,10 +153,27 @@ module _ {D : Type 0} {g : Ghosts D} (image : Image) (h : Held (FileStore D g)) 
         let good = back.still clean in record {
           some = λ nothing. some ((shown good).none nothing).schema_is;
           none = λ v trees holds held.
-              let is = now_under good (schema_at v) refl trees holds held.holds.sound in
+              let is = now_under good (schema_at v) (no_views v) trees holds held.holds.sound in
               back.refused told clean v (schema_is over_files h trees (schema_at v) is)
               (subst (HoldsSoundAt v) (sym (trees_are over_files h trees (schema_at v) is)) held);
         }
+
+  -- where the institution is to keep a journal
+  pub third_alone : ¬ LacksJournal (file_state h).now.schema → HasCleanDisk (file_state h) → (v : Version)
+      (trees : Trees) → HoldsDatabase image trees → IsSound (schema_at v) trees → v ≡ Third
+  third_alone keeps good First trees holds its = absurd (keeps (inl (schema_is over_files h trees (schema_at First)
+      (now_under good (schema_at First) refl trees holds its))))
+  third_alone keeps good Second trees holds its = absurd (keeps (inr (schema_is over_files h trees (schema_at Second)
+      (now_under good (schema_at Second) refl trees holds its))))
+  third_alone keeps good Third trees holds its = refl
+
+  -- a connection that came back as it was
+  pub left_as_it_was : (new : Held (FileStore D g)) → new ≡ h → HasCleanDisk (file_state new) → (trees : Trees)
+      → HoldsDatabase image trees → (left : Trees) → (file_state new).may_leave left → left ≡ trees
+  left_as_it_was new same clean trees holds left may =
+      left_as_held image (file_state h)
+      (shown (subst (λ (c : Held (FileStore D g)). HasCleanDisk (file_state c)) same clean)) trees holds left
+      (subst (λ (c : Held (FileStore D g)). (file_state c).may_leave left) same may)
 
   -- where no institution was to be made
   module _ (new : Held (FileStore D g)) (refused : Refused) (none : (refused ≡ NoInstitution)

@@ -1,7 +1,6 @@
 -- Which institution a stop after a run leaves.
 use Rattle.std.proofs.Common.{◌≡◌, ◌⊎◌, inl, inr, Bool, true, false, cond, List, [], ◌∷◌, ◌++◌, Option, Some, None}
-use Rattle.std.proofs.Common.{IsTrue, refl, sym, ap, ◌∙◌, subst, true≢false}
-use Rattle.std.specs.Option.{is_some}
+use Rattle.std.proofs.Common.{IsTrue, refl, sym, ap, ◌∙◌, subst}
 use Rattle.std.proofs.Math.Logic.{∥∥₁_map}
 use Rattle.sqlite.specs.Files.{HoldsDatabase}
 use Rattle.sqlite.specs.Tree.{Trees}
@@ -10,15 +9,22 @@ use Rattle.sqlite_disk.specs.declared.Disk.{Ghosts}
 use Rattle.sqlite_store.specs.FileStore.{state, view, recovers}
 use Rattle.sqlite_store.specs.declared.store.FileStore.{FileStore}
 use Rattle.sqlite_wal.specs.Recovery.{Image}
-use Rattle.mf_model.specs.Institution.{Institution, Change, Noted, after, after_line, after_noted, noted_line, with_line}
+use Rattle.mf_model.specs.Institution.{Institution, Change, JournalLine, Noted, after, after_line, after_noted}
+use Rattle.mf_model.specs.Institution.{noted_line, with_line}
 use Rattle.mf_model.specs.Desk.{outcome, change_in}
 use Rattle.mf_model.specs.Calls.{Call}
 use Rattle.mf_model.specs.Run.{Line, change_of_line, next, noted_of, last}
 use Rattle.mf_model.specs.Sound.{IsSound, IsInRange, AreInRange}
 use Rattle.mf_model.specs.Store.{left_by, left_after}
 use Rattle.mf_journal.specs.declared.following.Head.{Head}
-use Rattle.mf_store_schema.specs.Writes.{Holds}
-use Rattle.mf_store_sound.specs.Held.{HoldsSound}
+use Rattle.mf_store_schema.specs.Writes.{Holds, HoldsAll, HoldsAt, all_conditions}
+use Rattle.mf_store_schema.specs.declared.versions.Version.{Version}
+use Rattle.mf_store_schema.specs.declared.versions.Version.TheVariants.{Second, Third}
+use Rattle.mf_store_journal.specs.Rows.{journal_rows_in}
+use Rattle.mf_store_journal.specs.Written.{CanBeLines, KeepsJournalFrom}
+use Rattle.mf_store_sound.specs.Held.{HoldsSound, HoldsSoundAt}
+use Rattle.mf_store_sound.specs.Schemas.{tables_at}
+use Rattle.mf_store_sound.proofs.NestedLemmas.{first_held}
 use Rattle.mf_store_noted.specs.Kept.{IsBegun, tables_kept}
 use Rattle.mf_store_noted.specs.Tabled.{HoldsOneOf, HoldsRowsOf}
 use Rattle.mf_store_files.specs.Stops.{NoneChanges, HoldsBeginning, IsLeftBy}
@@ -142,18 +148,65 @@ plain_rows trees j none sound held = go held.begins held.begun held.holds
     go None begun holds = (
       record {
         institution = j;
-        plain = none;
         sound = sound;
         holds = record { sound = holds.sound; all = holds.all };
+        keeps = none;
       },
       refl,
     )
-    go (Some begins) begun holds = absurd (true≢false (sym begun ∙ ap is_some none))
+    go (Some begins) begun holds = let both : None ≡ Some begun.0 = sym none ∙ begun.1 in absurd (cc)
 
 pub no_journal_begins : (run : List Line) (i j : Institution) (trees : Trees) → i.journal ≡ None → IsLeftBy run i j
     → IsSound j → HoldsRowsOf trees j → (held : HoldsSound trees) × (held.institution ≡ j)
 no_journal_begins run i j trees none left sound held =
     plain_rows trees j (plain_left run i j none left) sound held
+
+-- ---- what is left can be opened
+
+with_journal : (trees : Trees) (j : Institution) (begins : Head) (lines : List JournalLine) → CanBeLines begins lines
+    → (journal : Option (List JournalLine)) → journal ≡ Some lines
+    → HoldsAll trees (record (tables_at Third j) { journal = journal_rows_in begins journal })
+    → HoldsAt Third trees (tables_at Third j) × KeepsJournalFrom begins trees lines
+with_journal trees j begins lines can journal is holds =
+    let all = subst (λ k. HoldsAll trees (record (tables_at Third j) { journal = journal_rows_in begins k })) is holds
+    in (
+      record {
+        sound = all.sound;
+        all = first_held trees 11 (all_conditions (record (tables_at Third j) {
+          journal = journal_rows_in begins (Some lines);
+        })) all.all;
+      },
+      record { lines_can_be = can; keeps = all.all.1.1.1.1.1.1.1.1.1.1.1.0 },
+    )
+
+-- trees that hold the rows of a sound institution are those of a file that can be opened, which is that institution's
+pub rows_are_sound : (trees : Trees) (j : Institution) → IsSound j → HoldsRowsOf trees j
+    → (v : Version) × (held : HoldsSoundAt v trees) × (held.institution ≡ j)
+rows_are_sound trees j sound held = go held.begins held.begun held.holds
+  where
+    go : (begins : Option Head) → IsBegun begins j → Holds trees (Some (tables_kept begins j))
+        → (v : Version) × (held : HoldsSoundAt v trees) × (held.institution ≡ j)
+    go None begun holds = (
+      Second,
+      record {
+        institution = j;
+        sound = sound;
+        holds = record { sound = holds.sound; all = holds.all };
+        keeps = begun;
+      },
+      refl,
+    )
+    go (Some begins) begun holds =
+        let both = with_journal trees j begins begun.0 begun.2 j.journal begun.1 holds in (
+          Third,
+          record {
+            institution = j;
+            sound = sound;
+            holds = both.0;
+            keeps = (begins, begun.0, begun.1, both.1);
+          },
+          refl,
+        )
 
 -- what is noted doesn't matter
 noted_sound : (noted : Noted) (change : Change) (i : Institution) → IsSound (after change i)

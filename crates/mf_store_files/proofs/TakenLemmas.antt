@@ -1,18 +1,27 @@
 -- A store over tables that are those of one version alone, or none.
-use Rattle.std.proofs.Common.{◌≡◌, ◌⊎◌, inr, [], ◌∷◌, Result, Ok, Err, IfOk, IfErr, false, IsTrue, sym, ◌∙◌, subst}
+use Rattle.std.proofs.Common.{◌≡◌, ◌≢◌, ◌⊎◌, ℕ, inl, inr, [], ◌∷◌, Option, None, Some, Result, Ok, Err, IfOk, IfErr}
+use Rattle.std.proofs.Common.{false, IsTrue, refl, sym, ◌∙◌, subst}
+use Rattle.std.specs.Prelude.{IsSome}
 use Rattle.mf_base.specs.declared.fault.Fault.{Fault}
 use Rattle.mf_base.specs.declared.fault.Fault.TheVariants.{F19, F20}
 use Rattle.sqlite.specs.Held.{Held, state}
 use Rattle.sqlite.specs.State.{HasCleanDisk}
 use Rattle.sqlite_trees.specs.declared.store.Store.{Ghosts}
-use Rattle.mf_model.specs.Institution.{Institution}
 use Rattle.mf_store_sql.specs.Tables.{no_schema}
 use Rattle.mf_store_schema.specs.Schemas.{IsUnchangedUnder}
 use Rattle.mf_store_schema.specs.Versions.{IsOfVersion}
 use Rattle.mf_store_schema.specs.Whole.{HaveRowids}
 use Rattle.mf_store_schema.specs.declared.versions.Version.{Version}
-use Rattle.mf_store_schema.specs.declared.versions.Version.TheVariants.{Second}
-use Rattle.mf_store_noted.specs.Tabled.{IsUnfounded}
+use Rattle.mf_store_schema.specs.declared.versions.Version.TheVariants.{First}
+use Rattle.mf_model.specs.Institution.{Institution, newly_made}
+use Rattle.mf_store_schema.specs.Rows.{Lists}
+use Rattle.mf_store_values.specs.Flat.{tables_of}
+use Rattle.mf_journal.specs.Founding.{founding}
+use Rattle.mf_store_noted.specs.Kept.{journaled, tables_kept}
+use Rattle.mf_store_noted.specs.Tabled.{IsUnfounded, IsUnfoundedAs, IsUnfoundedJournaled}
+use Rattle.mf_store_files.specs.declared.adopted.Refused.TheVariants.{NoInstitution, Failed}
+use Rattle.mf_store_files.specs.declared.adopted.Unjournaled.{Unjournaled}
+use Rattle.mf_store_files.specs.declared.adopted.Unjournaled.TheVariants.{Refused}
 use Rattle.mf_store.specs.Facts.{KnownStore}
 use Rattle.mf_store.specs.Stands.{StandsFor, IsClean, Leaves, IsOpen}
 use Rattle.mf_store_sound.proofs.SchemaLemmas.{none_at, one_version}
@@ -64,7 +73,7 @@ module _ {S : Type 0} (g : Ghosts S) (h : Held S) where
         → IfErr r (λ e. e.0 ≡ F19 → HasCleanDisk (state g e.1) → IsOfVersion v (state g h).now.schema
         → ¬ HoldsSoundAt v (state g h).now.trees)
         → IfErr r (λ e. IsOfVersion v (state g h).now.schema → IsLeftAt g v h e.1)
-        → IfErr r (λ e. v ≡ Second → IsUnchangedUnder (IsOfVersion Second) (state g h) (state g e.1))
+        → IfErr r (λ e. v ≢ First → IsUnchangedUnder (IsOfVersion v) (state g h) (state g e.1))
         → IfErr r (λ e. e.1.in_transaction ≡ false)
         → IfErr r (λ e. IsGivenBack g h e.1 e.0)
     back_at (Ok store) still errors refused left unchanged alone = tt
@@ -72,7 +81,8 @@ module _ {S : Type 0} (g : Ghosts S) (h : Held S) where
       still = still;
       alone = alone;
       errors = errors;
-      unchanged = λ today. unchanged (same_version Second today);
+      unchanged = λ w later other. at (λ x. x ≢ First → IsUnchangedUnder (IsOfVersion x) (state g h) (state g e.1))
+          unchanged w other later;
       left = at (λ w. IsLeftAt g w h e.1) (left ours);
       refused = λ told clean. at (λ w. ¬ HoldsSoundAt w (state g h).now.trees) (refused told clean ours);
       foreign = λ some others. absurd (others (v, ours));
@@ -81,7 +91,7 @@ module _ {S : Type 0} (g : Ghosts S) (h : Held S) where
   -- ---- no tables
 
   module _ (ours : (state g h).now.schema ≡ no_schema) where
-    pub taken_none : (r : Made)
+    pub taken_none : {E : Type 0} (r : Result (KnownStore S) E)
         → IfOk r (λ store. IsClean g store → HasCleanDisk (state g h))
         → IfOk r (λ store. IsClean g store → IsTrue (state g h).is_open)
         → IfOk r (λ store. IsClean g store → IsOpen g store)
@@ -96,21 +106,48 @@ module _ {S : Type 0} (g : Ghosts S) (h : Held S) where
     }
     taken_none (Err e) premise was_open is_open = tt
 
+    pub unmade : (made : Lists) (fault : Fault) (new : Held S) → fault ≡ F20 → IsUnfoundedAs g made h new
+        → new.in_transaction ≡ false → IsGivenBack g h new fault
+    unmade made fault new gives_up given_back alone = record {
+      still = given_back.premise;
+      alone = alone;
+      errors = inr gives_up;
+      unchanged = λ v later is. absurd (none_at v (sym ours ∙ is));
+      left = λ v is. absurd (none_at v (sym ours ∙ is));
+      refused = λ told clean v is. absurd (none_at v (sym ours ∙ is));
+      foreign = λ some. absurd (some ours);
+    }
+
     pub back_none : (day : _) (r : Made)
         → IfErr r (λ e. e.0 ≡ F20)
         → IfErr r (λ e. IsUnfounded g day h e.1)
         → IfErr r (λ e. e.1.in_transaction ≡ false)
         → IfErr r (λ e. IsGivenBack g h e.1 e.0)
     back_none day (Ok store) gives_up given_back alone = tt
-    back_none day (Err e) gives_up given_back alone = record {
-      still = given_back.premise;
-      alone = alone;
-      errors = inr gives_up;
-      unchanged = λ today. absurd (none_at Second (sym ours ∙ today));
-      left = λ v is. absurd (none_at v (sym ours ∙ is));
-      refused = λ told clean v is. absurd (none_at v (sym ours ∙ is));
-      foreign = λ some. absurd (some ours);
-    }
+    back_none day (Err e) gives_up given_back alone = unmade (tables_of (newly_made day)) e.0 e.1 gives_up given_back
+        alone
+
+    -- of a new institution that is to keep a journal
+    pub unmade_journaled : (founds : Option ℕ) (r : Result (KnownStore S) (Unjournaled × Held S))
+        → IfErr r (λ e. ((e.0 ≡ Refused NoInstitution) × (founds ≡ None) × (e.1 ≡ h))
+        ⊎ ((e.0 ≡ Refused (Failed F20)) × IsSome founds
+        × ((day : ℕ) → founds ≡ Some day → IsUnfoundedJournaled g day h e.1) × (e.1.in_transaction ≡ false)))
+        → IfErr r (λ e. (fault : Fault) → e.0 ≡ Refused (Failed fault) → IsGivenBack g h e.1 fault)
+    unmade_journaled founds (Ok store) told = tt
+    unmade_journaled founds (Err e) told = of_one founds told
+      where
+        of_one : (founds : Option ℕ) → ((e.0 ≡ Refused NoInstitution) × (founds ≡ None) × (e.1 ≡ h))
+            ⊎ ((e.0 ≡ Refused (Failed F20)) × IsSome founds
+            × ((day : ℕ) → founds ≡ Some day → IsUnfoundedJournaled g day h e.1) × (e.1.in_transaction ≡ false))
+            → (fault : Fault) → e.0 ≡ Refused (Failed fault) → IsGivenBack g h e.1 fault
+        of_one founds (inl none) fault is =
+            let both : Refused NoInstitution ≡ Refused (Failed fault) = sym none.0 ∙ is in absurd (cc)
+        of_one None (inr made) fault is = let some : IsSome {T = ℕ} None = made.1 in absurd (cc)
+        of_one (Some day) (inr made) fault is =
+            let both : Refused (Failed F20) ≡ Refused (Failed fault) = sym made.0 ∙ is in
+            let same : fault ≡ F20 = cc in
+            unmade (tables_kept (Some (founding 3 day)) (journaled (newly_made day))) fault e.1 same (made.2 day refl)
+            made.3
 
 -- ---- what holds of each store, or of each failure, holds of the one that there is
 

@@ -16,7 +16,7 @@ use Rattle.mf_store_schema.specs.Schemas.{IsKnown}
 use Rattle.mf_store_schema.specs.Versions.{schema_at}
 use Rattle.mf_store_schema.specs.Writes.{Holds}
 use Rattle.mf_store_schema.specs.declared.versions.Version.{Version}
-use Rattle.mf_store_schema.specs.declared.versions.Version.TheVariants.{Second}
+use Rattle.mf_store_schema.specs.declared.versions.Version.TheVariants.{First}
 use Rattle.mf_store_values.specs.Flat.{tables_of}
 use Rattle.mf_store.specs.Facts.{KnownStore}
 use Rattle.mf_store.specs.Stands.{StandsFor, IsClean, Leaves, IsOpen}
@@ -42,14 +42,16 @@ module _ {D : Type 0} {g : Ghosts D} (image : Image) where
     pub leaves : IsClean over_files store → (v : Version) (trees : Trees) → HoldsDatabase image trees
         → (held : HoldsSoundAt v trees) → Leaves over_files store (held.institution ∷ [])
 
-  -- A stop leaves tables of today as they were, of an older version what was there or those of today, whole, and others
-  -- as they were; F19 tells that there were tables and not those of a sound institution.
+  -- A stop leaves tables of the first version as they were, or those of the second, whole, and all others as they were;
+  -- F19 tells that there were tables and not those of a sound institution.
   pub record StaysAsFound (c : Held (FileStore D g)) (fault : Fault) : Type 0 where
-    pub unchanged : HasCleanDisk (file_state c) → (trees : Trees) → HoldsDatabase image trees
-        → IsSound (schema_at Second) trees → (left : Trees) → (file_state c).may_leave left → left ≡ trees
+    pub unchanged : HasCleanDisk (file_state c) → (v : Version) → v ≢ First → (trees : Trees)
+        → HoldsDatabase image trees → IsSound (schema_at v) trees → (left : Trees) → (file_state c).may_leave left
+        → left ≡ trees
     pub left : HasCleanDisk (file_state c) → (v : Version) (trees : Trees) → HoldsDatabase image trees
         → (held : HoldsSoundAt v trees)
-        → (left : Trees) → (file_state c).may_leave left → left ≡ trees ⊎ Holds left (Some (tables_of held.institution))
+        → (left : Trees) → (file_state c).may_leave left → left ≡ trees
+        ⊎ ((v ≡ First) × Holds left (Some (tables_of held.institution)))
     pub refused : HasCleanDisk (file_state c) → (v : Version) (trees : Trees) → HoldsDatabase image trees
         → IsSound (schema_at v) trees → ¬ HoldsSoundAt v trees
         → (left : Trees) → (file_state c).may_leave left → left ≡ trees

@@ -11,7 +11,7 @@ use Rattle.mf_store_schema.specs.Schemas.{IsKnown, IsUnchangedUnder}
 use Rattle.mf_store_schema.specs.Versions.{IsOfVersion}
 use Rattle.mf_store_schema.specs.Whole.{HaveRowids}
 use Rattle.mf_store_schema.specs.declared.versions.Version.{Version}
-use Rattle.mf_store_schema.specs.declared.versions.Version.TheVariants.{Second}
+use Rattle.mf_store_schema.specs.declared.versions.Version.TheVariants.{First}
 use Rattle.mf_store.specs.Facts.{KnownStore}
 use Rattle.mf_store.specs.Stands.{StandsFor, IsClean, Leaves, IsOpen}
 use Rattle.mf_store_files.specs.Versions.{IsTabledAt, IsLeftAt}
@@ -29,14 +29,14 @@ module _ {S : Type 0} (g : Ghosts S) where
     pub stands : IsClean g store → (v : Version) (i : Institution) → IsTabledAt g v old i → StandsFor g store i
     pub leaves : IsClean g store → (v : Version) (i : Institution) → IsTabledAt g v old i → Leaves g store (i ∷ [])
 
-  -- Tables of today are unchanged, of an older version a stop leaves what was there or those of today, whole, and F19
-  -- tells that no sound institution has their rows, or that they are others.
+  -- Tables of the first version are unchanged, or a stop leaves those of the second, whole; those of the others are
+  -- unchanged. F19 tells that no sound institution has their rows, or that they are others.
   pub record IsGivenBack (old new : Held S) (fault : Fault) : Type 0 where
     pub still : HasCleanDisk (state g new) → HasCleanDisk (state g old)
     pub alone : new.in_transaction ≡ false
     pub errors : (fault ≡ F19) ⊎ (fault ≡ F20)
-    pub unchanged : IsOfVersion Second (state g old).now.schema
-        → IsUnchangedUnder (IsOfVersion Second) (state g old) (state g new)
+    pub unchanged : (v : Version) → v ≢ First → IsOfVersion v (state g old).now.schema
+        → IsUnchangedUnder (IsOfVersion v) (state g old) (state g new)
     pub left : (v : Version) → IsOfVersion v (state g old).now.schema → IsLeftAt g v old new
     pub refused : fault ≡ F19 → HasCleanDisk (state g new) → (v : Version) → IsOfVersion v (state g old).now.schema
         → ¬ HoldsSoundAt v (state g old).now.trees

@@ -12,7 +12,8 @@ ghost use Rattle.mf_model.specs.Sound.{IsSound, AreInRange};
 ghost use Rattle.mf_model.specs.Store.{left_after};
 ghost use Rattle.mf_store.specs.Stands.{IsClean, Leaves};
 ghost use Rattle.mf_store_noted.specs.Tabled.{HoldsRowsOf};
-ghost use Rattle.mf_store_sound.specs.Held.{HoldsSound};
+ghost use Rattle.mf_store_schema.specs.declared.versions.Version.{Version};
+ghost use Rattle.mf_store_sound.specs.Held.{HoldsSound, HoldsSoundAt};
 ghost use Rattle.mf_store_files.specs.Stops.{HoldsBeginning, IsLeftBy};
 
 use mf_model::laws;
@@ -32,8 +33,8 @@ pub fn left_is_a_beginning<S: Alter>(store: &Store<S>)
     laws::soundness();
 }
 
-/// The same of the files of a store: whatever a stop leaves of these is a database with such rows. The store's trees are numbered, as those of each connection are
-/// (`into_store` of `sqlite`).
+/// The same of the files of a store: whatever a stop leaves of these is a database with such rows. The store's trees
+/// are numbered, as those of each connection are (`into_store` of `sqlite`).
 pub fn left_files_hold_a_beginning<D: Disk>(store: &Store<FileStore<D>>)
     ensures { (i : Institution) (run : List Line) → IsSound i → AreInRange run → IsClean over_files store.now
         → Leaves over_files store.now (left_after run i (i ∷ []))
@@ -43,6 +44,13 @@ pub fn left_files_hold_a_beginning<D: Disk>(store: &Store<FileStore<D>>)
 {
     laws::soundness();
 }
+
+/// Where trees hold the rows of a sound institution, and its journal's where it keeps one, `open_with` makes a store of
+/// that institution over them, and doesn't answer F19. So does it over what a stop leaves.
+pub fn what_is_left_can_be_opened()
+    ensures { (trees : Trees) (i : Institution) → IsSound i → HoldsRowsOf trees i
+        → (v : Version) × (held : HoldsSoundAt v trees) × (held.institution ≡ i) }
+{}
 
 /// A journal doesn't begin by itself: where a run began with an institution that keeps none, the rows of what a stop
 /// leaves are those of one that keeps none. So `open_with` makes a store of that institution, and doesn't answer F19.

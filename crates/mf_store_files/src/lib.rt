@@ -7,6 +7,8 @@ mod files;
 pub mod laws;
 mod upgraded;
 
-pub use adopted::{Refused, adopt, adopt_existing};
+pub use adopted::{Refused, Unjournaled, adopt, adopt_existing, adopt_journaled};
 pub use closing::close;
-pub use files::{open, open_existing, open_existing_with, open_with};
+pub use files::{
+    open, open_existing, open_existing_with, open_journaled, open_journaled_with, open_with,
+};

@@ -55,11 +55,11 @@ impl Trial for Journaled {
         let mut sink = WatchedWriter::new(Vec::new(alloc));
         let _ended = run(alloc, &mut store, &mut source, &mut sink);
         let mut tables = store.release();
-        let Ok(Found::Whole(head)) = check_journal(&mut tables) else {
+        let Ok(Found::Whole(journal)) = check_journal(&mut tables) else {
             return Ok(false);
         };
         let is_told = sink.into_inner().as_slice() == REPLIES.as_bytes();
-        Ok(is_told && head.number == COUNT && head.chain == CHAIN)
+        Ok(is_told && journal.head.number == COUNT && journal.head.chain == CHAIN)
     }
 }
 

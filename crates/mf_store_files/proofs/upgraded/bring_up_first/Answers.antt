@@ -13,7 +13,7 @@ use Rattle.mf_store_files.proofs.upgraded.bring_up_first.Goals as goal
 pub returns-clause-made : goal.returns-clause-made
 returns-clause-made g c clean =
     on_ok_weaker c.upgrade.result (λ made i sound are keeping.
-    let rows = c.in-Ok.ensures.today i sound are in
+    let rows = c.in-Ok.ensures.next i sound are in
     let first : c.in-Ok.today.meta ≡ c.in-Some.meta ∷ into_iter_items c.next.new.self =
     ap (λ (l : Lists). l.meta) (sym c.today.view_is) ∙ sym c.into_iter.ensures.rest ∙ c.in-Some.ensures.items in
     let meta = meta_is i c.in-Ok.today c.in-Some.meta (into_iter_items c.next.new.self) rows first in
@@ -26,7 +26,7 @@ returns-clause-made g c clean =
 
 pub returns-clause-stop : goal.returns-clause-stop
 returns-clause-stop g c clean i sound are keeping trees may =
-    let rows = c.in-Ok.ensures.today i sound are in
+    let rows = c.in-Ok.ensures.next i sound are in
     let first : c.in-Ok.today.meta ≡ c.in-Some.meta ∷ into_iter_items c.next.new.self =
     ap (λ (l : Lists). l.meta) (sym c.today.view_is) ∙ sym c.into_iter.ensures.rest ∙ c.in-Some.ensures.items in
     let meta = meta_is i c.in-Ok.today c.in-Some.meta (into_iter_items c.next.new.self) rows first in
