@@ -20,8 +20,8 @@ use mf_model::{Commit, InstitutionStore, Names, Note, Reply, Request, RequestTex
 use mf_office::Caller;
 use std::alloc::Global;
 
-/// Decides a request: the refusals of the caller come first, then those of what is asked.
-fn decide<S: InstitutionStore>(
+/// Decides a request: the refusals of the caller come first, then those of what is asked. It changes nothing.
+pub fn decide<S: InstitutionStore>(
     alloc: Global,
     store: &mut S,
     caller: &Caller,
@@ -45,7 +45,7 @@ fn decide<S: InstitutionStore>(
 }
 
 /// Makes a commit, and notes the request that it comes of.
-fn commit_noted<S: InstitutionStore>(
+pub fn commit_noted<S: InstitutionStore>(
     alloc: Global,
     store: &mut S,
     commit: Commit,

@@ -20,6 +20,7 @@ mod sight;
 mod stages;
 mod statements;
 
-pub use answering::answer;
+pub use answering::{answer, commit_noted, decide};
 pub use arrears::arrears_lines;
+pub use decision::Decision;
 pub use mf_model::{OfficeList, Reply, Request};

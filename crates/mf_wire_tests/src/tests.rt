@@ -2,4 +2,5 @@
 
 mod arrivals;
 mod lines;
+mod played;
 mod sheets;

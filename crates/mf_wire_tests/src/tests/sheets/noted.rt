@@ -2,9 +2,11 @@
 
 use super::{assert_results, lent};
 use mf_base::Day;
-use mf_journal::{Head, repayment_body, repayment_path};
+use mf_journal::{Head, JournalRow, repayment_body, repayment_path};
 use mf_office::Account;
+use mf_play::{Stop, play_line};
 use mf_wire::answer_text;
+use mf_wire_requests::Routes;
 use std::process::Abort;
 use std::test::Fail;
 
@@ -18,6 +20,9 @@ const SHEET: &[u8] = b"receipt,loan,date,amount\n\"R\"\"1\\x\",0001-000001,2024-
 
 const REPEATED: &[u8] =
     b"receipt,loan,date,amount,result\n\"R\"\"1\\x\",0001-000001,2024-02-29,200,repeated\n";
+
+/// The number of 31 March 2024, the business day after the loan was lent.
+const LENT_DAY: u64 = 8_856;
 
 /// The SHA-256 of `microloan`, 3 and 9,497, each number in eight bytes, as Python's hashlib has it.
 const FOUNDED: [u8; 32] = [
@@ -54,5 +59,32 @@ fn noted_text_reads_as_the_line(rt: HostRuntime) -> Result<(), Fail> {
     )?;
     assert_eq!(rt; status, 201);
     assert_eq!(rt; told.as_str(), "{\"entry\":1}");
+    assert_results(&rt, alloc, &mut books, "1/1", SHEET, REPEATED)
+}
+
+/// The line that notes it plays once: its receipt is known then.
+#[test]
+fn noted_repayment_plays(rt: HostRuntime) -> Result<(), Fail> {
+    let alloc = rt.alloc();
+    let mut books = lent(alloc)?;
+    let Ok(routes) = Routes::new(alloc) else {
+        return Err(Fail::from("no routes"));
+    };
+    let row = JournalRow {
+        day: LENT_DAY,
+        office: 1,
+        staff: 1,
+        told: b"".as_slice(),
+        method: b"POST".as_slice(),
+        path: b"/loans/0001-000001/repayments".as_slice(),
+        body: BODY,
+        named_office: 1,
+        named_loan: 1,
+    };
+    assert_eq!(rt; play_line(alloc, &routes, &mut books, row)?, Ok(()));
+    assert_eq!(rt;
+        play_line(alloc, &routes, &mut books, row)?,
+        Err(Stop::ChangesNothing)
+    );
     assert_results(&rt, alloc, &mut books, "1/1", SHEET, REPEATED)
 }
