@@ -18,15 +18,17 @@ use crate::auditing::say_audit;
 use crate::following::Following;
 use crate::places::place_at;
 use crate::telling::{
-    print_made, refuse_words, tell_checking, tell_no_institution, tell_reading, tell_refusal,
+    print_made, refuse_words, tell_checking, tell_no_institution, tell_no_journal, tell_reading,
+    tell_refusal,
 };
 use crate::why::say_why;
 use crate::working::{Work, answer_input_in_memory, work_on};
 use mf_base::{Day, Fault};
-use mf_store_files::{Refused, open, open_existing};
+use mf_store_files::{Refused, Unjournaled, open, open_existing, open_journaled};
 use microloan_commands::schedule;
 use microloan_words::{
-    BatchWords, Command, ScheduleWords, ServeWords, StaffWords, Words, command, default_day,
+    BatchWords, CollectWords, Command, ScheduleWords, ServeWords, StaffWords, UpgradeWords, Words,
+    command, default_day,
 };
 use std::process::ExitCode;
 use std::{env, io};
@@ -57,13 +59,25 @@ fn obey(rt: &HostRuntime, words: &[String]) -> u8 {
     match command(rt.alloc(), words) {
         Ok(Command::Batch(asked)) => batch(rt, &asked),
         Ok(Command::Serve(asked)) => serve(rt, &asked),
-        Ok(Command::Collect(asked)) => work_as(rt, &asked, Work::Collect(asked.staff)),
-        Ok(Command::Report(asked)) => work_as(rt, &asked, Work::Report(asked.staff)),
+        Ok(Command::Collect(asked)) => collect(rt, &asked),
+        Ok(Command::Report(asked)) => report(rt, &asked),
         Ok(Command::Schedule(asked)) => print_schedule(rt, &asked),
         Ok(Command::Why(asked)) => say_why(rt, asked.file.as_str()),
         Ok(Command::Audit(asked)) => say_audit(rt, asked.file.as_str(), asked.all),
+        Ok(Command::Upgrade(asked)) => upgrade(rt, &asked),
         Err(words) => refuse_words(rt, words),
     }
+}
+
+/// What is asked of the institution in a file.
+#[derive(Clone, Copy)]
+struct Wanted {
+    /// Whether a file without an institution is refused.
+    existing: bool,
+    /// Whether the institution keeps a journal: a new one begins one, and one that keeps none is refused.
+    journal: bool,
+    /// The first business day of an institution that is new.
+    day: Day,
 }
 
 /// Answers request lines over the file that is named, or over a new institution in memory.
@@ -71,12 +85,17 @@ fn batch(rt: &HostRuntime, asked: &BatchWords<'_>) -> u8
     requires { asked.now.day ≤ last_entered_day }
     ensures { IsPrintStatus result }
 {
+    let wanted = Wanted {
+        existing: asked.existing,
+        journal: asked.journal,
+        day: asked.day,
+    };
     match &asked.file {
         None => {
             tell_reading(rt);
             answer_input_in_memory(rt, asked.day)
         }
-        Some(file) => work_where(rt, file.as_str(), asked.existing, asked.day, Work::Answer),
+        Some(file) => work_where(rt, file.as_str(), wanted, Work::Answer),
     }
 }
 
@@ -90,16 +109,51 @@ fn serve(rt: &HostRuntime, asked: &ServeWords<'_>) -> u8
         connections: asked.count,
         patience: asked.patience,
     };
+    let wanted = Wanted {
+        existing: asked.existing,
+        journal: asked.journal,
+        day: asked.day,
+    };
     tell_checking(rt, asked.file.as_str());
-    work_where(rt, asked.file.as_str(), asked.existing, asked.day, work)
+    work_where(rt, asked.file.as_str(), wanted, work)
 }
 
-/// Works over a file for a member of staff; a missing file becomes a new institution on the default day, unless it is
-/// to hold one.
-fn work_as(rt: &HostRuntime, asked: &StaffWords<'_>, work: Work) -> u8
+/// Collects the sheet on standard input over a file; a missing file becomes a new institution on the default day,
+/// unless it is to hold one.
+fn collect(rt: &HostRuntime, asked: &CollectWords<'_>) -> u8
     ensures { IsPrintStatus result }
 {
-    work_where(rt, asked.file.as_str(), asked.existing, default_day(), work)
+    let wanted = Wanted {
+        existing: asked.existing,
+        journal: asked.journal,
+        day: default_day(),
+    };
+    work_where(rt, asked.file.as_str(), wanted, Work::Collect(asked.staff))
+}
+
+/// Prints the report of arrears over a file, which becomes a new institution as that of `collect` does.
+fn report(rt: &HostRuntime, asked: &StaffWords<'_>) -> u8
+    ensures { IsPrintStatus result }
+{
+    let wanted = Wanted {
+        existing: asked.existing,
+        journal: false,
+        day: default_day(),
+    };
+    work_where(rt, asked.file.as_str(), wanted, Work::Report(asked.staff))
+}
+
+/// Brings a file up to date, which must hold an institution, and begins a journal where one is asked for and none kept.
+fn upgrade(rt: &HostRuntime, asked: &UpgradeWords<'_>) -> u8
+    ensures { IsPrintStatus result }
+{
+    let wanted = Wanted {
+        existing: true,
+        journal: false,
+        day: default_day(),
+    };
+    let journal = asked.journal;
+    work_where(rt, asked.file.as_str(), wanted, Work::Upgrade { journal })
 }
 
 /// Says why a file is not opened, and gives the program's status, where opening would put a new institution in the
@@ -118,33 +172,46 @@ fn refuse_place(rt: &HostRuntime, file: &str, existing: bool) -> Option<u8>
 }
 
 /// Works over a file unless it is refused for what stands there, and gives the program's status.
-fn work_where(rt: &HostRuntime, file: &str, existing: bool, day: Day, work: Work) -> u8
-    requires { day ≤ last_entered_day }
+fn work_where(rt: &HostRuntime, file: &str, wanted: Wanted, work: Work) -> u8
+    requires { wanted.day ≤ last_entered_day }
     ensures { IsPrintStatus result }
 {
-    match refuse_place(rt, file, existing) {
+    match refuse_place(rt, file, wanted.existing) {
         Some(status) => status,
-        None => work_over(rt, file, existing, day, work),
+        None => work_over(rt, file, wanted, work),
     }
 }
 
 /// Opens a file, works over the institution that it holds, closes it, and gives the program's status. The only function
 /// that holds a store of a known type: the prover reads all of `sqlite` for each.
-fn work_over(rt: &HostRuntime, file: &str, existing: bool, day: Day, work: Work) -> u8
-    requires { day ≤ last_entered_day }
+fn work_over(rt: &HostRuntime, file: &str, wanted: Wanted, work: Work) -> u8
+    requires { wanted.day ≤ last_entered_day }
     ensures { IsPrintStatus result }
 {
     let mut following = Following::new(rt, file);
-    let opened = if existing {
-        open_existing(rt, file, &mut following)
+    let opened = if wanted.journal {
+        let founds = if wanted.existing {
+            None
+        } else {
+            Some(wanted.day)
+        };
+        open_journaled(rt, file, founds, &mut following)
+    } else if wanted.existing {
+        open_existing(rt, file, &mut following).map_err(Unjournaled::Refused)
     } else {
-        open(rt, file, day, &mut following).map_err(Refused::Failed)
+        open(rt, file, wanted.day, &mut following).map_err(failed)
     };
     match opened {
         Ok(store) => work_on(rt, file, store, work),
-        Err(Refused::NoInstitution) => tell_no_institution(rt),
-        Err(Refused::Failed(fault)) => tell_refusal(rt, fault),
+        Err(Unjournaled::NoJournal) => tell_no_journal(rt),
+        Err(Unjournaled::Refused(Refused::NoInstitution)) => tell_no_institution(rt),
+        Err(Unjournaled::Refused(Refused::Failed(fault))) => tell_refusal(rt, fault),
     }
+}
+
+/// That a file could not be opened for a fault.
+fn failed(fault: Fault) -> Unjournaled {
+    Unjournaled::Refused(Refused::Failed(fault))
 }
 
 /// Prints the schedule that the words ask for, and gives the program's status.

@@ -122,6 +122,13 @@ pub fn tell_no_institution<R: Eprint>(rt: &R) -> u8
     tell_fault(rt, "no institution")
 }
 
+/// Says that the institution in a file that is to keep a journal keeps none, and gives the program's status.
+pub fn tell_no_journal<R: Eprint>(rt: &R) -> u8
+    ensures { result ≡ 1 }
+{
+    tell_fault(rt, "no journal")
+}
+
 /// Says what failed, and gives the program's status.
 pub fn tell_cause<R: Eprint>(rt: &R, cause: Cause) -> u8
     ensures { result ≡ 1 }

@@ -7,6 +7,11 @@ use crate::telling::{FAULT, print_line};
 use mf_store_schema::{Version, has_log};
 use mf_store_sound::{Finding, look};
 
+/// What is said of a file with an institution that keeps no journal.
+pub const WITHOUT_JOURNAL: &str = "a sound institution, schema 2";
+/// What is said of a file with an institution that keeps a journal.
+pub const WITH_JOURNAL: &str = "a sound institution with a journal, schema 3";
+
 /// Says in a line what opening a file would find, and gives the program's status: 0 where it is opened as the
 /// institution that it holds. Nothing is made and nothing is changed.
 pub fn say_why(rt: &HostRuntime, file: &str) -> u8
@@ -99,10 +104,18 @@ pub fn words_of(found: Finding) -> &'static str {
         Finding::KnownTables {
             version: Version::Second,
             sound: true,
-        } => "a sound institution, schema 2",
+        } => WITHOUT_JOURNAL,
         Finding::KnownTables {
             version: Version::Second,
             sound: false,
         } => "schema 2, but no sound institution has these rows",
+        Finding::KnownTables {
+            version: Version::Third,
+            sound: true,
+        } => WITH_JOURNAL,
+        Finding::KnownTables {
+            version: Version::Third,
+            sound: false,
+        } => "schema 3, but no sound institution has these rows, or its journal is broken",
     }
 }

@@ -4,7 +4,11 @@ ghost use Rattle.std.specs.Prelude.{◌≤◌};
 ghost use Rattle.mf_base.specs.DayText.{last_entered_day};
 ghost use Rattle.microloan.specs.Status.{IsPrintStatus};
 
-use crate::telling::{print_made, tell_cause, tell_end, tell_person, tell_reading, tell_sheet};
+use crate::telling::{
+    print_line, print_made, tell_cause, tell_end, tell_person, tell_reading, tell_refusal,
+    tell_sheet,
+};
+use crate::why::{WITH_JOURNAL, WITHOUT_JOURNAL};
 use mf_base::{Cause, Day, Fault};
 use mf_office::Caller;
 use mf_store::Store;
@@ -32,6 +36,10 @@ pub enum Work {
     Collect(Caller),
     /// The report of arrears is printed, as this member of staff sees it.
     Report(Caller),
+    /// It is said what the file holds, once a journal was begun where one is asked for and none kept.
+    Upgrade {
+        journal: bool,
+    },
 }
 
 /// Works over the store of a file, closes it (`mf_store_files::close`), and gives the program's status. Where closing
@@ -56,6 +64,7 @@ pub fn work_on<D: Disk + Drop>(
         } => serve_port(rt, file, store, port, connections, patience),
         Work::Collect(staff) => collect_input(rt, store, staff),
         Work::Report(staff) => print_report(rt, store, staff),
+        Work::Upgrade { journal } => upgrade_store(rt, file, store, journal),
     }
 }
 
@@ -132,6 +141,29 @@ fn print_report<R: Print + Eprint + AllocGlobal, D: Disk + Drop>(
     let made = report(rt.alloc(), &mut store, staff);
     let_go(close(store));
     print_made(rt, made)
+}
+
+/// Begins a journal where one is asked for and none kept, says what the file holds, and gives the program's status.
+fn upgrade_store<R: Print + Eprint + AllocGlobal, D: Disk + Drop>(
+    rt: &R,
+    file: &str,
+    mut store: Store<FileStore<D>>,
+    journal: bool,
+) -> u8
+    ensures { IsPrintStatus result }
+{
+    let begun = if journal {
+        store.begin_journal(rt.alloc())
+    } else {
+        Ok(())
+    };
+    let is_journaled = store.keeps_journal();
+    let_go(close(store));
+    match begun {
+        Ok(()) if is_journaled => print_line(rt, format_args!("{file}: {WITH_JOURNAL}")),
+        Ok(()) => print_line(rt, format_args!("{file}: {WITHOUT_JOURNAL}")),
+        Err(fault) => tell_refusal(rt, fault),
+    }
 }
 
 /// Lets go of files that are closed, or of what is left of a store that could not be closed: of either, what a stop

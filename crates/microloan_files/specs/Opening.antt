@@ -1,5 +1,5 @@
 -- Which institution a file holds, and as which it is opened.
-use Rattle.std.specs.Prelude.{◌≡◌, ◌⊎◌, ℕ, None}
+use Rattle.std.specs.Prelude.{◌≡◌, ◌⊎◌, ℕ}
 use Rattle.sqlite.specs.Files.{HoldsDatabase}
 use Rattle.sqlite.specs.Tree.{Trees}
 use Rattle.sqlite_wal.specs.Recovery.{Image}
@@ -8,17 +8,18 @@ use Rattle.mf_model.specs.Sound.{IsSound}
 use Rattle.mf_store_schema.specs.Writes.{HoldsAt}
 use Rattle.mf_store_schema.specs.declared.versions.Version.{Version}
 use Rattle.mf_store_noted.specs.Tabled.{HoldsRowsOf}
+use Rattle.mf_store_sound.specs.Held.{KeepsJournalAt}
 use Rattle.mf_store_sound.specs.Schemas.{tables_at}
 use Rattle.mf_store_sound.specs.Files.{HasNoTables}
 
--- the file is a database that has the rows of this sound institution, which keeps no journal, by the tables of a
--- version, and nothing else
+-- the file is a database that has the rows of this sound institution, and its journal's, by the tables of a version,
+-- and nothing else
 pub record IsFileAt (v : Version) (image : Image) (i : Institution) : Type 0 where
   pub trees : Trees
   pub database : HoldsDatabase image trees
-  pub plain : i.journal ≡ None
   pub sound : IsSound i
   pub holds : HoldsAt v trees (tables_at v i)
+  pub keeps : KeepsJournalAt v trees i.journal
 
 -- the file is a database that has the rows of this sound institution, by today's tables, and its journal's where it
 -- keeps one, and nothing else

@@ -13,15 +13,17 @@ use Rattle.mf_office.specs.declared.caller.Caller.{Caller}
 use Rattle.microloan_words.specs.Options.{microloan_app}
 use Rattle.microloan_words.specs.declared.asked.BatchWords.{BatchWords}
 use Rattle.microloan_words.specs.declared.asked.ServeWords.{ServeWords}
+use Rattle.microloan_words.specs.declared.asked.CollectWords.{CollectWords}
 use Rattle.microloan_words.specs.declared.asked.StaffWords.{StaffWords}
 use Rattle.microloan_words.specs.declared.asked.FileWords.{FileWords}
 use Rattle.microloan_words.specs.declared.asked.AuditWords.{AuditWords}
+use Rattle.microloan_words.specs.declared.asked.UpgradeWords.{UpgradeWords}
 use Rattle.microloan_words.specs.declared.asked.ScheduleWords.{ScheduleWords}
 use Rattle.microloan_words.specs.declared.asked.Words.{Words}
 use Rattle.microloan_words.specs.declared.asked.Words.TheVariants.{Bad, Help, Version, Memory}
 use Rattle.microloan_words.specs.declared.asked.Command.{Command}
 use Rattle.microloan_words.specs.declared.asked.Command.TheVariants.{Batch, Serve, Collect, Report, Schedule, Why}
-use Rattle.microloan_words.specs.declared.asked.Command.TheVariants.{Audit}
+use Rattle.microloan_words.specs.declared.asked.Command.TheVariants.{Audit, Upgrade}
 
 -- the option's text is this number in decimal digits, and the number lies in its limits
 pub record IsNumberAt (rows : List Row) (id : Text) (least greatest number : ℕ) : Type 0 where
@@ -65,12 +67,14 @@ pub record IsCountAt (rows : List Row) (id : Text) (count : ℕ) : Type 0 where
   pub given : IsNumberAt rows id 0 most_connections number
   pub asks : connections number ≡ count
 
--- the options of `batch`: a file may be named, and must be where no new institution is to be made
+-- the options of `batch`: a file may be named, and must be where no new institution is to be made or a journal is kept
 pub record AreBatchWords (rows : List Row) (asked : BatchWords) : Type 0 where
   pub file : first_of (codes "file") rows ≡ asked.file
   pub day : IsDayAt rows (codes "day") asked.day
   pub existing : first_of (codes "existing") rows ≡ Some (flag_text asked.existing)
+  pub journal : first_of (codes "journal") rows ≡ Some (flag_text asked.journal)
   pub named : IsTrue asked.existing → is_some asked.file ≡ true
+  pub journal_named : IsTrue asked.journal → is_some asked.file ≡ true
 
 -- the options of `serve`
 pub record AreServeWords (rows : List Row) (asked : ServeWords) : Type 0 where
@@ -80,8 +84,16 @@ pub record AreServeWords (rows : List Row) (asked : ServeWords) : Type 0 where
   pub patience : IsNumberAt rows (codes "patience") 1 most_patience asked.patience
   pub day : IsDayAt rows (codes "day") asked.day
   pub existing : first_of (codes "existing") rows ≡ Some (flag_text asked.existing)
+  pub journal : first_of (codes "journal") rows ≡ Some (flag_text asked.journal)
 
--- the options of `collect` and of `report`
+-- the options of `collect`
+pub record AreCollectWords (rows : List Row) (asked : CollectWords) : Type 0 where
+  pub file : first_of (codes "file") rows ≡ Some asked.file
+  pub staff : IsCallerAt rows (codes "staff") asked.staff
+  pub existing : first_of (codes "existing") rows ≡ Some (flag_text asked.existing)
+  pub journal : first_of (codes "journal") rows ≡ Some (flag_text asked.journal)
+
+-- the options of `report`
 pub record AreStaffWords (rows : List Row) (asked : StaffWords) : Type 0 where
   pub file : first_of (codes "file") rows ≡ Some asked.file
   pub staff : IsCallerAt rows (codes "staff") asked.staff
@@ -95,6 +107,12 @@ pub record AreFileWords (rows : List Row) (asked : FileWords) : Type 0 where
 pub record AreAuditWords (rows : List Row) (asked : AuditWords) : Type 0 where
   pub file : first_of (codes "file") rows ≡ Some asked.file
   pub all : first_of (codes "all") rows ≡ Some (flag_text asked.all)
+
+-- the options of `upgrade`
+pub record AreUpgradeWords (rows : List Row) (asked : UpgradeWords) : Type 0 where
+  pub file : first_of (codes "file") rows ≡ Some asked.file
+  pub existing : first_of (codes "existing") rows ≡ Some (flag_text asked.existing)
+  pub journal : first_of (codes "journal") rows ≡ Some (flag_text asked.journal)
 
 -- the options of `schedule`
 pub record AreScheduleWords (rows : List Row) (asked : ScheduleWords) : Type 0 where
@@ -136,6 +154,7 @@ HasLimits (Report asked) = IsCaller asked.staff
 HasLimits (Schedule asked) = IsWithinLimits asked
 HasLimits (Why asked) = Unit {0}
 HasLimits (Audit asked) = Unit {0}
+HasLimits (Upgrade asked) = Unit {0}
 
 -- the name of a command
 abbrev pub name_of : Command → Text
@@ -146,16 +165,18 @@ name_of (Report asked) = codes "report"
 name_of (Schedule asked) = codes "schedule"
 name_of (Why asked) = codes "why"
 name_of (Audit asked) = codes "audit"
+name_of (Upgrade asked) = codes "upgrade"
 
 -- the options are those of the command
 abbrev pub AreWords : List Row → Command → Type 0
 AreWords rows (Batch asked) = AreBatchWords rows asked
 AreWords rows (Serve asked) = AreServeWords rows asked
-AreWords rows (Collect asked) = AreStaffWords rows asked
+AreWords rows (Collect asked) = AreCollectWords rows asked
 AreWords rows (Report asked) = AreStaffWords rows asked
 AreWords rows (Schedule asked) = AreScheduleWords rows asked
 AreWords rows (Why asked) = AreFileWords rows asked
 AreWords rows (Audit asked) = AreAuditWords rows asked
+AreWords rows (Upgrade asked) = AreUpgradeWords rows asked
 
 -- what a command and its options ask for, where `clap` found them
 abbrev pub IsAskedIn : Option (Text × List Row) → Command → Type 0

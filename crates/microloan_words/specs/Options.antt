@@ -47,6 +47,7 @@ batch_app = app_with (codes "batch") (
     option_rule (codes "file")
     ∷ default_rule (codes "day") (codes "2024-01-01")
     ∷ flag_rule (codes "existing")
+    ∷ flag_rule (codes "journal")
     ∷ [])
 
 -- `serve` with its options
@@ -58,12 +59,25 @@ serve_app = app_with (codes "serve") (
     ∷ default_rule (codes "patience") (codes "10")
     ∷ default_rule (codes "day") (codes "2024-01-01")
     ∷ flag_rule (codes "existing")
+    ∷ flag_rule (codes "journal")
     ∷ [])
 
--- a command over a file, asked for by a member of staff
-abbrev pub staff_app : Text → App
-staff_app name =
-    app_with name (required_rule (codes "file") ∷ required_rule (codes "staff") ∷ flag_rule (codes "existing") ∷ [])
+-- `collect` with its options
+abbrev pub collect_app : App
+collect_app = app_with (codes "collect") (
+    required_rule (codes "file")
+    ∷ required_rule (codes "staff")
+    ∷ flag_rule (codes "existing")
+    ∷ flag_rule (codes "journal")
+    ∷ [])
+
+-- `report` with its options
+abbrev pub report_app : App
+report_app = app_with (codes "report") (
+    required_rule (codes "file")
+    ∷ required_rule (codes "staff")
+    ∷ flag_rule (codes "existing")
+    ∷ [])
 
 -- a command over a file alone
 abbrev pub file_app : Text → App
@@ -72,6 +86,14 @@ file_app name = app_with name (required_rule (codes "file") ∷ [])
 -- `audit` with its options
 abbrev pub audit_app : App
 audit_app = app_with (codes "audit") (required_rule (codes "file") ∷ flag_rule (codes "all") ∷ [])
+
+-- `upgrade` with its options
+abbrev pub upgrade_app : App
+upgrade_app = app_with (codes "upgrade") (
+    required_rule (codes "file")
+    ∷ flag_rule (codes "existing")
+    ∷ flag_rule (codes "journal")
+    ∷ [])
 
 -- `schedule` with its options
 abbrev pub schedule_app : App
@@ -99,9 +121,9 @@ bare_app =
 -- the program with the commands over an institution
 abbrev pub desk_app : App
 desk_app = with_subcommand (with_subcommand (with_subcommand (with_subcommand bare_app batch_app.top) serve_app.top)
-    (staff_app (codes "collect")).top) (staff_app (codes "report")).top
+    collect_app.top) report_app.top
 
 -- the program with its commands
 abbrev pub microloan_app : App
-microloan_app = with_subcommand (with_subcommand (with_subcommand desk_app schedule_app.top)
-    (file_app (codes "why")).top) audit_app.top
+microloan_app = with_subcommand (with_subcommand (with_subcommand (with_subcommand desk_app schedule_app.top)
+    (file_app (codes "why")).top) audit_app.top) upgrade_app.top

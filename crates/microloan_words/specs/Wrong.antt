@@ -9,10 +9,10 @@ use Rattle.mf_catalog.specs.declared.terms.Method.{Method}
 use Rattle.mf_office.specs.declared.caller.Caller.{Caller}
 use Rattle.microloan_words.specs.Asked.{IsNumberAt, IsDayAt, IsCallerAt, IsCountAt, flag_text, most_patience}
 use Rattle.microloan_words.specs.declared.reading.Wrong.{Wrong}
-use Rattle.microloan_words.specs.declared.reading.Wrong.TheVariants.{File, Existing, All, Port, Count, Patience, Staff}
-use Rattle.microloan_words.specs.declared.reading.Wrong.TheVariants.{Method as MethodOption, Principal, Rate, Periods}
-use Rattle.microloan_words.specs.declared.reading.Wrong.TheVariants.{Day, Frequency, Every, PrincipalGrace}
-use Rattle.microloan_words.specs.declared.reading.Wrong.TheVariants.{InterestGrace}
+use Rattle.microloan_words.specs.declared.reading.Wrong.TheVariants.{File, Existing, Journal, All, Port, Count}
+use Rattle.microloan_words.specs.declared.reading.Wrong.TheVariants.{Patience, Staff, Method as MethodOption, Principal}
+use Rattle.microloan_words.specs.declared.reading.Wrong.TheVariants.{Rate, Periods, Day, Frequency, Every}
+use Rattle.microloan_words.specs.declared.reading.Wrong.TheVariants.{PrincipalGrace, InterestGrace}
 
 -- a flag is given or not
 abbrev pub IsFlag : List Row → Text → Type 0
@@ -26,6 +26,7 @@ IsSomeNumber rows id least greatest = (number : ℕ) × IsNumberAt rows id least
 abbrev pub IsRight : List Row → Wrong → Type 0
 IsRight rows File = (path : Text) × (first_of (codes "file") rows ≡ Some path)
 IsRight rows Existing = IsFlag rows (codes "existing")
+IsRight rows Journal = IsFlag rows (codes "journal")
 IsRight rows All = IsFlag rows (codes "all")
 IsRight rows Port = IsSomeNumber rows (codes "port") 1 65535
 IsRight rows Count = (count : ℕ) × IsCountAt rows (codes "count") count
@@ -50,9 +51,13 @@ IsFirstWrong rows (option ∷ options) wrong =
 
 -- the options of `serve`, in the order in which a wrong one is told
 abbrev pub serve_options : List Wrong
-serve_options = File ∷ Port ∷ Count ∷ Patience ∷ Day ∷ Existing ∷ []
+serve_options = File ∷ Port ∷ Count ∷ Patience ∷ Day ∷ Existing ∷ Journal ∷ []
 
--- of `collect` and `report`
+-- of `collect`
+abbrev pub collect_options : List Wrong
+collect_options = File ∷ Staff ∷ Existing ∷ Journal ∷ []
+
+-- of `report`
 abbrev pub staff_options : List Wrong
 staff_options = File ∷ Staff ∷ Existing ∷ []
 
@@ -64,19 +69,26 @@ file_options = File ∷ []
 abbrev pub audit_options : List Wrong
 audit_options = File ∷ All ∷ []
 
+-- of `upgrade`
+abbrev pub upgrade_options : List Wrong
+upgrade_options = File ∷ Existing ∷ Journal ∷ []
+
 -- of `schedule`
 abbrev pub schedule_options : List Wrong
 schedule_options = MethodOption ∷ Principal ∷ Rate ∷ Periods ∷ Day ∷ Frequency ∷ Every ∷ PrincipalGrace ∷ InterestGrace
     ∷ []
 
--- of `batch`, these; and then the flag that asks for a file, where none is named
+-- of `batch`, these; and then the first flag that wants a file, where none is named
 abbrev pub batch_options : List Wrong
-batch_options = Day ∷ Existing ∷ []
+batch_options = Day ∷ Existing ∷ Journal ∷ []
 
--- the flag that asks for an existing file stands there, and no file is named
-abbrev pub WantsFile : List Row → Type 0
-WantsFile rows = (first_of (codes "existing") rows ≡ Some (codes "true")) × (¬ IsRight rows File)
+-- the flag stands there, and no file is named
+abbrev pub WantsFile : List Row → Text → Type 0
+WantsFile rows id = (first_of id rows ≡ Some (codes "true")) × (¬ IsRight rows File)
 
+-- the option of `batch` that is told to be wrong
 abbrev pub IsBatchWrong : List Row → Wrong → Type 0
-IsBatchWrong rows wrong = IsFirstWrong rows batch_options wrong ⊎ (IsRight rows Day × WantsFile rows
-    × (wrong ≡ Existing))
+IsBatchWrong rows wrong = IsFirstWrong rows batch_options wrong
+    ⊎ (IsRight rows Day × IsRight rows Journal × WantsFile rows (codes "existing") × (wrong ≡ Existing))
+    ⊎ (IsRight rows Day × (first_of (codes "existing") rows ≡ Some (codes "false"))
+    × WantsFile rows (codes "journal") × (wrong ≡ Journal))

@@ -14,7 +14,7 @@ pub enum Command<'a> {
     /// Answer HTTP messages, one a connection.
     Serve(ServeWords<'a>),
     /// Answer the collection sheet on standard input, and write the sheet of its results.
-    Collect(StaffWords<'a>),
+    Collect(CollectWords<'a>),
     /// Print the report of arrears.
     Report(StaffWords<'a>),
     /// Print a schedule.
@@ -23,6 +23,8 @@ pub enum Command<'a> {
     Why(FileWords<'a>),
     /// Say what the institution in a file comes to, or which row of it breaks which condition.
     Audit(AuditWords<'a>),
+    /// Bring the file of an institution to today's schema, and begin a journal.
+    Upgrade(UpgradeWords<'a>),
 }
 
 /// The path of a file, as it stands in the words. Contracts see its bytes.
@@ -66,6 +68,9 @@ pub struct BatchWords<'a> {
     pub day: Day,
     /// Whether a file without an institution is refused. Then a file is named.
     pub existing: bool,
+    /// Whether the institution keeps a journal: a new one begins one, and a file whose institution keeps none is
+    /// refused. Then a file is named.
+    pub journal: bool,
 }
 
 /// The options of `serve`.
@@ -83,9 +88,26 @@ pub struct ServeWords<'a> {
     pub day: Day,
     /// Whether a file without an institution is refused.
     pub existing: bool,
+    /// Whether the institution keeps a journal: a new one begins one, and a file whose institution keeps none is
+    /// refused.
+    pub journal: bool,
 }
 
-/// The options of `collect` and of `report`.
+/// The options of `collect`.
+#[derive(Drop)]
+pub struct CollectWords<'a> {
+    /// The file that holds the institution.
+    pub file: FilePath<'a>,
+    /// The member of staff who asks.
+    pub staff: Caller,
+    /// Whether a file without an institution is refused.
+    pub existing: bool,
+    /// Whether the institution keeps a journal: a new one begins one, and a file whose institution keeps none is
+    /// refused.
+    pub journal: bool,
+}
+
+/// The options of `report`.
 #[derive(Drop)]
 pub struct StaffWords<'a> {
     /// The file that holds the institution.
@@ -110,6 +132,17 @@ pub struct AuditWords<'a> {
     pub file: FilePath<'a>,
     /// Whether each row that breaks a condition is told, and not the first alone.
     pub all: bool,
+}
+
+/// The options of `upgrade`.
+#[derive(Drop)]
+pub struct UpgradeWords<'a> {
+    /// The file that holds the institution.
+    pub file: FilePath<'a>,
+    /// Whether `--existing` is given. A file without an institution is refused either way.
+    pub existing: bool,
+    /// Whether a journal is begun, where the institution keeps none.
+    pub journal: bool,
 }
 
 /// The options of `schedule`.

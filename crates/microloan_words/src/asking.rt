@@ -11,7 +11,8 @@ ghost use Rattle.microloan_words.specs.declared.asked.Command.{Command};
 use crate::asked::{Command, Words};
 use crate::options::microloan_command;
 use crate::reading::{
-    audit_words, batch_words, file_words, schedule_words, serve_words, staff_words,
+    audit_words, batch_words, collect_words, file_words, schedule_words, serve_words, staff_words,
+    upgrade_words,
 };
 use crate::refusal::{no_command, refused_by_clap, wrong_option};
 use clap::error::ErrorKind;
@@ -60,7 +61,7 @@ fn serve_asked<'a>(alloc: Global, options: &ArgMatches<'a>) -> Result<Command<'a
 fn collect_asked<'a>(alloc: Global, options: &ArgMatches<'a>) -> Result<Command<'a>, Words>
     ensures { Reads (Some (codes "collect", rows_of (found_of options.now))) result }
 {
-    match staff_words(options) {
+    match collect_words(options) {
         Ok(asked) => Ok(Command::Collect(asked)),
         Err(wrong) => Err(wrong_option(alloc, "collect", wrong)),
     }
@@ -102,6 +103,15 @@ fn audit_asked<'a>(alloc: Global, options: &ArgMatches<'a>) -> Result<Command<'a
     }
 }
 
+fn upgrade_asked<'a>(alloc: Global, options: &ArgMatches<'a>) -> Result<Command<'a>, Words>
+    ensures { Reads (Some (codes "upgrade", rows_of (found_of options.now))) result }
+{
+    match upgrade_words(options) {
+        Ok(asked) => Ok(Command::Upgrade(asked)),
+        Err(wrong) => Err(wrong_option(alloc, "upgrade", wrong)),
+    }
+}
+
 /// What the command asks for that `clap` found.
 fn command_asked<'a>(alloc: Global, matches: &ArgMatches<'a>) -> Result<Command<'a>, Words>
     ensures { Reads (subcommand_rows_of matches.now) result }
@@ -124,8 +134,11 @@ fn command_asked<'a>(alloc: Global, matches: &ArgMatches<'a>) -> Result<Command<
     if let Some(options) = options_of(matches, "why") {
         return why_asked(alloc, options);
     }
-    match options_of(matches, "audit") {
-        Some(options) => audit_asked(alloc, options),
+    if let Some(options) = options_of(matches, "audit") {
+        return audit_asked(alloc, options);
+    }
+    match options_of(matches, "upgrade") {
+        Some(options) => upgrade_asked(alloc, options),
         None => Err(no_command(alloc)),
     }
 }

@@ -9,7 +9,8 @@ mod refusal;
 mod values;
 
 pub use asked::{
-    BatchWords, Command, FilePath, FileWords, ScheduleWords, ServeWords, StaffWords, Words,
+    BatchWords, CollectWords, Command, FilePath, FileWords, ScheduleWords, ServeWords, StaffWords,
+    UpgradeWords, Words,
 };
 pub use asking::command;
 pub use values::default_day;

@@ -3,15 +3,16 @@
 ghost use Rattle.std.specs.Prelude.{◌≡◌, codes, IfOk, false, fold};
 ghost use Rattle.clap.specs.Words.{App, app_of, rule_of, new_app, with_subcommand};
 ghost use Rattle.clap.specs.declared.Command.TheViews.{out-Command as fields_of};
-ghost use Rattle.microloan_words.specs.Options.{rule_for, with_declared, batch_app, serve_app, staff_app, schedule_app};
-ghost use Rattle.microloan_words.specs.Options.{file_app, audit_app, bare_app, desk_app, microloan_app};
+ghost use Rattle.microloan_words.specs.Options.{rule_for, with_declared, batch_app, serve_app, collect_app, report_app};
+ghost use Rattle.microloan_words.specs.Options.{schedule_app, file_app, audit_app, upgrade_app, bare_app, desk_app};
+ghost use Rattle.microloan_words.specs.Options.{microloan_app};
 
 use crate::values::DEFAULT_DAY;
 use clap::{Arg, ArgAction, Command};
 use std::alloc::{AllocError, Global};
 
 /// This release, and the schema of the files that it writes.
-const VERSION: &str = "1.3.7 (schema 2)";
+const VERSION: &str = "1.4.0 (schema 2)";
 
 /// Whether an option must be given, has a text that stands where it isn't, or is a flag.
 pub(crate) enum Need {
@@ -54,8 +55,16 @@ const EXISTING: CommandOption = CommandOption {
     need: Need::Flag,
 };
 
+/// That the institution keeps a journal.
+const JOURNAL: CommandOption = CommandOption {
+    id: "journal",
+    value_name: "",
+    help: "Ask for a journal; a new institution gets one",
+    need: Need::Flag,
+};
+
 /// The options of `batch`.
-const BATCH_OPTIONS: [CommandOption; 3] = [
+const BATCH_OPTIONS: [CommandOption; 4] = [
     CommandOption {
         id: "file",
         value_name: "PATH",
@@ -64,10 +73,11 @@ const BATCH_OPTIONS: [CommandOption; 3] = [
     },
     FIRST_DAY,
     EXISTING,
+    JOURNAL,
 ];
 
 /// The options of `serve`.
-const SERVE_OPTIONS: [CommandOption; 6] = [
+const SERVE_OPTIONS: [CommandOption; 7] = [
     FILE,
     CommandOption {
         id: "port",
@@ -89,19 +99,22 @@ const SERVE_OPTIONS: [CommandOption; 6] = [
     },
     FIRST_DAY,
     EXISTING,
+    JOURNAL,
 ];
 
-/// The options of a command over a file that a member of staff asks for.
-const STAFF_OPTIONS: [CommandOption; 3] = [
-    FILE,
-    CommandOption {
-        id: "staff",
-        value_name: "STAFF",
-        help: "Who asks: an office, a slash and a member of its staff",
-        need: Need::Required,
-    },
-    EXISTING,
-];
+/// The member of staff who asks.
+const STAFF: CommandOption = CommandOption {
+    id: "staff",
+    value_name: "STAFF",
+    help: "Who asks: an office, a slash and a member of its staff",
+    need: Need::Required,
+};
+
+/// The options of `collect`.
+const COLLECT_OPTIONS: [CommandOption; 4] = [FILE, STAFF, EXISTING, JOURNAL];
+
+/// The options of `report`.
+const REPORT_OPTIONS: [CommandOption; 3] = [FILE, STAFF, EXISTING];
 
 /// The options of a command over a file that no member of staff asks for.
 const FILE_OPTIONS: [CommandOption; 1] = [FILE];
@@ -113,6 +126,18 @@ const AUDIT_OPTIONS: [CommandOption; 2] = [
         id: "all",
         value_name: "",
         help: "Tell each row that breaks a condition",
+        need: Need::Flag,
+    },
+];
+
+/// The options of `upgrade`.
+const UPGRADE_OPTIONS: [CommandOption; 3] = [
+    FILE,
+    EXISTING,
+    CommandOption {
+        id: "journal",
+        value_name: "",
+        help: "Begin a journal, where the institution keeps none",
         need: Need::Flag,
     },
 ];
@@ -272,7 +297,7 @@ fn serve_command<'a>(alloc: Global) -> Result<Command<'a>, AllocError>
 
 /// The command `collect`.
 fn collect_command<'a>(alloc: Global) -> Result<Command<'a>, AllocError>
-    ensures app { IfOk result (λ c. app_of c ≡ staff_app (codes "collect")) }
+    ensures app { IfOk result (λ c. app_of c ≡ collect_app) }
     ensures local { IfOk result (λ c. (fields_of c).has_globals ≡ false) }
 {
     let command = command_with_help(
@@ -284,12 +309,12 @@ fn collect_command<'a>(alloc: Global) -> Result<Command<'a>, AllocError>
          entered, repeated or the number of a refusal. A sheet may be sent again.\n\n\
          Example:\n  microloan collect --file desk.db --staff 1/1 < sheet.csv > results.csv",
     );
-    with_options(alloc, command, STAFF_OPTIONS.as_slice())
+    with_options(alloc, command, COLLECT_OPTIONS.as_slice())
 }
 
 /// The command `report`.
 fn report_command<'a>(alloc: Global) -> Result<Command<'a>, AllocError>
-    ensures app { IfOk result (λ c. app_of c ≡ staff_app (codes "report")) }
+    ensures app { IfOk result (λ c. app_of c ≡ report_app) }
     ensures local { IfOk result (λ c. (fields_of c).has_globals ≡ false) }
 {
     let command = command_with_help(
@@ -301,7 +326,7 @@ fn report_command<'a>(alloc: Global) -> Result<Command<'a>, AllocError>
          principal, then that of loans 1-30, 31-60, 61-90 and over 90 days overdue, and\n\
          the percentage more than 30 days overdue.\n\nExample:\n  microloan report --file desk.db --staff 1/1",
     );
-    with_options(alloc, command, STAFF_OPTIONS.as_slice())
+    with_options(alloc, command, REPORT_OPTIONS.as_slice())
 }
 
 /// `schedule` with its texts and no options.
@@ -371,6 +396,23 @@ fn audit_command<'a>(alloc: Global) -> Result<Command<'a>, AllocError>
     with_options(alloc, command, AUDIT_OPTIONS.as_slice())
 }
 
+/// The command `upgrade`.
+fn upgrade_command<'a>(alloc: Global) -> Result<Command<'a>, AllocError>
+    ensures app { IfOk result (λ c. app_of c ≡ upgrade_app) }
+    ensures local { IfOk result (λ c. (fields_of c).has_globals ≡ false) }
+{
+    let command = command_with_help(
+        alloc,
+        "upgrade",
+        "Bring a file up to date, or give it a journal",
+        "A file of schema 1 becomes one of schema 2. With --journal, an institution that\n\
+         keeps no journal gets one, in one commit, and its file is of schema 3.\n\n\
+         Older programs refuse the file afterwards: back it up before.\n\n\
+         Example:\n  microloan upgrade --file desk.db --journal",
+    );
+    with_options(alloc, command, UPGRADE_OPTIONS.as_slice())
+}
+
 /// The program with one more command. That may have failed to be made, so that it is this call alone that drops a
 /// program.
 fn with_command<'a>(
@@ -422,5 +464,6 @@ pub(crate) fn microloan_command<'a>(alloc: Global) -> Result<Command<'a>, AllocE
 {
     let program = with_command(desk_program(alloc)?, schedule_command(alloc))?;
     let program = with_command(program, why_command(alloc))?;
-    with_command(program, audit_command(alloc))
+    let program = with_command(program, audit_command(alloc))?;
+    with_command(program, upgrade_command(alloc))
 }

@@ -3,20 +3,26 @@
 ghost use Rattle.std.specs.Prelude.{◌≡◌, ◌≤◌, IfOk, IfErr};
 ghost use Rattle.clap.specs.Words.{found_of, rows_of};
 ghost use Rattle.mf_base.specs.DayText.{last_entered_day};
-ghost use Rattle.microloan_words.specs.Asked.{AreBatchWords, AreServeWords, AreStaffWords, AreFileWords, AreAuditWords};
-ghost use Rattle.microloan_words.specs.Asked.{AreScheduleWords, IsWithinLimits};
-ghost use Rattle.microloan_words.specs.Asked.{IsServeWithinLimits};
-ghost use Rattle.microloan_words.specs.Wrong.{IsFirstWrong, IsBatchWrong, serve_options, staff_options, file_options};
-ghost use Rattle.microloan_words.specs.Wrong.{audit_options, schedule_options};
+ghost use Rattle.microloan_words.specs.Asked.{AreBatchWords, AreServeWords, AreCollectWords, AreStaffWords};
+ghost use Rattle.microloan_words.specs.Asked.{AreFileWords, AreAuditWords, AreScheduleWords, IsWithinLimits};
+ghost use Rattle.microloan_words.specs.Asked.{IsServeWithinLimits, AreUpgradeWords};
+ghost use Rattle.microloan_words.specs.Wrong.{IsFirstWrong, IsBatchWrong, serve_options, collect_options};
+ghost use Rattle.microloan_words.specs.Wrong.{staff_options, file_options, audit_options, schedule_options};
+ghost use Rattle.microloan_words.specs.Wrong.{upgrade_options};
 ghost use Rattle.mf_office.specs.Texts.{IsCaller};
 ghost use Rattle.microloan_words.specs.declared.asked.BatchWords.{BatchWords};
 ghost use Rattle.microloan_words.specs.declared.asked.ServeWords.{ServeWords};
+ghost use Rattle.microloan_words.specs.declared.asked.CollectWords.{CollectWords};
 ghost use Rattle.microloan_words.specs.declared.asked.StaffWords.{StaffWords};
 ghost use Rattle.microloan_words.specs.declared.asked.FileWords.{FileWords};
 ghost use Rattle.microloan_words.specs.declared.asked.AuditWords.{AuditWords};
+ghost use Rattle.microloan_words.specs.declared.asked.UpgradeWords.{UpgradeWords};
 ghost use Rattle.microloan_words.specs.declared.asked.ScheduleWords.{ScheduleWords};
 
-use crate::asked::{AuditWords, BatchWords, FileWords, ScheduleWords, ServeWords, StaffWords};
+use crate::asked::{
+    AuditWords, BatchWords, CollectWords, FileWords, ScheduleWords, ServeWords, StaffWords,
+    UpgradeWords,
+};
 use crate::values::{
     MOST_PATIENCE, connections_at, count_at, day_at, file_at, flag_at, frequency_at, method_at,
     number_at, port_at, staff_at,
@@ -29,6 +35,7 @@ use mf_catalog::{GREATEST_AMOUNT, GREATEST_RATE, MOST_GRACE, MOST_PERIODS, longe
 pub(crate) enum Wrong {
     File,
     Existing,
+    Journal,
     All,
     Port,
     Count,
@@ -55,13 +62,18 @@ pub(crate) fn batch_words<'a>(options: &ArgMatches<'a>) -> Result<BatchWords<'a>
     let file = file_at(options);
     let day = day_at(options, "day").ok_or(Wrong::Day)?;
     let existing = flag_at(options, "existing").ok_or(Wrong::Existing)?;
+    let journal = flag_at(options, "journal").ok_or(Wrong::Journal)?;
     if existing && file.is_none() {
         return Err(Wrong::Existing);
+    }
+    if journal && file.is_none() {
+        return Err(Wrong::Journal);
     }
     Ok(BatchWords {
         file,
         day,
         existing,
+        journal,
     })
 }
 
@@ -78,6 +90,7 @@ pub(crate) fn serve_words<'a>(options: &ArgMatches<'a>) -> Result<ServeWords<'a>
     let patience = count_at(options, "patience", 1, MOST_PATIENCE).ok_or(Wrong::Patience)?;
     let day = day_at(options, "day").ok_or(Wrong::Day)?;
     let existing = flag_at(options, "existing").ok_or(Wrong::Existing)?;
+    let journal = flag_at(options, "journal").ok_or(Wrong::Journal)?;
     Ok(ServeWords {
         file,
         port,
@@ -85,10 +98,36 @@ pub(crate) fn serve_words<'a>(options: &ArgMatches<'a>) -> Result<ServeWords<'a>
         patience,
         day,
         existing,
+        journal,
     })
 }
 
-/// The options of `collect` or `report`, or the first that isn't what it should be.
+/// The options of `collect`, or the first that isn't what it should be.
+pub(crate) fn collect_words<'a>(options: &ArgMatches<'a>) -> Result<CollectWords<'a>, Wrong>
+    ensures read { IfOk result (λ asked. AreCollectWords (rows_of (found_of options.now)) asked) }
+    ensures limits { IfOk result (λ asked. IsCaller asked.staff) }
+    ensures every { (asked : CollectWords) → AreCollectWords (rows_of (found_of options.now)) asked
+        → result ≡ Ok asked }
+    ensures wrong { IfErr result (IsFirstWrong (rows_of (found_of options.now)) collect_options) }
+{
+    let StaffWords {
+        file,
+        staff,
+        existing,
+    } = match staff_words(options) {
+        Ok(asked) => asked,
+        Err(wrong) => return Err(wrong),
+    };
+    let journal = flag_at(options, "journal").ok_or(Wrong::Journal)?;
+    Ok(CollectWords {
+        file,
+        staff,
+        existing,
+        journal,
+    })
+}
+
+/// The options of `report`, or the first that isn't what it should be.
 pub(crate) fn staff_words<'a>(options: &ArgMatches<'a>) -> Result<StaffWords<'a>, Wrong>
     ensures read { IfOk result (λ asked. AreStaffWords (rows_of (found_of options.now)) asked) }
     ensures limits { IfOk result (λ asked. IsCaller asked.staff) }
@@ -126,6 +165,23 @@ pub(crate) fn audit_words<'a>(options: &ArgMatches<'a>) -> Result<AuditWords<'a>
     let file = file_at(options).ok_or(Wrong::File)?;
     let all = flag_at(options, "all").ok_or(Wrong::All)?;
     Ok(AuditWords { file, all })
+}
+
+/// The options of `upgrade`, or the first that isn't what it should be.
+pub(crate) fn upgrade_words<'a>(options: &ArgMatches<'a>) -> Result<UpgradeWords<'a>, Wrong>
+    ensures read { IfOk result (λ asked. AreUpgradeWords (rows_of (found_of options.now)) asked) }
+    ensures every { (asked : UpgradeWords) → AreUpgradeWords (rows_of (found_of options.now)) asked
+        → result ≡ Ok asked }
+    ensures wrong { IfErr result (IsFirstWrong (rows_of (found_of options.now)) upgrade_options) }
+{
+    let file = file_at(options).ok_or(Wrong::File)?;
+    let existing = flag_at(options, "existing").ok_or(Wrong::Existing)?;
+    let journal = flag_at(options, "journal").ok_or(Wrong::Journal)?;
+    Ok(UpgradeWords {
+        file,
+        existing,
+        journal,
+    })
 }
 
 /// The options of `schedule`, or the first that isn't what it should be.

@@ -16,6 +16,7 @@ fn wants(wrong: Wrong) -> &'static str {
     match wrong {
         Wrong::File => "--file wants the path of a file",
         Wrong::Existing => "--existing wants the --file that holds the institution",
+        Wrong::Journal => "--journal wants the --file that holds the institution",
         Wrong::All => "--all has no value",
         Wrong::Port => "--port wants a number from 1 to 65535",
         Wrong::Count => "--count wants a number of connections, or 0 for no end",
@@ -110,7 +111,8 @@ fn owed_text(
     match owed {
         Owed::Help | Owed::Version => format!(in alloc; "{error}"),
         Owed::NoCommand => format!(in alloc;
-            "microloan: name a command: batch, serve, collect, report, schedule, why or audit; see 'microloan --help'"
+            "microloan: name a command: batch, serve, collect, report, schedule, why, audit or upgrade; \
+             see 'microloan --help'"
         ),
         Owed::Wrong => one_line(alloc, words, error),
     }
@@ -147,6 +149,7 @@ fn help_on(words: &[String]) -> &'static str {
         "schedule" => "microloan schedule --help",
         "why" => "microloan why --help",
         "audit" => "microloan audit --help",
+        "upgrade" => "microloan upgrade --help",
         _ => "microloan --help",
     }
 }

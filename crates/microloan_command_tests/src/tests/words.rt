@@ -85,6 +85,7 @@ fn reads_a_batch(rt: HostRuntime) -> Result<(), Fail> {
     };
     assert!(rt; asked.file.is_none());
     assert!(rt; !asked.existing);
+    assert!(rt; !asked.journal);
     assert_eq!(rt; Some(asked.day), Day::parse(b"2024-01-01"));
     let words = words_of(
         alloc,
@@ -94,9 +95,16 @@ fn reads_a_batch(rt: HostRuntime) -> Result<(), Fail> {
         return Err(Fail::from("a batch"));
     };
     assert!(rt; asked.existing);
+    assert!(rt; !asked.journal);
     assert_eq!(rt; Some(asked.day), Day::parse(b"2024-01-31"));
     let file = asked.file.ok_or("a file")?;
     assert_eq!(rt; file.as_str(), "desk.db");
+    let words = words_of(alloc, "microloan batch --journal --file desk.db")?;
+    let Ok(Command::Batch(asked)) = command(alloc, &words) else {
+        return Err(Fail::from("a batch"));
+    };
+    assert!(rt; !asked.existing);
+    assert!(rt; asked.journal);
     Ok(())
 }
 
@@ -108,6 +116,7 @@ fn reads_what_is_served(rt: HostRuntime) -> Result<(), Fail> {
         return Err(Fail::from("a server"));
     };
     assert_eq!(rt; asked.file.as_str(), "desk.db");
+    assert!(rt; !asked.journal);
     assert_eq!(rt; asked.port, 65535);
     assert_eq!(rt; asked.count, u64::MAX);
     assert_eq!(rt; asked.patience, 10);
@@ -125,12 +134,13 @@ fn reads_what_is_served(rt: HostRuntime) -> Result<(), Fail> {
     assert_eq!(rt; Some(asked.day), Day::parse(b"2099-12-31"));
     let words = words_of(
         alloc,
-        "microloan serve --existing --file desk.db --port 80 --count 7 --patience 1",
+        "microloan serve --existing --journal --file desk.db --port 80 --count 7 --patience 1",
     )?;
     let Ok(Command::Serve(asked)) = command(alloc, &words) else {
         return Err(Fail::from("a server"));
     };
     assert!(rt; asked.existing);
+    assert!(rt; asked.journal);
     assert_eq!(rt; asked.count, 7);
     assert_eq!(rt; asked.patience, 1);
     Ok(())
@@ -146,6 +156,16 @@ fn reads_who_asks(rt: HostRuntime) -> Result<(), Fail> {
     assert_eq!(rt; asked.file.as_str(), "desk.db");
     assert_eq!(rt; Some(asked.staff), Caller::parse(b"2/1"));
     assert!(rt; !asked.existing);
+    assert!(rt; !asked.journal);
+    let words = words_of(
+        alloc,
+        "microloan collect --journal --file desk.db --staff 2/1",
+    )?;
+    let Ok(Command::Collect(asked)) = command(alloc, &words) else {
+        return Err(Fail::from("a collection"));
+    };
+    assert!(rt; !asked.existing);
+    assert!(rt; asked.journal);
     let words = words_of(
         alloc,
         "microloan report --staff 9999/9999 --file desk.db --existing",
@@ -181,11 +201,36 @@ fn reads_which_file_to_look_into(rt: HostRuntime) -> Result<(), Fail> {
     Ok(())
 }
 
+#[test]
+fn reads_which_file_to_upgrade(rt: HostRuntime) -> Result<(), Fail> {
+    let alloc = rt.alloc();
+    for (line, existing, journal) in [
+        ("microloan upgrade --file desk.db", false, false),
+        ("microloan upgrade --file desk.db --journal", false, true),
+        ("microloan upgrade --existing --file desk.db", true, false),
+        (
+            "microloan upgrade --journal --existing --file=desk.db",
+            true,
+            true,
+        ),
+    ] {
+        let words = words_of(alloc, line)?;
+        let Ok(Command::Upgrade(asked)) = command(alloc, &words) else {
+            return Err(Fail::from("a file to upgrade"));
+        };
+        assert_eq!(rt; asked.file.as_str(), "desk.db");
+        assert_eq!(rt; asked.existing, existing);
+        assert_eq!(rt; asked.journal, journal);
+    }
+    Ok(())
+}
+
 /// Words that are wrong, and what is said of them.
-const WRONG: [(&str, &str); 18] = [
+const WRONG: [(&str, &str); 20] = [
     (
         "microloan",
-        "microloan: name a command: batch, serve, collect, report, schedule, why or audit; see 'microloan --help'",
+        "microloan: name a command: batch, serve, collect, report, schedule, why, audit or upgrade; \
+         see 'microloan --help'",
     ),
     (
         "microloan schedule --method flat --principal 0 --rate 1200 --periods 3 --day 2024-01-31",
@@ -209,6 +254,14 @@ const WRONG: [(&str, &str); 18] = [
     ),
     (
         "microloan batch --existing",
+        "microloan: --existing wants the --file that holds the institution; see 'microloan batch --help'",
+    ),
+    (
+        "microloan batch --journal",
+        "microloan: --journal wants the --file that holds the institution; see 'microloan batch --help'",
+    ),
+    (
+        "microloan batch --journal --existing",
         "microloan: --existing wants the --file that holds the institution; see 'microloan batch --help'",
     ),
     (
@@ -267,17 +320,29 @@ fn says_what_is_wanted(rt: HostRuntime) -> Result<(), Fail> {
 }
 
 /// Words that are wrong, a part of what is said of them, and the command whose help it names.
-const UNCLEAR: [(&str, &str, &str); 8] = [
+const UNCLEAR: [(&str, &str, &str); 12] = [
     ("microloan serve --port 80", "--file", "serve "),
     ("microloan serve --file f", "--port", "serve "),
     ("microloan collect --staff 1/1", "--file", "collect "),
     ("microloan collect --file f", "--staff", "collect "),
     ("microloan report --file f", "--staff", "report "),
     (
+        "microloan report --file f --staff 1/1 --journal",
+        "'--journal'",
+        "report ",
+    ),
+    (
         "microloan schedule --method flat",
         "--principal",
         "schedule ",
     ),
+    ("microloan upgrade", "--file", "upgrade "),
+    (
+        "microloan upgrade --file f --day 2024-01-31",
+        "'--day'",
+        "upgrade ",
+    ),
+    ("microloan upgrade --file f now", "'now'", "upgrade "),
     ("microloan batch now", "'now'", "batch "),
     ("microloan schedules", "schedules", ""),
 ];
@@ -318,7 +383,9 @@ fn shows_help(rt: HostRuntime) -> Result<(), Fail> {
     let help = help_of(&rt, alloc, "microloan --help")?;
     assert!(rt; help.as_str().find("schedule").is_some());
     assert!(rt; help.as_str().lines().all(|line| line.len() <= 80));
-    for command in ["batch", "serve", "collect", "report", "why", "audit"] {
+    for command in [
+        "batch", "serve", "collect", "report", "why", "audit", "upgrade",
+    ] {
         let line = format!(in alloc; "microloan {command} --help")?;
         let help = help_of(&rt, alloc, line.as_str())?;
         assert!(rt; help.as_str().find("Example:").is_some());
@@ -335,7 +402,7 @@ fn tells_the_version(rt: HostRuntime) -> Result<(), Fail> {
         let Err(Words::Version(text)) = command(alloc, &words) else {
             return Err(Fail::from("a version"));
         };
-        assert_eq!(rt; text.as_str(), "microloan 1.3.7 (schema 2)\n");
+        assert_eq!(rt; text.as_str(), "microloan 1.4.0 (schema 2)\n");
     }
     let said = line_of(&rt, alloc, "microloan report --version")?;
     assert!(rt; said.as_str().find("--version").is_some());
