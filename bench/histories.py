@@ -85,7 +85,7 @@ class History:
     def beginning(self, path, most=None, options=("--existing",)):
         """How many lines the file's institution has, by what is shown of it and by its rows: as many as may be, up to
         the most; none where it is refused, or is not one after a beginning."""
-        status, shown, _ = files.ended(["batch", "--file", path, *options], files.ASKED)
+        status, shown, _ = files.ended(["batch", "--file", path, *options, *files.MORE_WORDS], files.ASKED)
         rows = digest_of_rows(path)
         if status != 0:
             return None
@@ -119,7 +119,7 @@ class Answering:
     """The program answering lines over a file, one at a time. It is killed at the end."""
 
     def __init__(self, path, before=()):
-        words = [*before, files.PROGRAM, "batch", "--file", path]
+        words = [*before, files.PROGRAM, "batch", "--file", path, *files.MORE_WORDS]
         self.process = subprocess.Popen(words, stdin=subprocess.PIPE, stdout=subprocess.PIPE)
 
     def answer(self, line):

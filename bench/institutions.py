@@ -1,8 +1,9 @@
 """Institutions' files for the scripts beside this one: made by the program, with page sums or without, and what they
 show.
 
-The program is that of this checkout, or the one that MICROLOAN names. What is written to the disk goes to memory where
-the system has a folder for it. It wants the `sqlite3` shell.
+The program is that of this checkout, or the one that MICROLOAN names. MICROLOAN_WORDS are given to it too, where lines or
+sheets are entered into a file: with `--journal` the scripts try files that keep one. What is written to the disk goes to
+memory where the system has a folder for it. It wants the `sqlite3` shell.
 """
 import contextlib
 import json
@@ -15,6 +16,7 @@ import tempfile
 
 TOP = os.path.dirname(os.path.dirname(os.path.abspath(__file__)))
 PROGRAM = os.environ.get("MICROLOAN") or os.path.join(TOP, "out", "microloan")
+MORE_WORDS = os.environ.get("MICROLOAN_WORDS", "").split()
 DAYS = 87  # the first lines of the program's request lines: the day of docs/lines.md
 PAGE = 4096
 SUM = 8  # bytes at the end of each page
@@ -56,7 +58,7 @@ def ended(words, given=b"", **options):
 
 def answered(path, lines):
     """The replies to lines over a file, which must end well."""
-    status, replies, said = ended(["batch", "--file", path], lines)
+    status, replies, said = ended(["batch", "--file", path, *MORE_WORDS], lines)
     if status != 0:
         raise SystemExit(f"the program refuses {path}: {said.decode(errors='replace').strip()}")
     return replies

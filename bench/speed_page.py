@@ -1,4 +1,4 @@
-"""docs/speed.md, made of what bench/growth measured. Each number in it is taken from there."""
+"""docs/speed.md, made of what bench/growth measured. Each number in it is taken from there, but for those of NOTED."""
 import dataclasses
 import os
 import statistics
@@ -16,6 +16,21 @@ REPORT, REPORT_OF_ALL = "report, one branch of 1,000 loans", "report, all loans"
 LIST = "list of 100 loans with 20 entries each"
 LIST_AGAIN = "list of the 100 loans again, each entered into shortly before"
 ENTERED = ["client entered", "loan submitted, approved and paid out", "repayment, loan with 0 to 19 entries"]
+NOTED = """## Figures that were noted
+
+These were measured once, beside other work, and noted by hand. They tell the order of size.
+
+| What | Figure |
+|---|---|
+| a client entered in memory, with page sums and without (20,000 of each) | 27 µs, 27 µs |
+| the same in a file on a disk (4,000 of each) | 115 µs, 107 µs |
+| a message through the network that the packaged service has of its own | 0.5 ms more |
+| sign-in by sessions | 85 MB of memory, 3 ms a message |
+| a backup while the desk is served: the program stands still | 60 ms |
+| with a journal, beside without: a repayment with a receipt, a client entered, a loan read (10,000 of each) | 1.1, 1.5 and 1.0 times the processor's time |
+| opening a file of 200,000 lines of a journal, a line | 1.5 µs, 170 bytes of memory, 98 of the file |
+
+"""
 BY_ENTRIES = {  # kinds that are measured at several numbers of entries on a loan
     "one more entry": "one more entry, loan with {} entries",
     "the loan read": "loan read, {} entries",
@@ -121,7 +136,8 @@ def head(results):
     busy = "; other programs took part of it, so times are longer than on an idle machine" if begun > 0.5 else ""
     return f"""# Speed and size
 
-`bench/growth --write` measured this and wrote the page; no number is entered by hand.
+`bench/growth --write` measured this and wrote the page. Only [the last table](#figures-that-were-noted) was
+noted by hand.
 
 | | |
 |---|---|
@@ -197,9 +213,9 @@ greatest file, of {greatest.counts[1]:,} loans, as in the smallest, of {smallest
 **With the entries on the loan**, in the greatest file:
 
 {by_entries(results)}
-**With the number of loans that are asked for.** A list takes {duration(listed)} for each of its loans, of 20 entries
-each, and {duration(again)} where each was entered into shortly before, so that its account is known. The report of
-arrears takes {duration(reported)} for each loan of a branch, and over all loans of the three files
+**With the number of loans that are asked for.** A list takes {duration(listed)} for each of its loans, with
+20 entries each. It takes {duration(again)} where each was entered into shortly before, since its account is known then.
+The report of arrears takes {duration(reported)} for each loan of a branch, and over all loans of the three files
 {", ".join(map(duration, results.medians(REPORT_OF_ALL)))}.
 
 {by_file(results)}
@@ -247,8 +263,8 @@ the other one is free for the web server, backups and the system. Over the great
 with a sync for each entry, `serve` answered one client, who waits for each reply before sending the next message:
 
 {text}
-- **A day** is {HOURS} hours of which {SHARE_NAME} is spent in answering at the measured rate, rounded down to two
-  figures. Requests don't come evenly, and what comes while another is answered waits.
+- **A day** is {HOURS} hours. {SHARE_NAME.capitalize()} of it is spent in answering at the measured rate, rounded
+  down to two figures. Requests don't come evenly, and what comes while another is answered waits.
 - It rests on this disk, whose sync each repayment waits for, and on loans with few entries: {ENTRIES} and the new one.
 - If each of the {greatest.counts[1]:,} loans is repaid once a month, these are {repaid:,.0f} repayments on each of
   {WORKING_DAYS} working days. At the measured rate they take {duration(repaid / rate * 1e6)} of the day.
@@ -268,7 +284,7 @@ the kinds of work less than {factor(statistics.median(ratios.values()))} times. 
 that are entered it takes {entered} times. Furthest behind are:
 
 {"".join(f"- {name}: {factor(ratios[name])} times{chr(10)}" for name in furthest)}
-## Measuring again
+{NOTED}## Measuring again
 
 `bench/growth --write`, while the machine does nothing else. `bench/growth --quick` tries the script over small files
 and writes nothing.

@@ -1,4 +1,4 @@
-"""Three machines as network namespaces with the addresses of docs/scale.md, for the trials beside this file.
+"""Three machines as network namespaces with the addresses of docs/replicas.md, for the trials beside this file.
 
 Machines a, b and c have 10.0.0.1 to 10.0.0.3; the front, in which a trial runs, has 10.0.0.9. A bridge of the front
 joins them. Each machine has a folder, a node of etcd and a replica, which is started again when it ends, as by systemd.
