@@ -34,19 +34,32 @@ def is_lost(message):
     return is_passed_on(message) and message["method"] not in READS and message["status"] >= 500
 
 
-def line_of(message):
-    """The request line that asks for the same. Between the members of a body a line may end, in a text it can't.
+def path_of(message):
+    return message["path"][len(PASSED_ON) :]
+
+
+def body_in_line(body):
+    """A body as it stands in a request line. Between the members of a body a line may end, in a text it can't.
 
     A body may be longer than a line. What makes it so, in a message that was accepted, stands between its members, or
     in members that the program doesn't know.
     """
-    path = message["path"][len(PASSED_ON) :]
-    body = message["body"].replace("\r", " ").replace("\n", " ")
+    body = body.replace("\r", " ").replace("\n", " ")
     if len(body) > LONGEST:
         with contextlib.suppress(ValueError):
             members = json.loads(body).items()
             body = json.dumps({name: value for name, value in members if len(json.dumps(value)) < LONGEST // 64})
-    return " ".join([message["staff"], message["method"], path] + [body] * (body != ""))
+    return body
+
+
+def line(staff, method, path, body):
+    """A request line; a body that is empty has no space before it."""
+    return " ".join([staff, method, path] + [body] * (body != ""))
+
+
+def line_of(message):
+    """The request line that asks for the same."""
+    return line(message["staff"], message["method"], path_of(message), body_in_line(message["body"]))
 
 
 def messages_of(logs):
