@@ -292,6 +292,39 @@ class Who(unittest.TestCase):
         self.assertEqual(days, ["2026-11-01", "2026-11-08", "2026-11-15"])
         self.assertEqual(done.stderr, "microloan-who: 3 lines are no messages\n")
 
+    def test_who_did_what_by_a_journal(self):
+        def who(path, *words):
+            command = [os.path.join(TOOLS, "microloan-who"), "--journal", path, *words]
+            done = subprocess.run(command, capture_output=True, text=True, check=False)
+            return done.stdout.splitlines() or [done.stderr.strip()]
+
+        visit = '{"name":"Visit","kind":"due-date","calc":"flat","value":500,"reason":"new"}'
+        lines = (
+            '1/1 POST /clients {"office":1,"name":"Zo\\u001b"}',
+            '1/1 POST /clients {"office":1,"name":"Zo\x1b"}',
+            '1/1 POST /clients {"office":1,"name":"Zoë"}',
+            "1/1 GET /business-day",
+            '1/1 PUT /business-day {"day":"2026-10-02"}',
+            f"1/1 POST /charges {visit}",
+        )
+        with tempfile.TemporaryDirectory() as room:
+            path, plain = os.path.join(room, "desk #1.db"), os.path.join(room, "plain.db")
+            for words in (["--file", path, "--journal"], ["--file", plain]):
+                command = [running.program(), "batch", "--day", "2026-10-01", *words]
+                subprocess.run(command, input="\n".join(lines).encode() + b"\n", stdout=subprocess.PIPE, check=True)
+            client = '2026-10-01 1 1/1 POST /api/clients {"office":1,"name":"Zo\\xeb"}'
+            day = '2026-10-01 2 1/1 PUT /api/business-day {"day":"2026-10-02"}'
+            charge = f"2026-10-02 3 1/1 POST /api/charges {visit}"
+            self.assertEqual(who(path), [client, day, charge])
+            self.assertEqual(who(path, "day"), [day])
+            self.assertEqual(who(path, "--since", "2026-10-02"), [charge])
+            self.assertEqual(who(path, "--staff", "1/2"), [""])
+            self.assertIn("no such table: journal", who(plain)[0])
+            self.assertIn("nothing that was refused", who(path, "--refused")[-1])
+            with open(path + "-wal", "wb") as log:
+                log.write(bytes(5000))
+            self.assertIn("a copy that is one whole file is wanted", who(path)[0])
+
 
 class Backups(unittest.TestCase):
     def setUp(self):
