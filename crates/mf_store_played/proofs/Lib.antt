@@ -1,0 +1,6 @@
+pub mod RowLemmas
+pub mod PageLemmas
+pub mod PlayLemmas
+pub mod HeldLemmas
+pub mod AnswerLemmas
+pub mod OnceLemmas

@@ -1,0 +1,14 @@
+//! Laws of the answers. Each function does nothing: its contract is the law.
+
+ghost use Rattle.std.specs.Prelude.{◌≡◌, ℕ, List};
+ghost use Rattle.mf_journal.specs.declared.following.Head.{Head};
+ghost use Rattle.mf_model.specs.Institution.{Institution, JournalLine};
+ghost use Rattle.mf_store_played.specs.Answer.{IsAnswer};
+ghost use Rattle.mf_store_played.specs.declared.played.Played.{Played};
+
+/// One answer alone is right for a journal and an institution. So a right answer is that the lines lead to just these
+/// rows if and only if they do, that they stop at a line if and only if they stop there, and so of the others.
+pub fn one_answer_alone()
+    ensures { (begins : Head) (lines : List JournalLine) (i : Institution) (one other : Played) →
+        IsAnswer begins lines i one → IsAnswer begins lines i other → one ≡ other }
+{}
