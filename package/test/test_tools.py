@@ -690,10 +690,16 @@ class Journals(unittest.TestCase):
         self.assertEqual(self.check_says()[0], 0)
 
     def test_notes_that_are_damaged(self):
-        with open(self.heads, "w", encoding="utf-8") as file:
-            file.write("no note\n")
-        self.assertIn("isn't as it was written", self.back_up()[2])
-        self.assertEqual(self.check_says()[0], 2)
+        """It is told, backups are made all the same, and the other notes count."""
+        self.back_up()
+        with open(self.heads, "ab") as file:
+            file.write(b"\0\xff\n")
+        self.assertIn("isn't as it was written", self.check_says()[1])
+        self.enter(1)
+        self.assertEqual(self.back_up()[2], "")
+        self.assertEqual(self.check_says()[0], 0)
+        self.forge(2)
+        self.assertIn("its line 5 was noted on", self.back_up()[2])
 
 
 def desk_wait(holds, seconds=60):

@@ -43,7 +43,7 @@ def journal_of(path):
         with contextlib.closing(sqlite3.connect(place, uri=True)) as database:
             found = database.execute("select 1 from sqlite_schema where type = 'table' and name = 'journal'").fetchone()
             yield database if found else None
-    except sqlite3.Error as fault:
+    except (sqlite3.Error, OverflowError) as fault:
         raise files.Failed(f"the journal of {path} isn't read: {fault}") from None
 
 
@@ -74,17 +74,19 @@ def read(place):
     if place is None:
         return []
     try:
-        with open(place, encoding="utf-8") as file:
-            lines = [line.rstrip("\n").split(" ", 3) for line in file]
+        with open(place, encoding="utf-8", errors="replace") as file:
+            return list(map(note_of, file))
     except FileNotFoundError:
         return []
+
+
+def note_of(line):
+    """What a line notes. Of one that isn't as it was written nothing is compared, and a backup is made all the same."""
     try:
-        return [
-            Note(moment, -1 if number == "-" else int(number), chain, "".join(word))
-            for moment, number, chain, *word in lines
-        ]
+        moment, number, chain, *word = line.rstrip("\n").split(" ", 3)
+        return Note(moment, -1 if number == "-" else int(number), chain, "".join(word))
     except ValueError:
-        raise files.Failed(f"{place} isn't as it was written: moment, number and chain in each line") from None
+        return Note("", -1, "", f"{DIFFERS}a line of {PLACE} isn't as it was written")
 
 
 def standing(notes):
@@ -117,11 +119,11 @@ def add(place, head, word=""):
     """Notes a head, or that no journal is kept. The notes are written anew beside themselves, and put in place."""
     number, chain = head or ("-", "-")
     line = f"{datetime.datetime.now().isoformat(timespec='seconds')} {number} {chain} {word}".rstrip()
-    before = ""
-    with contextlib.suppress(FileNotFoundError), open(place, encoding="utf-8") as file:
+    before = b""
+    with contextlib.suppress(FileNotFoundError), open(place, "rb") as file:
         before = file.read()
-    with open(place + ".new", "w", encoding="utf-8") as file:
-        file.write(f"{before}{line}\n")
+    with open(place + ".new", "wb") as file:
+        file.write(before + line.encode() + b"\n")
     files.keep(place + ".new", place)
 
 
