@@ -261,6 +261,7 @@ class Check(roots.ServedDesk):
             self.assertIn("journal noted up to line ", self.look(0))
             self.restart(self.forge("all"), wanted=1)
             self.wait_until_told("keeps no journal any more, and /etc/microloan/journal asks for one")
+            self.assertIn("keeps no journal any more. Restore a backup", self.root.run("microloan-setup", wanted=1))
             self.root.run("rm " + MARK)
             said = self.root.run(f"microloan-restore --whole {bundle}")
             self.assertIn(f"{FILE}: ", said)

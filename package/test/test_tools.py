@@ -619,6 +619,7 @@ class Journals(unittest.TestCase):
             self.assertIn(f" {self.head()}\n", file.read())
         note = journal_heads.read(self.heads)[0]
         self.assertEqual((f"journal {note.number} head {note.chain}", note.word), (self.head(), ""))
+        self.assertIn(f"desk-{note.moment.replace(':', '')}.tar.age", path)
         self.assertEqual(os.stat(self.heads).st_mode & 0o777, 0o600)
         self.assertEqual(self.check_says()[0], 0)
         self.assertIn("journal noted up to line 5", self.check_says()[1])

@@ -11,7 +11,6 @@ kept. A backup notes what its copy keeps. Behind a head stands, where it isn't o
     differs ..  a copy that isn't as it was noted, and how it differs; such a line isn't compared with
 """
 import contextlib
-import datetime
 import os
 import sqlite3
 import typing
@@ -22,6 +21,7 @@ PLACE = "/var/backups/microloan/journal-heads"
 # What microloan.service reads before a start: where it is there, a file without a journal isn't served.
 MARK = "/etc/microloan/journal"
 MARKED = """# The institution keeps a journal: microloan.service serves no file without one. Written by microloan-setup.
+# Where it is to go on without one, remove this file.
 MICROLOAN_JOURNAL=yes
 """
 BEGIN = "sudo -u microloan microloan upgrade --existing --file {} --journal"
@@ -115,10 +115,10 @@ def difference(path, notes):
     return None
 
 
-def add(place, head, word=""):
+def add(place, moment, head, word=""):
     """Notes a head, or that no journal is kept. The notes are written anew beside themselves, and put in place."""
     number, chain = head or ("-", "-")
-    line = f"{datetime.datetime.now().isoformat(timespec='seconds')} {number} {chain} {word}".rstrip()
+    line = f"{moment.isoformat(timespec='seconds')} {number} {chain} {word}".rstrip()
     before = b""
     with contextlib.suppress(FileNotFoundError), open(place, "rb") as file:
         before = file.read()
