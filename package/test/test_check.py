@@ -287,6 +287,15 @@ class Check(roots.ServedDesk):
             self.watch()
             self.wait_until_told("in order again: journal")
 
+    def test_a_new_institution_after_one_with_a_journal(self):
+        """It keeps one too, unasked, and isn't compared with what was noted of the other."""
+        with self.no_journal_afterwards():
+            self.found()
+            self.root.run(f"systemctl stop microloan; rm -f {FILE}*; microloan-setup")
+            self.assertIn(" --journal ", self.root.run("ps -o args= -C microloan"))
+            self.assertIn(", journal 0 head ", self.root.run("microloan-backup"))
+            self.assertIn("journal noted up to line 0", self.look(0))
+
     def test_a_journal_is_begun_as_setup_says(self):
         with self.no_journal_afterwards():
             said = self.root.run("microloan-setup --journal", wanted=1)

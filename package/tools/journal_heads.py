@@ -21,7 +21,7 @@ PLACE = "/var/backups/microloan/journal-heads"
 # What microloan.service reads before a start: where it is there, a file without a journal isn't served.
 MARK = "/etc/microloan/journal"
 MARKED = """# The institution keeps a journal: microloan.service serves no file without one. Written by microloan-setup.
-# Where it is to go on without one, remove this file.
+# To go on without one, remove this file, and /var/backups/microloan/journal-heads.
 MICROLOAN_JOURNAL=yes
 """
 BEGIN = "sudo -u microloan microloan upgrade --existing --file {} --journal"
