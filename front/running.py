@@ -71,9 +71,9 @@ def is_open_socket(path):
         return client.connect_ex(path) == 0
 
 
-def answer_lines(path, lines):
+def answer_lines(path, lines, *options):
     """Enters request lines into the institution of a file. The replies."""
-    words = [program(), "batch", "--file", path]
+    words = [program(), "batch", "--file", path, *options]
     done = subprocess.run(words, input=lines, stdout=subprocess.PIPE, umask=0o077, check=False)
     if done.returncode:
         raise Failed(f"{program()} batch ended with status {done.returncode}")

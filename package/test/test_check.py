@@ -12,6 +12,8 @@ import roots
 from roots import BACKUPS, FILE
 
 LOG = "/var/log/microloan/messages.log"
+MARK, HEADS = "/etc/microloan/journal", f"{BACKUPS}/journal-heads"
+AS_OWNER = "setpriv --reuid=microloan --regid=microloan --clear-groups"
 OFFSITE = "/etc/microloan/hooks/offsite"
 WITHIN = 60  # seconds in which the institution is told of what is urgent
 MOST_ENTERED = 3000  # clients that are entered until a small disk is full
@@ -219,6 +221,95 @@ class Check(roots.ServedDesk):
         self.root.run(f"mv {OFFSITE}.kept {OFFSITE}; mv /etc/microloan/keys/institution.pub /root")
         self.assertIn("this machine alone has a key", self.look(1))
         self.root.run("mv /root/institution.pub /etc/microloan/keys")
+
+    @contextlib.contextmanager
+    def no_journal_afterwards(self):
+        with self.institution_kept():
+            try:
+                yield
+            finally:
+                self.root.run(f"rm -f {MARK} {HEADS}")
+
+    def restart(self, *between, wanted=0):
+        """Stops the service, runs commands, and starts it."""
+        self.root.run("systemctl stop microloan; systemctl reset-failed")
+        for command in between:
+            self.root.run(command)
+        self.root.run("systemctl start microloan", wanted=wanted)
+
+    def forge(self, how):
+        """A command by which the file's owner forges its journal."""
+        with open(os.path.join(roots.HERE, "forge_journal.py"), encoding="utf-8") as file:
+            self.root.run("cat >/srv/forge.py; chmod 644 /srv/forge.py", given=file.read())
+        return f"{AS_OWNER} sh -c 'umask 077; python3 /srv/forge.py {FILE} {FILE}.new {how} && mv {FILE}.new {FILE}'"
+
+    def found(self):
+        """Founds an institution with a journal, enters a client, makes a backup. The client and the backup's line."""
+        self.root.run(f"systemctl stop microloan; rm -f {FILE}*")
+        said = self.root.run("microloan-setup --journal --day $(date +%F)")
+        self.assertIn(f"a new institution is in {FILE}", said)
+        client = self.enter("In the journal")
+        return client, self.root.run("microloan-backup").splitlines()[0]
+
+    def test_a_journal_that_is_founded_is_served_and_one_that_is_taken_away_is_not(self):
+        with self.no_journal_afterwards():
+            client, line = self.found()
+            self.assertIn(" serve --existing --journal ", self.root.run("ps -o args= -C microloan"))
+            self.assertEqual(self.root.run(f"stat -c '%a %U' {MARK} {HEADS}"), "600 root\n600 root\n")
+            bundle, head = line.split(": ")[0], line.split("entries, ")[1].split(";")[0]
+            self.assertRegex(head, "^journal [0-9]+ head [0-9a-f]{64}$")
+            self.assertIn("journal noted up to line ", self.look(0))
+            self.restart(self.forge("all"), wanted=1)
+            self.wait_until_told("keeps no journal any more, and /etc/microloan/journal asks for one")
+            self.assertIn("keeps no journal any more. Restore a backup", self.root.run("microloan-setup", wanted=1))
+            self.root.run("rm " + MARK)
+            said = self.root.run(f"microloan-restore --whole {bundle}")
+            self.assertIn(f"{FILE}: ", said)
+            self.assertIn(head, said.splitlines()[0])
+            self.restart()
+            self.assertIn(" --journal ", self.root.run("ps -o args= -C microloan"))
+            self.assertEqual(self.name_of(client), "In the journal")
+
+    def test_a_journal_that_was_made_anew_is_told(self):
+        with self.no_journal_afterwards():
+            client, line = self.found()
+            self.enter("After the backup")
+            self.restart(self.forge(1))
+            self.assertEqual(self.name_of(client), "In the journal")
+            self.root.run("systemctl start microloan-backup", wanted=1)
+            wanted = "the journal isn't the one that it was: its line "
+            self.assertIn(wanted, self.look(2))
+            self.watch()
+            self.wait_until_told(wanted)
+            self.restart(f"microloan-restore {line.split(': ')[0]} --and-the-log")
+            self.root.run("systemctl start microloan-backup")
+            self.look(0)
+            self.watch()
+            self.wait_until_told("in order again: journal")
+
+    def test_a_new_institution_after_one_with_a_journal(self):
+        """It keeps one too, unasked, and isn't compared with what was noted of the other."""
+        with self.no_journal_afterwards():
+            self.found()
+            self.root.run(f"systemctl stop microloan; rm -f {FILE}*; microloan-setup")
+            self.assertIn(" --journal ", self.root.run("ps -o args= -C microloan"))
+            self.assertIn(", journal 0 head ", self.root.run("microloan-backup"))
+            self.assertIn("journal noted up to line 0", self.look(0))
+
+    def test_a_journal_is_begun_as_setup_says(self):
+        with self.no_journal_afterwards():
+            said = self.root.run("microloan-setup --journal", wanted=1)
+            self.assertIn("keeps no journal. Make a backup, stop the service, and then: sudo -u microloan ", said)
+            self.root.run(f"test ! -e {MARK}")
+            self.ask("PUT", "/api/business-day", {"day": self.root.run("date +%F").strip()})
+            self.restart(f"{AS_OWNER} {said.split('sudo -u microloan ')[1]}")
+            self.assertNotIn("journal", self.look(0))
+            self.root.run("microloan-backup")
+            self.assertIn("a start doesn't ask for the journal that is kept: microloan-setup", self.look(1))
+            self.assertIn("is served, and is kept", self.root.run("microloan-setup"))
+            self.assertIn("journal noted up to line ", self.look(0))
+            self.restart()
+            self.assertIn(" --journal ", self.root.run("ps -o args= -C microloan"))
 
     def test_a_front_that_is_down(self):
         self.root.run("systemctl stop nginx")

@@ -1,6 +1,8 @@
 """Tests of the package's tools, run from the checkout: sheets, report and day while it serves, backup and restore."""
 import contextlib
 import datetime
+import importlib.machinery
+import importlib.util
 import json
 import os
 import pty
@@ -13,6 +15,7 @@ import tempfile
 import threading
 import time
 import unittest
+import unittest.mock
 
 HERE = os.path.dirname(os.path.abspath(__file__))
 TOP = os.path.dirname(os.path.dirname(HERE))
@@ -21,6 +24,7 @@ sys.path[:0] = [os.path.join(TOP, "front", "test"), TOOLS]
 import desk
 import desk_bundle
 import institution_files as files
+import journal_heads
 import running
 
 SHEET_LINES = 10000
@@ -338,7 +342,8 @@ class Backups(unittest.TestCase):
 
     def run_tool(self, name, *words):
         asked = [os.path.join(TOOLS, name), "--file", self.it.file, "--program", running.program(), "--keys", self.keys]
-        asked += ["--log", self.it.nginx.log] * (name == "microloan-backup") + list(words)
+        asked += ["--log", self.it.nginx.log] * (name == "microloan-backup")
+        asked += ["--heads", os.path.join(self.folder, "journal-heads"), *words]
         done = subprocess.run(asked, capture_output=True, text=True, check=False)
         return done.returncode, done.stdout, done.stderr
 
@@ -576,6 +581,159 @@ class Backups(unittest.TestCase):
             os.unlink(self.it.file)
         self.assertEqual(set(entered), {201})
         self.assertGreater(len(entered), 50)
+
+
+class Journals(unittest.TestCase):
+    """Of an institution with a journal that nobody serves: its head is noted, and told where it isn't that any more."""
+
+    def setUp(self):
+        room = tempfile.TemporaryDirectory()
+        self.addCleanup(room.cleanup)
+        self.folder, self.keys, place = (os.path.join(room.name, name) for name in ("backups", "keys", "institution"))
+        self.file, self.heads = os.path.join(place, "desk.db"), os.path.join(self.folder, "journal-heads")
+        for name in (self.folder, place):
+            os.mkdir(name)
+        desk_bundle.make_keys(self.keys)
+        self.answer("1/1 GET /business-day", "--journal")
+        self.enter(5)
+
+    def answer(self, lines, *words):
+        words = [running.program(), "batch", "--file", self.file, *words]
+        subprocess.run(words, input=lines.encode(), stdout=subprocess.DEVNULL, check=True)
+
+    def enter(self, count):
+        line = '1/1 POST /clients {"office":1,"name":"Amina"}\n'
+        self.answer(line * count)
+
+    def forge(self, how):
+        words = [sys.executable, os.path.join(HERE, "forge_journal.py"), self.file, self.file + ".forged", str(how)]
+        subprocess.run(words, check=True)
+        os.replace(self.file + ".forged", self.file)
+
+    def run_tool(self, name, *words):
+        asked = [os.path.join(TOOLS, name), "--file", self.file, "--program", running.program(), "--keys", self.keys]
+        asked += ["--heads", self.heads, *words]
+        done = subprocess.run(asked, capture_output=True, text=True, check=False)
+        return done.returncode, done.stdout, done.stderr
+
+    def back_up(self):
+        """Its path, what is told, and what is said against it."""
+        words = ["--folder", self.folder, "--log", self.file + ".log"]
+        status, shown, said = self.run_tool("microloan-backup", *words)
+        self.assertEqual(status, 1 if said else 0)
+        return shown.split(": ")[0], shown, said
+
+    def head(self):
+        """As the documents have it read by hand."""
+        question = "select number, lower(hex(chain)) from journal order by number desc limit 1"
+        with contextlib.closing(sqlite3.connect(f"file:{self.file}?mode=ro&immutable=1", uri=True)) as database:
+            return "journal {} head {}".format(*database.execute(question).fetchone())
+
+    def words_of_notes(self):
+        return [note.word for note in journal_heads.read(self.heads)]
+
+    def check_says(self):
+        """What microloan-check finds of the journal."""
+        loader = importlib.machinery.SourceFileLoader("microloan_check", os.path.join(TOOLS, "microloan-check"))
+        check = importlib.util.module_from_spec(importlib.util.spec_from_loader("microloan_check", loader))
+        loader.exec_module(check)
+        with unittest.mock.patch.multiple(journal_heads, PLACE=self.heads, MARK=self.heads):
+            look = check.Look()
+            check.look_at_journal(look)
+        return look.level(), look.line()
+
+    def test_a_backup_tells_the_head_and_takes_it_along(self):
+        path, shown, said = self.back_up()
+        self.assertIn(f"0 entries, {self.head()}; the program", shown)
+        self.assertEqual(said, "")
+        with desk_bundle.opened(path, os.path.join(self.keys, "machine.key")) as (_, about):
+            self.assertEqual("journal {number} head {head}".format(**about["journal"]), self.head())
+        with open(path + ".minisig", encoding="utf-8") as file:
+            self.assertIn(f" {self.head()}\n", file.read())
+        note = journal_heads.read(self.heads)[0]
+        self.assertEqual((f"journal {note.number} head {note.chain}", note.word), (self.head(), ""))
+        self.assertIn(f"desk-{note.moment.replace(':', '')}.tar.age", path)
+        self.assertEqual(os.stat(self.heads).st_mode & 0o777, 0o600)
+        self.assertEqual(self.check_says()[0], 0)
+        self.assertIn("journal noted up to line 5", self.check_says()[1])
+
+    def test_a_journal_that_is_not_as_it_was_noted_is_told(self):
+        """Made anew from a line on, a line less, none: by each backup and by microloan-check, until it is put right."""
+        good = [self.back_up()[0]]
+        self.enter(5)
+        good.append(self.back_up()[0])
+        noted = journal_heads.read(self.heads)
+        cases = (
+            ("all", f"no journal is kept any more, and its line 10 was noted on {noted[1].moment}"),
+            (3, f"the journal isn't the one that it was: its line 5 was noted on {noted[0].moment} with another chain"),
+            (7, f"the journal isn't the one that it was: its line 10 was noted on {noted[1].moment} with another chain"),
+            ("last", f"the journal is shorter than it was: its line 10 was noted on {noted[1].moment}"),
+        )
+        for how, wanted in cases:
+            with self.subTest(how):
+                self.forge(how)
+                for _ in range(2):
+                    path, shown, said = self.back_up()
+                    self.assertIn("business day", shown)
+                    self.assertEqual(said, f"microloan-backup: {path} is made, but {wanted}\n")
+                    level, line = self.check_says()
+                    self.assertEqual(level, 2)
+                    self.assertIn(f"DESK CRITICAL - {wanted}. See ", line)
+                status, shown, said = self.run_tool("microloan-restore", good[1])
+                self.assertEqual((status, said), (0, ""))
+                self.assertIn(self.head(), shown.splitlines()[0])
+                self.assertEqual(self.check_says()[0], 0)
+                self.assertEqual(self.back_up()[2], "")
+
+    def test_of_a_restore_later_heads_count_no_more(self):
+        """And those before it do."""
+        good = self.back_up()[0]
+        self.enter(5)
+        self.back_up()
+        status, shown, said = self.run_tool("microloan-restore", good)
+        self.assertEqual((status, said), (0, ""))
+        self.assertIn(f"0 entries, {self.head()}\n", shown)
+        self.assertIn("journal 10 head ", shown.splitlines()[1])
+        self.assertEqual(self.words_of_notes(), ["", "", "restored"])
+        self.enter(7)
+        self.assertEqual(self.back_up()[2], "")
+        self.forge(4)
+        self.assertIn("its line 5 was noted on", self.back_up()[2])
+
+    def test_a_trial_of_a_restore_tells_the_head_and_notes_nothing(self):
+        path = self.back_up()[0]
+        wanted = f"{path}: sound, business day 2024-01-01, 5 clients, 0 loans, 0 entries, {self.head()}\n"
+        self.assertEqual(self.run_tool("microloan-restore", "--try", path), (0, wanted, ""))
+        self.assertEqual(self.words_of_notes(), [""])
+
+    def test_a_restored_file_without_a_journal(self):
+        """It is said what to do, and after that nothing is compared with the journal that was."""
+        self.back_up()
+        self.forge("all")
+        path = self.back_up()[0]
+        status, shown, said = self.run_tool("microloan-restore", path)
+        self.assertEqual((status, said), (0, ""))
+        begin = f"sudo -u microloan microloan upgrade --existing --file {self.file} --journal"
+        self.assertIn("it keeps no journal, and isn't served", shown)
+        self.assertIn(f"    {begin}\n", shown)
+        self.assertEqual(self.words_of_notes()[-1], "restored")
+        subprocess.run([running.program(), *begin.split()[4:]], stdout=subprocess.DEVNULL, check=True)
+        self.assertEqual(self.back_up()[2], "")
+        self.enter(1)
+        self.assertEqual(self.back_up()[2], "")
+        self.assertEqual(self.check_says()[0], 0)
+
+    def test_notes_that_are_damaged(self):
+        """It is told, backups are made all the same, and the other notes count."""
+        self.back_up()
+        with open(self.heads, "ab") as file:
+            file.write(b"\0\xff\n")
+        self.assertIn("isn't as it was written", self.check_says()[1])
+        self.enter(1)
+        self.assertEqual(self.back_up()[2], "")
+        self.assertEqual(self.check_says()[0], 0)
+        self.forge(2)
+        self.assertIn("its line 5 was noted on", self.back_up()[2])
 
 
 def desk_wait(holds, seconds=60):

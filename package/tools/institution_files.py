@@ -6,6 +6,7 @@ damaged.
 """
 import contextlib
 import fcntl
+import json
 import os
 import pwd
 import re
@@ -176,6 +177,27 @@ def end_of_child(child, failed=None):
     if status not in (0, DIFFERS):
         raise Failed(f"the child that works as the owner ended: {status}")
     return status == 0
+
+
+def found_as_owner(path, find):
+    """What a child that is the owner of the file finds there."""
+    reading, writing = os.pipe()
+    child = os.fork()
+    if child == 0:
+        os.close(reading)
+        owner = owner_of(path)
+        with os.fdopen(writing, "wb") as pipe:
+
+            def tell():
+                pipe.write(json.dumps(find(path)).encode())
+                pipe.flush()
+
+            end_child(tell, owner)
+    os.close(writing)
+    with os.fdopen(reading, "rb") as pipe:
+        found = pipe.read()
+    end_of_child(child)
+    return json.loads(found)
 
 
 def require_own(path):
