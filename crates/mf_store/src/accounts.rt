@@ -35,7 +35,7 @@ impl<S: Alter> Store<S> {
     ghost use Rattle.mf_store.specs.Stands.{StandsFor, IsClean, Stays, AsksTables, MayAskTables};
 
     /// The entries of a loan, by number; none where it isn't there.
-    pub(crate) fn entries_at(&mut self, alloc: Global, loan: Account) -> Result<Vec<Entry>, Fault>
+    pub fn entries_at(&mut self, alloc: Global, loan: Account) -> Result<Vec<Entry>, Fault>
         ensures asks { AsksTables S.Store self.old self.new result }
         ensures value { IsClean S.Store self.new → (i : Institution) → StandsFor S.Store self.old i
             → IfOk result (λ list. list.items ≡ ledger_entries (ledger_at loan i)) }
@@ -241,7 +241,7 @@ impl<S: Alter> Store<S> {
     }
 
     /// The status of a loan that is there: its stage's number, or what its account says.
-    fn status_of(&mut self, alloc: Global, account: Account, loan: &Loan) -> Result<u16, Fault>
+    pub fn status_of(&mut self, alloc: Global, account: Account, loan: &Loan) -> Result<u16, Fault>
         ensures asks { MayAskTables S.Store self.old self.new result }
         ensures value { IsClean S.Store self.new → (i : Institution) → StandsFor S.Store self.old i → (l : Ledger)
             → ledger_at account i ≡ Some l

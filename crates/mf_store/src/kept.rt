@@ -21,11 +21,7 @@ impl<S: Alter> Store<S> {
 
     /// The instalments of a loan, as the replay of its entries leaves them; none where it is not disbursed, or not
     /// there.
-    pub(crate) fn instalments_at(
-        &mut self,
-        alloc: Global,
-        loan: Account,
-    ) -> Result<Vec<Instalment>, Fault>
+    pub fn instalments_at(&mut self, alloc: Global, loan: Account) -> Result<Vec<Instalment>, Fault>
         ensures asks { AsksTables S.Store self.old self.new result }
         ensures whole { IfOk result (λ rows. AreWhole rows.items) }
         ensures within { IfOk result (λ rows. AreWithin rows.items) }

@@ -90,7 +90,7 @@ impl<S: Alter> Store<S> {
     }
 
     /// The rows with these values of the first columns.
-    pub(crate) fn list<T: Listed>(&mut self, part: T::Part) -> Result<Vec<Row>, Fault>
+    pub fn list<T: Listed>(&mut self, part: T::Part) -> Result<Vec<Row>, Fault>
         ensures asks { AsksTables S.Store self.old self.new result }
         ensures rows { IsClean S.Store self.new → (i : Institution) → StandsFor S.Store self.old i
             → IfOk result (λ rows. rows.items ≡ map T.Table.stored (filter (T.is_in part)
@@ -180,10 +180,7 @@ impl<S: Alter> Store<S> {
         ensures given_back { IfErr result (λ e. IsUnfoundedJournaled S.Store day connection e.1) }
         ensures alone { IfErr result (λ e. e.1.in_transaction ≡ false) }
     {
-        let begins = match founding_head(day) {
-            Ok(begins) => begins,
-            Err(fault) => return Err((fault, connection)),
-        };
+        let begins = founding_head(day);
         let known = match Known::nothing(alloc) {
             Ok(known) => known,
             Err(fault) => return Err((fault, connection)),

@@ -226,7 +226,8 @@ module _ (loan : Account) (account : KeptAccount) (l : Ledger) (i : Institution)
         let new_receipt = receipt_found x r i before ∙ ap (option_map (receipt_in x)) (receipt_free x loan.number e
         account.loan.entries l new i.offices up there refl are r some apart) in
         with_change (write.AddEntry row ∷ receipt_added row (Some r)) sound (refl, (refl, tt))
-        (new_entry, (new_receipt, tt)) (refl, (refl, tt)) refl row_put (receipt_put x loan.number e account.loan.entries l new i.offices up
+        (new_entry, (new_receipt, tt)) (refl, (refl, tt)) refl row_put (receipt_put x loan.number e
+        account.loan.entries l new i.offices up
         there refl are r some apart)
 
     pub entry_carries : (r : EntryRow) → r ≡ row → Carries (AddEntry loan account) (entry_added r ++ change) i
@@ -262,7 +263,8 @@ module _ (loan : Account) (account : KeptAccount) (l : Ledger) (i : Institution)
     pub reversal_carries : (r : EntryRow) → r ≡ entry_in x loan.number entry
         → Carries (ReverseEntry loan seq account) (write.ChangeEntry r ∷ change) i
     reversal_carries r is =
-        let made = with_change (write.ChangeEntry (entry_in x loan.number entry) ∷ []) sound (refl, tt) (here, tt) (refl, tt) refl
+        let made = with_change (write.ChangeEntry (entry_in x loan.number entry) ∷ []) sound (refl, tt) (here, tt)
+        (refl, tt) refl
         (entry_put x loan.number entry account.loan.entries l new i.offices before.tree.ascending there refl puts)
         (same_receipts_of x new i.offices before.tree.ascending same_uses) in
         rw is (record { becomes = made.becomes; spares = made.spares; suits = made.suits })

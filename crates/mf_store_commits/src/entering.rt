@@ -19,8 +19,8 @@ use mf_store_schema::StoreWrite;
 use std::alloc::Global;
 
 /// The writes that add the last entry of a loan's account to the loan, which has all the others and no more, with what
-/// that changed of the loan's instalments and shares. Where the entry carries a receipt, its row is added too. The error
-/// is F20.
+/// that changed of the loan's instalments and shares. Where the entry carries a receipt, its row is added too. The
+/// error is F20.
 pub fn entry_writes(
     alloc: Global,
     loan: Account,

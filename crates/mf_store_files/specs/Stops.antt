@@ -29,6 +29,7 @@ pub record IsWithGivenUp (run : List Line) (i j : Institution) : Type 0 where
 abbrev pub IsLeftBy : List Line → Institution → Institution → Type 0
 IsLeftBy run i j = (j ≡ last run i) ⊎ IsWithGivenUp run i j
 
--- the trees hold the rows of such an institution, with its journal where it keeps one, and nothing else; and it is sound
+-- the trees hold the rows of such an institution, with its journal where it keeps one, and nothing else; and it is
+-- sound
 abbrev pub HoldsBeginning : List Line → Institution → Trees → Type 0
 HoldsBeginning run i trees = (j : Institution) × IsLeftBy run i j × IsSound j × HoldsRowsOf trees j

@@ -20,7 +20,6 @@ ghost use Rattle.mf_store_noted.specs.Kept.{journaled, meta_kept, tables_kept};
 ghost use Rattle.mf_store_noted.specs.Tabled.{IsKeptIn, LeavesTables};
 
 use crate::noted::puts;
-use crate::writing::day_number;
 use mf_base::{Day, Fault};
 use mf_journal::Head;
 use mf_model::laws;
@@ -34,14 +33,12 @@ use std::alloc::Global;
 /// The number of the schema that has a journal.
 pub const JOURNALED_SCHEMA: u32 = 3;
 
-/// Where the journal of an institution begins that is founded on a business day. The error is F20.
-pub fn founding_head(day: Day) -> Result<Head, Fault>
-    ensures head { IfOk result (λ head. head ≡ founding 3 day) }
-    ensures can { IfOk result CanBegin }
-    ensures gives_up { IfErr result (λ fault. fault ≡ F20) }
+/// Where the journal of an institution begins that is founded on a business day.
+pub fn founding_head(day: Day) -> Head
+    ensures head { result ≡ founding 3 day }
+    ensures can { CanBegin result }
 {
-    let number = day_number(day)?;
-    Ok(Head::founding(JOURNALED_SCHEMA as u64, number))
+    Head::founding(JOURNALED_SCHEMA as u64, u64::from(day.number()))
 }
 
 /// The write of the row of meta on a business day, with the number of the schema that has a journal.

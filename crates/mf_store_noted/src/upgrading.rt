@@ -19,7 +19,6 @@ ghost use Rattle.mf_store_noted.specs.Upgrading.{TakesIn, TakesInTables, row_tex
 ghost use Rattle.mf_store_noted.specs.Upgrading.{GetsJournal, tables_text};
 
 use crate::beginning::begin_journal;
-use crate::writing::day_number;
 use mf_base::{Day, Fault};
 use mf_journal::Head;
 use mf_store_journal::Journal;
@@ -191,7 +190,7 @@ pub fn upgrading_head<S: Alter>(connection: &mut Connection<S>, day: Day) -> Res
     ensures can { IfOk result CanBegin }
     ensures mode { connection.new.in_transaction ≡ false }
 {
-    let number = day_number(day)?;
+    let number = u64::from(day.number());
     let mut hasher = Sha256::new();
     hasher.update(b"microloan upgraded");
     put_number(&mut hasher, number);

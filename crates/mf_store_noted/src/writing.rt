@@ -37,20 +37,6 @@ fn write_alone<S: Alter>(
     }
 }
 
-/// The number of a day; 1 January 2000 is 0. The error is F20.
-pub(crate) fn day_number(day: Day) -> Result<u64, Fault>
-    ensures number { IfOk result (λ number. number ≡ day) }
-    ensures gives_up { IfErr result (λ fault. fault ≡ F20) }
-{
-    let Some(first) = Day::parse(b"2000-01-01") else {
-        return Err(Fault::F20);
-    };
-    match u64::try_from(day.days_since(first)) {
-        Ok(number) => Ok(number),
-        Err(_) => Err(Fault::F20),
-    }
-}
-
 /// The row of the line that notes a request which came in this text.
 fn row_of<'a>(day: u64, caller: Caller, names: Names, text: ReceivedText<'a>) -> JournalRow<'a>
     ensures { line_of_row result ≡ noted_line day (noted_as caller (received_now (Received text.entry)) names) }
@@ -118,7 +104,7 @@ fn write_text<S: Alter>(
         (noted_as caller (received_now (Received text.now)) names)) connection.old connection.new result }
     ensures mode { connection.new.in_transaction ≡ false }
 {
-    let today = day_number(place.day)?;
+    let today = u64::from(place.day.number());
     let row = row_of(today, caller, names, *text);
     write_row(alloc, connection, writes, place.journal, row)
 }

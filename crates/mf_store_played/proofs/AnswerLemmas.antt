@@ -19,7 +19,7 @@ use Rattle.mf_store_journal.specs.Rows.{head_with_all}
 use Rattle.mf_store_journal.specs.Written.{KeepsJournalFrom}
 use Rattle.mf_store_journal.specs.declared.journal.Journal.{Journal}
 use Rattle.mf_store_sound.specs.Held.{HoldsSoundAt}
-use Rattle.mf_store_played.specs.Answer.{IsCompared, IsAnswer, IsAnswerOf}
+use Rattle.mf_store_played.specs.Answer.{IsCompared, IsAnswer, IsAnswerOf, IsDifference}
 use Rattle.mf_store_played.specs.declared.played.Played.{Played}
 use Rattle.mf_store_played.specs.declared.played.Played.TheVariants.{Leads, NoFounding, Stops, Differs}
 use Rattle.mf_store_played.specs.declared.played.PlayedTable.{PlayedTable}
@@ -80,9 +80,9 @@ module _ (begins : Head) (lines : List JournalLine) (i : Institution) (day : ℕ
       → IsCompared stands (tables_at Third i) (tables_at Third j) played → IsAnswer begins lines i played
   compared_answer j plays one sound other journal stands at (Leads head) told =
       (day, founds, leads_there day lines i j plays one sound other journal told.1, told.0 ∙ at)
-  compared_answer j plays one sound other journal stands at (Differs table row) told =
-      (day, founds, j, plays, told, not_there day lines i j plays table row told)
-  compared_answer j plays one sound other journal stands at NoFounding told = absurd told
+  compared_answer j plays one sound other journal stands at (Differs d) told =
+      (day, founds, j, plays, told, not_there day lines i j plays d.table d.row told.first)
+  compared_answer j plays one sound other journal stands at (NoFounding head) told = absurd told
   compared_answer j plays one sound other journal stands at (Stops number why) told = absurd told
 
 -- what follows where a call succeeds
@@ -92,12 +92,7 @@ on_ok_then (Err e) Q P on then = tt
 
 -- ---- of tables
 
--- no journal that begins elsewhere is kept there
 module _ (trees : Trees) where
-  pub answer_where_none : ((begins : Head) (lines : List JournalLine) → ¬ KeepsJournalFrom begins trees lines)
-      → IsAnswerOf trees NoFounding
-  answer_where_none none = record { right = λ held begins lines is keeps. absurd (none begins lines keeps) }
-
   -- the journal that was read is the one that is kept
   pub answer_of_one : (journal : Journal) → ((begins : Head) (lines : List JournalLine)
       → KeepsJournalFrom begins trees lines → (journal.begins ≡ begins)

@@ -32,7 +32,8 @@ rows_held : (trees : Trees) (i : Institution) (begins : Head) (lines : List Jour
     → HoldsAll trees (record (tables_at Third i) { journal = journal_rows_in begins journal })
     → HoldsAt Third trees (tables_at Third i)
 rows_held trees i begins lines journal is holds =
-    let all = subst (λ k. HoldsAll trees (record (tables_at Third i) { journal = journal_rows_in begins k })) is holds in
+    let all = subst (λ k. HoldsAll trees (record (tables_at Third i) { journal = journal_rows_in begins k })) is holds
+    in
     record {
       sound = all.sound;
       all = first_held trees 11 (all_conditions (record (tables_at Third i) {

@@ -11,7 +11,8 @@ use Rattle.mf_store_schema.specs.declared.versions.Version.TheVariants.{Third}
 use Rattle.mf_store_sound.specs.Held.{AllTrue}
 use Rattle.mf_store_sound.specs.Schemas.{tables_at}
 use Rattle.mf_store_played.specs.Played.{DiffersAt, DiffersIn, IsFirstDifference, IsFounding, founded, order_of, sames}
-use Rattle.mf_store_played.specs.Answer.{IsAnswer}
+use Rattle.mf_store_played.specs.Answer.{IsAnswer, IsDifference}
+use Rattle.mf_store_played.specs.declared.played.Difference.{Difference}
 use Rattle.mf_store_played.specs.declared.played.Played.{Played}
 use Rattle.mf_store_played.specs.declared.played.Played.TheVariants.{Leads, NoFounding, Stops, Differs}
 use Rattle.mf_store_played.specs.declared.played.PlayedTable.{PlayedTable}
@@ -93,6 +94,13 @@ table_back Receipts = refl
 table_back Instalments = refl
 table_back Shares = refl
 
+abbrev made : PlayedTable → ℕ → Lists → Lists → Difference
+made t r h p = record { table = t; row = r; here = h; played = p }
+
+same_parts : (t u : PlayedTable) (r s : ℕ) (h k p q : Lists) → t ≡ u → r ≡ s → h ≡ k → p ≡ q
+    → made t r h p ≡ made u s k q
+same_parts t u r s h k p q tables rows heres playeds = cc
+
 module _ (a b : Lists) where
   not_earlier : (table other : PlayedTable) (row place : ℕ) → IsFirstDifference table row a b
       → IsFirstDifference other place a b → order_of table < order_of other → ⊥
@@ -109,12 +117,13 @@ module _ (a b : Lists) where
       ∙ table_back other in
       cc
 
-  one_difference : (table other : PlayedTable) (row place : ℕ) → IsFirstDifference table row a b
-      → IsFirstDifference other place a b → Differs table row ≡ Differs other place
-  one_difference table other row place here there =
-      let same = one_table table other row place here there in
-      ap₂ Differs same
-      (one_row_in other a b row place (subst (λ t. DiffersIn t a b row) same here.there) there.there)
+  one_difference : (d e : Difference) → IsDifference d a b → IsDifference e a b → d ≡ e
+  one_difference d e here there =
+      let same = one_table d.table e.table d.row e.row here.first there.first in
+      let row = one_row_in e.table a b d.row e.row (subst (λ t. DiffersIn t a b d.row) same here.first.there)
+      there.first.there in
+      same_parts d.table e.table d.row e.row d.here e.here d.played e.played same row
+      (here.here_is ∙ sym there.here_is) (here.played_is ∙ sym there.played_is)
 
 -- ---- one answer
 
@@ -124,35 +133,35 @@ one_day begins day other here there = ap (λ (h : Head). h.day) (sym there.is �
 module _ (begins : Head) (lines : List JournalLine) (i : Institution) where
   pub one_answer : (a b : Played) → IsAnswer begins lines i a → IsAnswer begins lines i b → a ≡ b
   one_answer (Leads h) (Leads k) a b = ap Leads (a.3 ∙ sym b.3)
-  one_answer (Leads h) NoFounding a b = absurd (b a.0 a.1)
+  one_answer (Leads h) (NoFounding k) a b = absurd (b.0 a.0 a.1)
   one_answer (Leads h) (Stops n why) a b =
       absurd (apart (founded a.0) i lines b.2 why a.2
       (subst (λ day. StopsAt (founded day) lines b.2 why) (one_day begins a.0 b.0 a.1 b.1) b.4))
-  one_answer (Leads h) (Differs t r) a b =
+  one_answer (Leads h) (Differs d) a b =
       absurd (b.5 (subst (λ day. PlaysTo (founded day) lines i) (one_day begins b.0 a.0 b.1 a.1) a.2))
-  one_answer NoFounding (Leads h) a b = absurd (a b.0 b.1)
-  one_answer NoFounding NoFounding a b = refl
-  one_answer NoFounding (Stops n why) a b = absurd (a b.0 b.1)
-  one_answer NoFounding (Differs t r) a b = absurd (a b.0 b.1)
+  one_answer (NoFounding k) (Leads h) a b = absurd (a.0 b.0 b.1)
+  one_answer (NoFounding h) (NoFounding k) a b = ap NoFounding (a.1 ∙ sym b.1)
+  one_answer (NoFounding k) (Stops n why) a b = absurd (a.0 b.0 b.1)
+  one_answer (NoFounding k) (Differs d) a b = absurd (a.0 b.0 b.1)
   one_answer (Stops n why) (Leads h) a b =
       absurd (apart (founded b.0) i lines a.2 why b.2
       (subst (λ day. StopsAt (founded day) lines a.2 why) (one_day begins b.0 a.0 b.1 a.1) a.4))
-  one_answer (Stops n why) NoFounding a b = absurd (b a.0 a.1)
+  one_answer (Stops n why) (NoFounding k) a b = absurd (b.0 a.0 a.1)
   one_answer (Stops n why) (Stops m because) a b =
       let same = one_place (founded a.0) lines a.2 b.2 why because a.4
       (subst (λ day. StopsAt (founded day) lines b.2 because) (one_day begins a.0 b.0 a.1 b.1) b.4) in
       ap₂ Stops (a.3 ∙ ap (λ p. p + 1) same.0 ∙ sym b.3) same.1
-  one_answer (Stops n why) (Differs t r) a b =
+  one_answer (Stops n why) (Differs d) a b =
       absurd (apart (founded b.0) b.2 lines a.2 why b.3
       (subst (λ day. StopsAt (founded day) lines a.2 why) (one_day begins b.0 a.0 b.1 a.1) a.4))
-  one_answer (Differs t r) (Leads h) a b =
+  one_answer (Differs d) (Leads h) a b =
       absurd (a.5 (subst (λ day. PlaysTo (founded day) lines i) (one_day begins a.0 b.0 a.1 b.1) b.2))
-  one_answer (Differs t r) NoFounding a b = absurd (b a.0 a.1)
-  one_answer (Differs t r) (Stops n why) a b =
+  one_answer (Differs d) (NoFounding k) a b = absurd (b.0 a.0 a.1)
+  one_answer (Differs d) (Stops n why) a b =
       absurd (apart (founded a.0) a.2 lines b.2 why a.3
       (subst (λ day. StopsAt (founded day) lines b.2 why) (one_day begins a.0 b.0 a.1 b.1) b.4))
-  one_answer (Differs t r) (Differs u s) a b =
+  one_answer (Differs d) (Differs e) a b =
       let same = one_play (founded a.0) b.2 a.2 lines
       (subst (λ day. PlaysTo (founded day) lines b.2) (one_day begins a.0 b.0 a.1 b.1) b.3) a.3 in
-      one_difference (tables_at Third i) (tables_at Third a.2) t u r s a.4
-      (subst (λ k. IsFirstDifference u s (tables_at Third i) (tables_at Third k)) same b.4)
+      ap Differs (one_difference (tables_at Third i) (tables_at Third a.2) d e a.4
+      (subst (λ k. IsDifference e (tables_at Third i) (tables_at Third k)) same b.4))

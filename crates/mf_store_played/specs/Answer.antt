@@ -11,14 +11,21 @@ use Rattle.mf_store_schema.specs.declared.versions.Version.TheVariants.{Third}
 use Rattle.mf_store_sound.specs.Held.{HoldsSoundAt}
 use Rattle.mf_store_sound.specs.Schemas.{tables_at}
 use Rattle.mf_store_played.specs.Played.{IsFounding, IsFirstDifference, founded}
+use Rattle.mf_store_played.specs.declared.played.Difference.{Difference}
 use Rattle.mf_store_played.specs.declared.played.Played.{Played}
 use Rattle.mf_store_played.specs.declared.played.Played.TheVariants.{Leads, NoFounding, Stops, Differs}
+
+-- this is the first difference of rows from those that the play gives
+pub record IsDifference (d : Difference) (here played : Lists) : Type 0 where
+  pub first : IsFirstDifference d.table d.row here played
+  pub here_is : d.here ≡ here
+  pub played_is : d.played ≡ played
 
 -- the answer for two sides' rows after all lines were played, where the journal stands so
 abbrev pub IsCompared : Head → Lists → Lists → Played → Type 0
 IsCompared stands a b (Leads head) = (head ≡ stands) × (a ≡ b)
-IsCompared stands a b (Differs table row) = IsFirstDifference table row a b
-IsCompared stands a b NoFounding = ⊥
+IsCompared stands a b (Differs d) = IsDifference d a b
+IsCompared stands a b (NoFounding head) = ⊥
 IsCompared stands a b (Stops number why) = ⊥
 
 -- The answer is right for an institution and the lines of its journal, which begins here. Where the lines lead to
@@ -26,11 +33,12 @@ IsCompared stands a b (Stops number why) = ⊥
 abbrev pub IsAnswer : Head → List JournalLine → Institution → Played → Type 0
 IsAnswer begins lines i (Leads head) = (day : ℕ) × IsFounding begins day × PlaysTo (founded day) lines i
     × (head ≡ head_with_all begins lines)
-IsAnswer begins lines i NoFounding = (day : ℕ) → ¬ IsFounding begins day
+IsAnswer begins lines i (NoFounding head) =
+    ((day : ℕ) → ¬ IsFounding begins day) × (head ≡ head_with_all begins lines)
 IsAnswer begins lines i (Stops number why) = (day : ℕ) × IsFounding begins day × (place : ℕ)
     × (number ≡ place + 1) × StopsAt (founded day) lines place why
-IsAnswer begins lines i (Differs table row) = (day : ℕ) × IsFounding begins day × (j : Institution)
-    × PlaysTo (founded day) lines j × IsFirstDifference table row (tables_at Third i) (tables_at Third j)
+IsAnswer begins lines i (Differs d) = (day : ℕ) × IsFounding begins day × (j : Institution)
+    × PlaysTo (founded day) lines j × IsDifference d (tables_at Third i) (tables_at Third j)
     × ¬ PlaysTo (founded day) lines i
 
 -- the answer is right for the sound institution that trees hold, and the lines of its journal

@@ -9,20 +9,6 @@ use mf_base::{Day, Fault, Freq};
 /// The number of the last day that may be entered, 31 December 2099.
 const LAST_ENTERED_NUMBER: u64 = 36_524;
 
-/// The number of a day; 1 January 2000 is 0. The error is F20.
-fn day_number(day: Day) -> Result<u64, Fault>
-    ensures number { IfOk result (λ number. number ≡ day) }
-    ensures gives_up { IfErr result (λ fault. fault ≡ F20) }
-{
-    let Some(first) = Day::parse(b"2000-01-01") else {
-        return Err(Fault::F20);
-    };
-    match u64::try_from(day.days_since(first)) {
-        Ok(number) => Ok(number),
-        Err(_) => Err(Fault::F20),
-    }
-}
-
 /// The day of a number, so many weeks after one of the first seven; none where it may not be entered. The error is F20.
 pub(crate) fn day_of_number(number: u64) -> Result<Option<Day>, Fault>
     ensures some { IfOk result (λ x. IfSome x (λ day. (day ≡ number) × (day ≤ last_entered_day))) }
@@ -38,7 +24,7 @@ pub(crate) fn day_of_number(number: u64) -> Result<Option<Day>, Fault>
         return Err(Fault::F20);
     };
     let day = start.after(Freq::Weeks, (number / 7) as u32);
-    if day_number(day)? != number {
+    if u64::from(day.number()) != number {
         return Err(Fault::F20);
     }
     Ok(Some(day))

@@ -11,5 +11,5 @@ mod played;
 mod playing;
 mod rows;
 
-pub use played::{Played, PlayedTable};
+pub use played::{Difference, Played, PlayedTable};
 pub use playing::play_tables;

@@ -2,6 +2,7 @@
 
 use mf_journal::Head;
 use mf_play::Stop;
+use mf_store_sound::Tables;
 
 /// A table beside the journal, in the order of the schema.
 #[derive(Clone, Copy, Debug, PartialEq, Eq)]
@@ -19,16 +20,27 @@ pub enum PlayedTable {
     Shares,
 }
 
+/// The first row that the play of a journal doesn't give: its table, its place in it, from 0, and the rows of both
+/// sides.
+#[derive(Drop)]
+pub struct Difference {
+    pub table: PlayedTable,
+    pub row: usize,
+    /// The rows that stand beside the journal.
+    pub here: Tables,
+    /// The rows that the play gives.
+    pub played: Tables,
+}
+
 /// What the play of a journal says of the tables beside it.
-#[derive(Clone, Copy)]
+#[derive(Drop)]
 pub enum Played {
     /// From its founding the lines lead to just these rows; the journal stands so.
     Leads(Head),
-    /// The journal doesn't begin at the founding of an institution.
-    NoFounding,
+    /// The journal doesn't begin at the founding of an institution; it stands so.
+    NoFounding(Head),
     /// The first line that doesn't play, by its number, and why.
     Stops { number: u64, why: Stop },
-    /// All lines play; the first table whose rows are others than the play gives, and the place of the first row in it
-    /// that differs, from 0.
-    Differs { table: PlayedTable, row: usize },
+    /// All lines play, and lead to other rows.
+    Differs(Difference),
 }

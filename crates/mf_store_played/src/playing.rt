@@ -21,7 +21,7 @@ ghost use Rattle.mf_store_played.specs.Answer.{IsCompared, IsAnswer, IsAnswerOf}
 use crate::differing::first_differing;
 use crate::founding::{found_in_memory, founding_day};
 use crate::pages::play_pages;
-use crate::played::Played;
+use crate::played::{Difference, Played};
 use mf_base::{Day, Fault};
 use mf_journal::Head;
 use mf_store::Store;
@@ -48,11 +48,16 @@ fn rows_in_memory(alloc: Global, store: Store<PageStore>) -> Result<Tables, Faul
 }
 
 /// The answer for both sides' rows, after all lines were played.
-fn compared(head: Head, tables: &Tables, others: &Tables) -> Played
-    ensures { IsCompared head tables.now others.now result }
+fn compared(head: Head, here: Tables, played: Tables) -> Played
+    ensures { IsCompared head here played result }
 {
-    match first_differing(tables, others) {
-        Some((table, row)) => Played::Differs { table, row },
+    match first_differing(&here, &played) {
+        Some((table, row)) => Played::Differs(Difference {
+            table,
+            row,
+            here,
+            played,
+        }),
         None => Played::Leads(head),
     }
 }
@@ -81,7 +86,7 @@ fn compare_rows<S: Alter>(
         Err(fault) => return Err(fault),
     };
     match rows_in_memory(alloc, store) {
-        Ok(played) => Ok(compared(head, &found, &played)),
+        Ok(played) => Ok(compared(head, found, played)),
         Err(fault) => Err(fault),
     }
 }
@@ -140,7 +145,7 @@ fn play_journal<S: Alter>(
 {
     match founding_day(journal.begins) {
         Ok(Some(day)) => play_from(alloc, connection, journal, day),
-        Ok(None) => Ok(Played::NoFounding),
+        Ok(None) => Ok(Played::NoFounding(journal.head)),
         Err(fault) => Err(fault),
     }
 }
@@ -149,7 +154,8 @@ fn play_journal<S: Alter>(
 /// begins, lead to just their rows; else the first line that doesn't play, or the first table and row that differ. It
 /// plays in memory and changes nothing. The error is F20.
 ///
-/// The answer speaks of tables of the third version that hold a sound institution with its journal.
+/// The answer speaks of tables of the third version that hold a sound institution with its journal. It is F20 too where
+/// no journal can be read, which no such tables have.
 pub fn play_tables<S: Alter>(alloc: Global, connection: &mut Connection<S>) -> Result<Played, Fault>
     requires alone { connection.old.in_transaction ≡ false }
     ensures kept { IsUnchangedUnder IsThird (state S.Store connection.old) (state S.Store connection.new) }
@@ -162,7 +168,7 @@ pub fn play_tables<S: Alter>(alloc: Global, connection: &mut Connection<S>) -> R
 {
     match read_journal(connection) {
         Ok(Some(journal)) => play_journal(alloc, connection, journal),
-        Ok(None) => Ok(Played::NoFounding),
+        Ok(None) => Err(Fault::F20),
         Err(fault) => Err(fault),
     }
 }

@@ -1,5 +1,6 @@
 -- What a query and the calls made of it come to.
-use Rattle.std.proofs.Common.{◌≡◌, ℕ, inl, inr, Bool, List, Option, Some, Result, Ok, Err, ◌≤◌, IfOk, IfErr, IsTrue, sym, ◌∙◌}
+use Rattle.std.proofs.Common.{◌≡◌, ℕ, inl, inr, Bool, List, Option, Some, Result}
+use Rattle.std.proofs.Common.{Ok, Err, ◌≤◌, IfOk, IfErr, IsTrue, sym, ◌∙◌}
 use Rattle.std.proofs.Common.{subst, arith, map, filter, find, slice_get}
 use Rattle.sqlite.specs.Tree.{Trees}
 use Rattle.sqlite.specs.Order.{Row}

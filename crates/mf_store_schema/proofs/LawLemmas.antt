@@ -102,7 +102,8 @@ upgrades_first meta is ss lists can =
       fit = (
         refl,
         instalments_fit (map (λ x. Put (PutShare x)) ss ++ (Put (PutMeta meta) ∷ [])) is
-            (record lists { instalments = []; shares = []; journal = [] }) (λ more. shares_fit (Put (PutMeta meta) ∷ []) ss
+            (record lists { instalments = []; shares = []; journal = [] }) (λ more. shares_fit (Put (PutMeta meta) ∷
+            []) ss
             (record lists { instalments = more; shares = []; journal = [] }) (λ others. (refl, tt))),
       );
       become =

@@ -62,7 +62,8 @@ module _ {X : Type 0} (t : Columns) (place tree : ℕ) (stored : X → Row) (by 
     (ordered : (a b : X) → by a b ≡ first_cmp t.key (stored a) (stored b))
     (fits : (x : X) → AreKeepable t.columns (stored x))
     (kept : (journaled : Bool) → IsKept (schema_keeping journaled) place tree t)
-    (held : (trees : Trees) (lists : Lists) → AllHold trees (all_conditions lists) → Keeps stored by (trees tree) (list lists))
+    (held : (trees : Trees) (lists : Lists) → AllHold trees (all_conditions lists) → Keeps stored by (trees tree)
+    (list lists))
     (changes : (x : X) (lists : Lists) (trees : Trees) → AllHold trees (changed_at place (kept_in tree stored by
     (put_item by x (list lists))) (all_conditions lists)) → AllHold trees (all_conditions (put x lists)))
     (spared : (x : X) (lists : Lists) → (put x lists).journal ≡ lists.journal) where
@@ -85,7 +86,8 @@ module _ {X : Type 0} (t : Columns) (place tree : ℕ) (stored : X → Row) (by 
 
   pub adding : (x : X) (old new : State) → Ran (insert_text t) (stored x) old new → Putting (put x) old new
   adding x old new ran = steps (put x) (insert_text t) (stored x) old new ran (λ m s.
-      let did = added stored by (schema_keeping (is_journaled m)) place tree t ordered fits (kept (is_journaled m)) x old
+      let did = added stored by (schema_keeping (is_journaled m)) place tree t ordered fits (kept (is_journaled m)) x
+      old
       new ran.count (list m) s.schema_is (held old.now.trees m s.holds.all) ran.ran in
       stands_after x m old.now new.now s did.0 did.1 did.2 did.3)
 
@@ -100,7 +102,8 @@ module _ {X : Type 0} (t : Columns) (place tree : ℕ) (stored : X → Row) (by 
       (kept (is_journaled m)) x old new ran.count (list m) s.schema_is (held old.now.trees m s.holds.all) ran.ran in
       stands_after x m old.now new.now s did.0 did.1 did.2 did.3)
 
-  pub showing : (n : ℕ) → ((journaled : Bool) → Asks (schema_keeping journaled) place tree t n) → are_always n t.columns ≡ true → (params : Row)
+  pub showing : (n : ℕ) → ((journaled : Bool) → Asks (schema_keeping journaled) place tree t n) → are_always n
+      t.columns ≡ true → (params : Row)
       → ArePlain 0 n params → (is : X → Bool) → ((x : X) → is x ≡ begins n params (stored x)) → (lists : Lists)
       (db : Database) (rows : List Row) → StandsAs db (Some lists) → Answers (select_text t n) params db rows
       → rows ≡ map stored (filter is (list lists))

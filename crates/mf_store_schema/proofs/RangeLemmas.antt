@@ -1,5 +1,6 @@
 -- What the texts that ask for a range mean, and what they show of their tables.
-use Rattle.std.proofs.Common.{◌≡◌, ℕ, pos, Bool, true, ◌&&◌, List, [], ◌∷◌, ◌++◌, codes, false, map, filter, take, refl, ap, ap₂}
+use Rattle.std.proofs.Common.{◌≡◌, ℕ, pos, Bool, true, ◌&&◌, List, [], ◌∷◌, ◌++◌}
+use Rattle.std.proofs.Common.{codes, false, map, filter, take, refl, ap, ap₂}
 use Rattle.std.proofs.Common.{◌∙◌, is_eq}
 use Rattle.std.specs.Ordering.{ordering_then}
 use Rattle.sqlite.specs.declared.types.Value.TheVariants.{Int, Text}
@@ -63,7 +64,8 @@ abbrev office_key : OfficeRow → Row
 office_key x = Int (pos x.number) ∷ []
 
 pub offices_in_shows : (journaled : Bool) (low high : List ℕ) (db : Database) (rows : List Row) (items : List OfficeRow)
-    → db.schema ≡ schema_keeping journaled → Keeps office_row by_office (db.trees 2) items → Answers offices_in (Text low ∷ Text high
+    → db.schema ≡ schema_keeping journaled → Keeps office_row by_office (db.trees 2) items → Answers offices_in (Text
+    low ∷ Text high
     ∷ []) db rows → rows ≡ map office_row (filter (is_between_keys low high) items)
 offices_in_shows journaled low high db rows items has k =
     shown_kept office_row by_office (schema_keeping journaled) 2 offices_in (offices_in_plain journaled)
@@ -109,7 +111,8 @@ loan_ranks : (tests : List Term) (a b : LoanRow) → output_cmp (scan 13 tests (
     (loan_key b, loan_row b) ≡ by_loan a b
 loan_ranks tests a b = ap₂ ordering_then (int_cmp-pos a.office b.office) (then-Equal _ ∙ int_cmp-pos a.number b.number)
 
-pub loans_above_shows : (journaled : Bool) (office after : ℕ) (db : Database) (rows : List Row) (items : List LoanRow) → db.schema ≡ schema_keeping journaled
+pub loans_above_shows : (journaled : Bool) (office after : ℕ) (db : Database) (rows : List Row) (items : List LoanRow)
+    → db.schema ≡ schema_keeping journaled
     → Keeps loan_row by_loan (db.trees 13) items → Answers loans_above (Int (pos office) ∷ Int (pos after) ∷ []) db rows
     → rows ≡ take 100 (map loan_row (filter (is_loan_above office after) items))
 loans_above_shows journaled office after db rows items has k =
@@ -125,11 +128,13 @@ loans_above_shows journaled office after db rows items has k =
 abbrev pub instalments_of_office : List ℕ
 instalments_of_office = select_text instalments 1
 
-pub instalments_of_office_shows : (journaled : Bool) (office : ℕ) (db : Database) (rows : List Row) (items : List InstalmentRow)
+pub instalments_of_office_shows : (journaled : Bool) (office : ℕ) (db : Database) (rows : List Row) (items : List
+    InstalmentRow)
     → db.schema ≡ schema_keeping journaled → Keeps instalment_row by_instalment (db.trees 19) items
     → Answers instalments_of_office (Int (pos office) ∷ []) db rows
     → rows ≡ map instalment_row (filter (is_instalment_in office) items)
 instalments_of_office_shows journaled office db rows items has keeps h =
     asked_shows instalment_row by_instalment (schema_keeping journaled) 9 19 instalments ordered fits
-    (kept journaled).under 1 (Int (pos office) ∷ []) (lists_by_1 journaled) refl ((Number, refl, (office, refl)), tt) (is_instalment_in office)
+    (kept journaled).under 1 (Int (pos office) ∷ []) (lists_by_1 journaled) refl ((Number, refl, (office, refl)), tt)
+    (is_instalment_in office)
     (λ x. ap is_eq (one_number office x.office)) db items rows has keeps h

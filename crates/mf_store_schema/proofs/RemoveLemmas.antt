@@ -37,14 +37,17 @@ delete_shares_plain false = (refl, refl)
 delete_shares_plain true = (refl, refl)
 
 pub removes_shares : (journaled : Bool) (office loan seq : ℕ) (old new : State) (count : ℕ) (items : List ShareRow)
-    → old.now.schema ≡ schema_keeping journaled → Keeps share_row by_share (old.now.trees 21) items → Executes delete_shares (Int (pos office)
+    → old.now.schema ≡ schema_keeping journaled → Keeps share_row by_share (old.now.trees 21) items → Executes
+    delete_shares (Int (pos office)
     ∷ Int (pos loan) ∷ Int (pos seq) ∷ []) old new (Ok count)
     → (new.now.schema ≡ schema_keeping journaled) × Keeps share_row by_share (new.now.trees 21)
     (filter (λ x. not (is_share_in office loan seq x)) items) × Spares (schema_keeping journaled) 21 old.now.trees
     new.now.trees × IsSound (schema_keeping journaled) new.now.trees
 removes_shares journaled office loan seq old new count items has k h =
     deletes_kept share_row by_share by_share_total (schema_keeping journaled) 10 (sql_table 21 shares)
-    (kept journaled).there (kept journaled).quiet refl delete_shares (delete_shares_plain journaled) (eq (col 1 1) (col 0 0) ∷ eq (col 1 2) (col 0 1) ∷ eq (col 1 3) (col 0 2) ∷ [])
-    (delete_shares_is journaled) _ (is_share_in office loan seq) (λ id y. (key_step _ _ _ _ (equals_back y.office office)
+    (kept journaled).there (kept journaled).quiet refl delete_shares (delete_shares_plain journaled) (eq (col 1 1)
+    (col 0 0) ∷ eq (col 1 2) (col 0 1) ∷ eq (col 1 3) (col 0 2) ∷ [])
+    (delete_shares_is journaled) _ (is_share_in office loan seq) (λ id y. (key_step _ _ _ _ (equals_back y.office
+    office)
     (key_step _ _ _ _ (equals_back y.loan loan) (and_true _ ∙ equals_back y.seq seq)))) (λ t. refl) old new count
     items has k h

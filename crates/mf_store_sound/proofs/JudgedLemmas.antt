@@ -44,7 +44,8 @@ can_be_held Second i sound = record {
 can_be_held Third i sound = record {
   all = held_meta_under 3 (omega arith) i sound also held_offices i sound also held_staff i sound
       also held_clients i sound also held_charges i sound also held_products i sound also held_loans i sound
-      also held_entries i sound also held_receipts i sound also held_instalments i sound also held_shares i sound also tt;
+      also held_entries i sound also held_receipts i sound also held_instalments i sound also held_shares i sound also
+      tt;
 }
 
 do_rise : (v : Version) (i : Institution) → IsSound i → DoRise (tables_at v i)

@@ -38,7 +38,8 @@ by_key = scan 19 is_key (col 1 17 ∷ col 1 18 ∷ col 1 19 ∷ col 1 20 ∷ [])
     (by (col 1 1) ∷ by (col 1 2) ∷ by (col 1 3) ∷ [])
 
 find_principal_is : (journaled : Bool) → command_of (understood (schema_keeping journaled) find_principal)
-    ≡ Select (record { lets = []; body = by_key }) (codes "owed_principal" ∷ codes "paid_principal" ∷ codes "waived_principal" ∷ codes "written_off_principal" ∷ [])
+    ≡ Select (record { lets = []; body = by_key }) (codes "owed_principal" ∷ codes "paid_principal" ∷ codes
+    "waived_principal" ∷ codes "written_off_principal" ∷ [])
 unfolding understood everything
 find_principal_is false = refl
 find_principal_is true = refl
@@ -63,13 +64,15 @@ ranks : (a b : InstalmentRow) → output_cmp by_key (instalment_key a, principal
 ranks a b = ap₂ ordering_then (int_cmp-pos a.office b.office)
     (ap₂ ordering_then (int_cmp-pos a.loan b.loan) (then-Equal _ ∙ int_cmp-pos a.number b.number))
 
-pub principal_shows : (journaled : Bool) (office loan number : ℕ) (db : Database) (rows : List Row) (items : List InstalmentRow)
+pub principal_shows : (journaled : Bool) (office loan number : ℕ) (db : Database) (rows : List Row) (items : List
+    InstalmentRow)
     → db.schema ≡ schema_keeping journaled → Keeps instalment_row by_instalment (db.trees 19) items
     → Answers find_principal (Int (pos office) ∷ Int (pos loan) ∷ Int (pos number) ∷ []) db rows
     → rows ≡ map principal_row (filter (is_row_of_instalment office loan number) items)
 principal_shows journaled office loan number db rows items has k =
     shown_kept instalment_row by_instalment (schema_keeping journaled) 19 find_principal
-    (find_principal_plain journaled) (find_principal_listed journaled) is_key _ _ _ (find_principal_is journaled) _ (is_row_of_instalment office loan number) (λ id y.
+    (find_principal_plain journaled) (find_principal_listed journaled) is_key _ _ _ (find_principal_is journaled) _
+    (is_row_of_instalment office loan number) (λ id y.
     (key_step _ _ _ _ (equals_back y.office office) (key_step _ _ _ _ (equals_back y.loan loan) (and_true _
     ∙ equals_back y.number number)))) instalment_key principal_row (λ id y. refl) ranks (λ t. refl) db items rows has k
 

@@ -1,5 +1,6 @@
 -- What rows that are taken one at a time leave of the connection that gives them.
-use Rattle.std.proofs.Common.{◌≡◌, pos, Bool, false, map, filter, IsTrue, IfOk, ℕ, Result, IfErr, OnOk, true≢false, inl, inr}
+use Rattle.std.proofs.Common.{◌≡◌, pos, Bool, false, map, filter, IsTrue, IfOk}
+use Rattle.std.proofs.Common.{ℕ, Result, IfErr, OnOk, true≢false, inl, inr}
 use Rattle.std.proofs.Common.{List, [], ◌∷◌, None, Some, Ok, Err, refl, sym, ap, subst, ◌∙◌, arith, ◌++◌}
 use Rattle.std.specs.Result.{IsErr, is_err}
 use Rattle.std.proofs.lemmas.Result.{IfErr-weaker, on_ok_weaker}
@@ -241,7 +242,8 @@ prepared_ok P Q (Err x) e h = absurd (true≢false e)
 
 -- where it could not be prepared, nothing is changed
 pub unprepared : {A : Type 0} (P : A → Type 0) (text sql : List ℕ) (old new : State) (r : Result A Error)
-    → ((journaled : Bool) → IsPlain (understood (schema_keeping journaled) text)) → (IsTrue old.is_open → old.now ≡ old.committed)
+    → ((journaled : Bool) → IsPlain (understood (schema_keeping journaled) text)) → (IsTrue old.is_open → old.now ≡
+    old.committed)
     → (HasCleanDisk new → IfOk r (λ s. P s × IsUnchanged old new))
     → (HasCleanDisk new → IfErr r (λ e. (params : Row) → IsNotRun old new sql params e)) → Survives old new (λ _. ⊥)
     → IsAsBefore old new
@@ -258,7 +260,8 @@ plain_mid sql old mid same plain = subst (λ (d : Database). IsPlain (understood
 
 -- a plain query that was folded changes nothing
 pub folded_unchanged : {A : Type 0} (P : A → Type 0) (sql : List ℕ) (params : Row) (old mid new : State)
-    (r : Result A Error) → ((journaled : Bool) → IsPlain (understood (schema_keeping journaled) sql)) → (IsTrue old.is_open → old.now ≡ old.committed)
+    (r : Result A Error) → ((journaled : Bool) → IsPlain (understood (schema_keeping journaled) sql)) → (IsTrue
+    old.is_open → old.now ≡ old.committed)
     → is_err r ≡ false → (HasCleanDisk mid → IfOk r (λ s. P s × IsUnchanged old mid)) → Survives old mid (λ _. ⊥)
     → Survives mid new (CommitsShowing sql params mid)
     → (HasCleanDisk new → IsPlain (understood mid.now.schema sql) → (IsTrue mid.is_open → mid.now ≡ mid.committed)
@@ -310,7 +313,8 @@ module _ (lists : Lists) (old mid : State) (same : IsUnchanged old mid) (keeping
         let all = begins_shown instalments_of_office (Int (pos office) ∷ []) mid mid it.0 it.1
         (unchanged_here mid same.0.is_open)
         (λ c db is source. subst (λ k. EndsIn k db (timed (Int (pos office) ∷ []) c.formats is.now))
-        (sym (lists_by_1 (are_some lists.journal)).is ∙ sym (ap (λ s. command_of (understood s instalments_of_office)) schema_is)
+        (sym (lists_by_1 (are_some lists.journal)).is ∙ sym (ap (λ s. command_of (understood s instalments_of_office))
+        schema_is)
         ∙ ap command_of is.is) tt) in
         absurd (it.2 office loans all.0 above whole within (taken_rows office mid (it.0 ++ all.0) all.1
         ∙ ap (map instalment_row) are) is_new)

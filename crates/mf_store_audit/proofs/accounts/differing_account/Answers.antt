@@ -8,7 +8,8 @@ use Rattle.mf_store_audit.proofs.accounts.differing_account.Goals as goal
 
 pub returns-in-Some-clause-found : goal.returns-in-Some-clause-found
 returns-in-Some-clause-found c version today i sound is =
-    differs_at instalment_key c.deref.result.now c.deref-2.result.now c.in_ok-instalments.instalments.items (tables_of i).instalments
+    differs_at instalment_key c.deref.result.now c.deref-2.result.now c.in_ok-instalments.instalments.items (tables_of
+    i).instalments
     c.args.tables.now.instalments c.in-Some.place c.in-Some.key
     c.in-Some.ensures.some c.deref.ensures.value
     ((c.in_ok-instalments.ensures {u = tt}).under (number_of version) i sound is).0

@@ -12,9 +12,9 @@ returns-clause-head g c clean i kept =
     let begun = c.update.ensures [] c.new-hasher.ensures in
     let day = c.put_number.ensures _ begun in
     let whole = c.in_ok-put_all.ensures.takes_in.takes_in clean (tables_kept None i) kept.serves _ day in
-    let number = c.in_ok-number.ensures.number in
+    let number = c.from-number.ensures ∙ c.number.ensures in
     let chain = c.finalize.ensures _ whole ∙ ap sha256 (append_assoc (codes "microloan upgraded")
-    (number_text c.in_ok-number.number) (tables_text (tables_of i)))
+    (number_text c.from-number.result) (tables_text (tables_of i)))
     ∙ ap (λ d. sha256 (upgrading_text d (tables_of i))) number in
     ap₂ (λ d digest. (let head : Head = record { number = 0; day = d; chain = digest } in head)) number chain
 

@@ -10,4 +10,5 @@ returns-clause-makes g c =
     let noted = noted_as c.args.caller (received_now (Received c.args.text.now)) c.args.names in
     subst (λ line. MakesWrites g.S.Store (Some c.args.place.journal) c.args.writes.now line c.args.connection.now
     c.write_row.new.connection c.write_row.result)
-    (c.row_of-row.ensures ∙ ap (λ day. noted_line day noted) c.in_ok-today.ensures.number) c.write_row.ensures.makes
+    (c.row_of-row.ensures ∙ ap (λ day. noted_line day noted) (c.from-today.ensures ∙ c.number.ensures))
+    c.write_row.ensures.makes

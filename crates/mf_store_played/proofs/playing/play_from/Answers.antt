@@ -34,7 +34,8 @@ returns-in-Ok-Ok-clause-answer g c clean its held lines journal keeps at =
     let early = after.premise clean in
     let plays = rw c.in-Ok-Ok.field-0-is at (c.in-Ok-Ok.ensures {u = tt}).plays in
     let came = plays early its (always_clean (λ _. refl) c.play_pages.new.store.connection) begins lines
-    (number_none begins lines held.institution day c.requires.founds) keeps (founded day) c.in_ok-store.ensures.stands in
+    (number_none begins lines held.institution day c.requires.founds) keeps (founded day) c.in_ok-store.ensures.stands
+    in
     on_ok_then c.compare_rows.result _ _ (c.compare_rows.ensures.open clean) (λ live.
     let same = (c.play_pages.ensures.kept).same early (after.was_open clean live) its in
     let told = c.compare_rows.ensures.answer clean (subst (λ (d : Database). IsThird d.schema) (sym same) its)
@@ -51,5 +52,6 @@ returns-in-Ok-Err-clause-answer g c clean its held lines journal keeps at =
     let day = c.args.day in
     let plays = rw c.in-Ok-Err.field-0-is at (c.in-Ok-Err.ensures {u = tt}).plays in
     let came = plays clean its (always_clean (λ _. refl) c.play_pages.new.store.connection) begins lines
-    (number_none begins lines held.institution day c.requires.founds) keeps (founded day) c.in_ok-store.ensures.stands in
+    (number_none begins lines held.institution day c.requires.founds) keeps (founded day) c.in_ok-store.ensures.stands
+    in
     (day, c.requires.founds, came.0, came.1, came.2)

@@ -1,10 +1,10 @@
 use Rattle.std.proofs.Common.{sym, subst}
 use Rattle.sqlite.specs.Effect.{Database}
 use Rattle.sqlite.specs.Held.{state}
-use Rattle.mf_store_schema.proofs.ReadLemmas.{at_none, at_some}
+use Rattle.mf_store_schema.proofs.ReadLemmas.{at_some}
 use Rattle.mf_store_journal.specs.Reading.{IsThird}
 use Rattle.mf_store_journal.proofs.GoingLemmas.{still_unchanged}
-use Rattle.mf_store_played.proofs.AnswerLemmas.{answer_of_one, answer_where_none, answer_before}
+use Rattle.mf_store_played.proofs.AnswerLemmas.{answer_of_one, answer_before}
 use Rattle.mf_store_played.proofs.playing.play_tables.Goals as goal
 
 pub returns-in-Ok-Some-clause-kept : goal.returns-in-Ok-Some-clause-kept
@@ -26,9 +26,3 @@ returns-in-Ok-Some-clause-answer g c clean its =
     c.in-Ok-Some.field-0-is (c.in-Ok-Some.ensures.only early its)) c.play_journal.result
     (answer_before old.now mid.now same c.in-Ok-Some.journal c.play_journal.result
     (c.play_journal.ensures.answer clean (subst (λ (d : Database). IsThird d.schema) (sym same) its)))
-
-pub returns-in-Ok-None-clause-answer : goal.returns-in-Ok-None-clause-answer
-returns-in-Ok-None-clause-answer g c clean its =
-    answer_where_none (state g.S.Store c.args.connection.now).now.trees
-    (at_none c.in-Ok-None.field-0 _
-    c.in-Ok-None.field-0-is (c.in-Ok-None.ensures.none clean its))

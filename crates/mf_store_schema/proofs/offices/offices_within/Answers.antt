@@ -11,5 +11,6 @@ ask-requires-clause-plain g c = offices_in_plain
 pub returns-clause-rows : goal.returns-clause-rows
 returns-clause-rows g c clean lists kept =
     shown c.ask.result (λ v. v.items) (state g.S.Store c.args.connection.now) offices_in _ lists _ (λ v s a.
-    offices_in_shows (are_some lists.journal) c.args.low.now c.args.high.now _ v.items lists.offices s.schema_is s.holds.all.1.0 a) kept
+    offices_in_shows (are_some lists.journal) c.args.low.now c.args.high.now _ v.items lists.offices s.schema_is
+    s.holds.all.1.0 a) kept
     (rw (c.params-to_sql.ensures, c.params-to_sql-2.ensures) at (c.ask.ensures.shows clean))

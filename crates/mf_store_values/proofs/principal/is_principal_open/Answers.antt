@@ -14,7 +14,8 @@ returns-clause-left g c clean lists kept =
     let s = rw (c.params-to_sql.ensures, c.params-to_sql-2.ensures, c.params-to_sql-3.ensures) at
     (c.in_ok-rows.ensures.shows clean) in
     let serves = kept s.is_open in
-    let are = principal_shows (are_some lists.journal) c.args.office c.args.loan c.args.number (state g.S.Store c.args.connection.now).now
+    let are = principal_shows (are_some lists.journal) c.args.office c.args.loan c.args.number (state g.S.Store
+    c.args.connection.now).now
     c.in_ok-rows.rows.items lists.instalments serves.schema_is serves.holds.all.1.1.1.1.1.1.1.1.1.0 s.answers in
     let first = c.in-Some.ensures.value ∙ (λ t. slice_get (c.deref.ensures.value t) 0) in
     IfOk-weaker c.is_left_in.result _ _ (λ left reads yes. first_left (is_row_of_instalment c.args.office c.args.loan

@@ -13,7 +13,8 @@ returns g c =
     { name = c.args.name; kind = c.args.kind; calc = c.args.calc; value = c.args.value } in
     c.make.ensures _ _ c.in_ok-counts.ensures.asks.kept (λ clean i s admitted.
     let counts = c.in_ok-counts.ensures.value clean i s in (
-      beside refl refl (refl, tt) (charge_becomes charge i c.in_ok-row.row s.sound admitted.sound (c.in_ok-row.ensures.row
+      beside refl refl (refl, tt) (charge_becomes charge i c.in_ok-row.row s.sound admitted.sound
+          (c.in_ok-row.ensures.row
           ∙ ap (λ (k : CatalogueCounts). charge_as (k.charges + 1) charge) counts)),
       charge_tells charge i c.in_ok-counts.counts s.sound counts,
     ))

@@ -21,7 +21,8 @@ returns g c =
     (c.in_ok-above.ensures.value clean i (c.in_ok-taken.ensures.asks.kept.same before i s)) in
     let none = none_there (office_at c.args.number i.offices) (ap (is_there i.offices) (sym c.get.ensures.value)
     ∙ sym (c.in_ok-taken.ensures.value before i s) ∙ free) in (
-      beside refl refl (refl, tt) (office_becomes c.args.number c.args.parent c.args.name c.in-Some.above i _ s.sound admitted.sound
+      beside refl refl (refl, tt) (office_becomes c.args.number c.args.parent c.args.name c.in-Some.above i _ s.sound
+          admitted.sound
           c.tree_of_offices.ensures none (ap (is_there i.offices) (sym parent) ∙ known.0)
           (known.1 ∙ ap (key_of (parent_of i.offices)) parent)
           (same_office _ _ _ _ _ _ _ _ c.get-2.ensures.value parent (c.new.ensures ∙ text) c.of_name.ensures)),

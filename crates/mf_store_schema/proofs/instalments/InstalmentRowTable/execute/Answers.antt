@@ -14,4 +14,5 @@ returns-clause-ok g c clean inside =
 pub returns-clause-failed : goal.returns-clause-failed
 returns-clause-failed g c clean inside =
     failed_row c.run.result c.args.sql.now (state g.S.Store c.args.tx.now.conn.now)
-    (state g.S.Store c.run.new.tx.conn.now) _ (instalment_row c.args.self.now) (search rules) (c.run.ensures.failed clean inside)
+    (state g.S.Store c.run.new.tx.conn.now) _ (instalment_row c.args.self.now) (search rules) (c.run.ensures.failed
+    clean inside)

@@ -15,4 +15,5 @@ returns-clause-ok g c clean inside =
 pub returns-clause-failed : goal.returns-clause-failed
 returns-clause-failed g c clean inside =
     failed_row c.run.result c.args.sql.now (state g.S.Store c.args.tx.now.conn.now)
-    (state g.S.Store c.run.new.tx.conn.now) _ (product_row c.args.self.now) (search (rules, bound_number)) (c.run.ensures.failed clean inside)
+    (state g.S.Store c.run.new.tx.conn.now) _ (product_row c.args.self.now) (search (rules, bound_number))
+    (c.run.ensures.failed clean inside)
