@@ -16,10 +16,12 @@ def free_port():
     sys.exit("no port is free")
 
 
-def message(method, path, body=""):
-    """A message from the head's manager."""
+def message(method, path, body="", told=()):
+    """A message from the head's manager, with these bytes in fields X-Told."""
     length = f"Content-Length: {len(body)}\r\n" if body else ""
-    return f"{method} {path} HTTP/1.1\r\nHost: localhost\r\nX-Staff: 1/1\r\n{length}\r\n{body}".encode()
+    fields = b"".join(b"X-Told: " + value + b"\r\n" for value in told)
+    head = f"{method} {path} HTTP/1.1\r\nHost: localhost\r\nX-Staff: 1/1\r\n{length}".encode()
+    return head + fields + b"\r\n" + body.encode()
 
 
 def received(stream):
@@ -41,11 +43,11 @@ def peak_of(number):
 
 class Server:
     """The program's `serve` over a file, for so many connections; for 0 without end. It waits for a silent client for so
-    many seconds, or for as long as the program does by itself."""
+    many seconds, or for as long as the program does by itself. It is given more words."""
 
-    def __init__(self, program, path, count=0, patience=None):
+    def __init__(self, program, path, count=0, patience=None, more=()):
         self.port = free_port()
-        words = [program, "serve", "--file", path, "--port", str(self.port), "--count", str(count)]
+        words = [program, "serve", "--file", path, "--port", str(self.port), "--count", str(count), *more]
         if patience is not None:
             words += ["--patience", str(patience)]
         self.process = subprocess.Popen(words, stdin=subprocess.DEVNULL)

@@ -1,6 +1,7 @@
 """Tests of the front: who gets through, as whom, and what is told when the program can't be reached."""
 import concurrent.futures
 import contextlib
+import datetime
 import gzip
 import http.server
 import json
@@ -45,6 +46,16 @@ def setUpModule():
 
 def add_client(name):
     return "POST", "/api/clients", {"office": 2, "name": name}
+
+
+def told_of(message):
+    """The addresses that a message's fields X-Told have behind a time of this minute."""
+    addresses = []
+    for value in re.findall(rb"\r\nX-Told: ([^\r\n]*)", message, re.IGNORECASE):
+        when, address = value.decode().split(",")
+        assert abs(datetime.datetime.fromisoformat(when).timestamp() - time.time()) < 60, when
+        addresses.append(address)
+    return addresses
 
 
 def count_clients():
@@ -447,10 +458,14 @@ class TheProgram(unittest.TestCase):
 
             thread = threading.Thread(target=close_each, daemon=True)
             thread.start()
-            self.assertEqual(DESK.send("zoe", *add_client("Once")), (502, {"front": "down"}))
+            forged = [(name, "forged") for name in ("X-Told", "x-told", "X_Told")]
+            once = DESK.send("zoe", *add_client("Once"), fields=[("X-Desk", "1"), *forged])
+            self.assertEqual(once, (502, {"front": "down"}))
             thread.join(0.5)
             self.assertEqual(len(got), 1)
             self.assertIn(b"X-Staff: 2/2\r\n", got[0])
+            self.assertEqual(told_of(got[0]), ["127.0.0.1"])
+            self.assertNotIn(b"forged", got[0])
             self.assertNotIn(b"Authorization", got[0])
             self.assertEqual(DESK.send("zoe", "GET", "/api/offices"), (502, {"front": "down"}))
             thread.join(5)

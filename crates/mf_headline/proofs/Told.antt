@@ -1,14 +1,11 @@
 -- What a line that shows a loan is told.
-use Rattle.std.proofs.Common.{◌≡◌, Bool, true, false, cond, List, Option, Some, None, Result, Ok, Err, refl, sym, ap}
+use Rattle.std.proofs.Common.{◌≡◌, Bool, true, false, cond, List, Option, Some, None, Ok, Err, refl, sym, ap}
 use Rattle.std.proofs.Common.{◌∙◌}
 use Rattle.std.proofs.Common.{subst}
-use Rattle.mf_base.specs.declared.fault.Fault.{Fault}
-use Rattle.mf_base.specs.declared.fault.Fault.TheVariants.{F2, F3, F4, F20}
+use Rattle.mf_base.specs.declared.fault.Fault.TheVariants.{F3, F20}
 use Rattle.mf_office.specs.declared.account.Account.{Account}
 use Rattle.mf_office.specs.declared.caller.Caller.{Caller}
 use Rattle.mf_office.specs.Tree.{is_at_or_below}
-use Rattle.mf_model.specs.declared.reply.LoanReply.{LoanReply}
-use Rattle.mf_model.specs.declared.reply.Reply.{Reply}
 use Rattle.mf_model.specs.declared.request.LoanRequest.{LoanRequest}
 use Rattle.mf_model.specs.declared.request.LoanRequest.TheVariants.{Show, ShowInstalments, ShowEntries, Take, Repay}
 use Rattle.mf_model.specs.declared.request.LoanRequest.TheVariants.{ChargeFee, Post, Reverse}
@@ -23,7 +20,7 @@ use Rattle.mf_model.specs.Run.{Line, answer, last}
 use Rattle.mf_model.specs.Store.{ledger_at, rows_of}
 use Rattle.mf_model.specs.Tree.{parent_of, seen_office}
 use Rattle.mf_histories.proofs.Whole.{ledger_after}
-use Rattle.mf_headline.specs.Replays.{IsReading, told_of, replayed, IsReplay}
+use Rattle.mf_headline.specs.Replays.{IsReading, told_of, IsReplay}
 
 seen_there : (b : Bool) (o : Option Office) (f : Office) → cond b o None ≡ Some f → o ≡ Some f
 seen_there true o f h = h

@@ -13,8 +13,10 @@ use Rattle.mf_model.specs.Run.{Line}
 use Rattle.mf_model.specs.declared.request.Request.{Request}
 use Rattle.mf_model.specs.declared.request.Request.TheVariants.{Unreadable}
 use Rattle.mf_model.specs.declared.request.Flaw.TheVariants.{Malformed}
-use Rattle.mf_wire_requests.specs.RequestLine.{Parts, is_token, parts_of_line, split_space}
-use Rattle.mf_wire_requests.specs.Requests.{request_of, asked_in, received_in, call_of, call_of_parts}
+use Rattle.mf_wire_lines.specs.Cut.{longest_line}
+use Rattle.mf_wire_requests.specs.RequestLine.{Parts, is_token, parts_in, line_in, split_space}
+use Rattle.mf_wire_requests.specs.Requests.{request_of, asked_in, received_in, call_in, call_by_parts}
+use Rattle.mf_wire_requests.specs.Requests.{call_of_parts}
 use Rattle.mf_play.specs.Play.{if_readable, IsAsReceived, AreAsReceived}
 
 -- a caller that is read has numbers in range
@@ -60,14 +62,19 @@ parts_received p = record {
   request = asked_again (is_some (caller_of p.caller) && is_token p.method) (request_of p.method p.path p.body);
 }
 
+-- so is what a caller's text sends, which may have no parts
+pub message_received : (caller : List ℕ) (parts : Option Parts) → IsAsReceived (call_by_parts caller parts)
+message_received caller None = record { caller = caller_range caller; request = tt }
+message_received caller (Some p) = record { caller = caller_range caller; request = (parts_received p).request }
+
 sender_range : (o : Option (List ℕ × List ℕ)) → IfSome (option_and_then (λ p. caller_of p.0) o) IsCaller
 sender_range None = tt
 sender_range (Some p) = caller_range p.0
 
-pub line_received : (line : List ℕ) → IsAsReceived (call_of line)
-line_received line = record {
-  caller = sender_range (split_space line);
-  request = within (nat_le (length line) 65536) (parts_of_line line);
+pub line_received : (told : Bool) (line : List ℕ) → IsAsReceived (call_in told line)
+line_received told line = record {
+  caller = sender_range (split_space (line_in told line));
+  request = within (nat_le (length line) longest_line) (parts_in told line);
 }
   where
     within : (b : Bool) (o : Option Parts) → IfSome (if_readable (cond b (asked_in o) (Unreadable Malformed)))
@@ -76,11 +83,11 @@ line_received line = record {
     within true None = tt
     within true (Some p) = (parts_received p).request
 
-pub lines_received : (run : List Line) (lines : List (List ℕ)) → map (λ l. l.call) run ≡ map call_of lines
-    → AreAsReceived run
-lines_received [] lines e = tt
-lines_received (l ∷ run) [] e = absurd (cc)
-lines_received (l ∷ run) (line ∷ lines) e =
-    let one : l.call ≡ call_of line = cc in
-    let rest : map (λ m. m.call) run ≡ map call_of lines = cc in
-    (subst IsAsReceived (sym one) (line_received line), lines_received run lines rest)
+pub lines_received : (told : Bool) (run : List Line) (lines : List (List ℕ))
+    → map (λ l. l.call) run ≡ map (call_in told) lines → AreAsReceived run
+lines_received told [] lines e = tt
+lines_received told (l ∷ run) [] e = absurd (cc)
+lines_received told (l ∷ run) (line ∷ lines) e =
+    let one : l.call ≡ call_in told line = cc in
+    let rest : map (λ m. m.call) run ≡ map (call_in told) lines = cc in
+    (subst IsAsReceived (sym one) (line_received told line), lines_received told run lines rest)

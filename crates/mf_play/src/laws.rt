@@ -1,12 +1,12 @@
 //! Laws of the play. Each function does nothing: its contract is the law.
 
-ghost use Rattle.std.specs.Prelude.{◌≡◌, ◌⊎◌, ℕ, List, ◌++◌, map};
+ghost use Rattle.std.specs.Prelude.{◌≡◌, ◌⊎◌, ℕ, Bool, List, ◌++◌, map, Option};
 ghost use Rattle.std.specs.List.{AllByRecursion};
 ghost use Rattle.mf_model.specs.Institution.{Institution, JournalLine};
 ghost use Rattle.mf_model.specs.Run.{Line, last};
 ghost use Rattle.mf_journal.specs.Journal.{line_of_write, with_lines, writes_of};
 ghost use Rattle.mf_wire_requests.specs.RequestLine.{Parts};
-ghost use Rattle.mf_wire_requests.specs.Requests.{call_of, call_of_parts};
+ghost use Rattle.mf_wire_requests.specs.Requests.{call_in, call_by_parts, call_of_parts};
 ghost use Rattle.mf_play.specs.Play.{PlaysTo, StopsAt, IsAsReceived, AreAsReceived};
 ghost use Rattle.mf_play.specs.WorkedPlay.{opened, morning, after_morning, stopping, morning_with};
 ghost use Rattle.mf_play.specs.declared.stop.Stop.{Stop};
@@ -55,13 +55,14 @@ pub fn what_plays_a_run_notes()
         × AreAsReceived run × (map line_of_write (writes_of run i) ≡ lines) × (last run i ≡ j) }
 {}
 
-/// Each request that comes as text is what its text asks: that of a message, that of a line, and those of a run over
-/// lines.
+/// Each request that comes as text is what its text asks, whatever is told of it: one in its parts, as that of a
+/// message, that of a line, and those of a run over lines.
 pub fn texts_are_as_received()
     ensures parts { (parts : Parts) → IsAsReceived (call_of_parts parts) }
-    ensures lines { (line : List ℕ) → IsAsReceived (call_of line) }
-    ensures runs { (run : List Line) (lines : List (List ℕ)) → map (λ l. l.call) run ≡ map call_of lines →
-        AreAsReceived run }
+    ensures messages { (caller : List ℕ) (parts : Option Parts) → IsAsReceived (call_by_parts caller parts) }
+    ensures lines { (told : Bool) (line : List ℕ) → IsAsReceived (call_in told line) }
+    ensures runs { (told : Bool) (run : List Line) (lines : List (List ℕ)) → map (λ l. l.call) run
+        ≡ map (call_in told) lines → AreAsReceived run }
 {}
 
 /// Worked out: a morning as its journal tells it, from bytes, and lines that would stop as its second, for each reason.

@@ -10,7 +10,7 @@ ghost use Rattle.mf_play.specs.Play.{text_told};
 ghost use Rattle.mf_play.specs.Playing.{PlaysCall, PlaysLine, PlaysLines};
 
 use crate::stop::Stop;
-use crate::told::{Sent, call_told, day_number, names_as_told};
+use crate::told::{Sent, call_told, names_as_told};
 use mf_base::Fault;
 use mf_desk::{Decision, commit_noted, decide};
 use mf_journal::JournalRow;
@@ -29,10 +29,7 @@ fn is_of_today<S: InstitutionStore>(
         store.new result }
 {
     match store.business_day(alloc) {
-        Ok(today) => match day_number(today) {
-            Ok(number) => Ok(number == row.day),
-            Err(fault) => Err(fault),
-        },
+        Ok(today) => Ok(u64::from(today.number()) == row.day),
         Err(fault) => Err(fault),
     }
 }

@@ -73,20 +73,6 @@ pub(crate) fn call_told(
     }
 }
 
-/// The number of a day; 1 January 2000 is 0. The error is F20.
-pub(crate) fn day_number(day: Day) -> Result<u64, Fault>
-    ensures number { IfOk result (λ number. number ≡ day) }
-    ensures gives_up { IfErr result (λ fault. fault ≡ F20) }
-{
-    let Some(first) = Day::parse(b"2000-01-01") else {
-        return Err(Fault::F20);
-    };
-    match u64::try_from(day.days_since(first)) {
-        Ok(number) => Ok(number),
-        Err(_) => Err(Fault::F20),
-    }
-}
-
 /// Whether a reply names what a row names.
 pub(crate) fn names_as_told(names: Names, row: JournalRow<'_>) -> bool
     ensures { IsTrue result ↔ (names_told (line_of_row row.entry) ≡ names) }

@@ -12,5 +12,6 @@ asked_in_range : (line : SheetLine) → IsLineInRange line → IsInRange (reques
 asked_in_range Bad h = tt
 asked_in_range (Repay r) h = (h.loan, ((h.least, h.most), h.day, h.receipt))
 
-pub row_in_range : (caller : Caller) (fields : List (List ℕ)) → IsInRange (call_by caller fields).request
-row_in_range caller fields = asked_in_range (sheet_line_of fields) (line_in_range fields)
+pub row_in_range : (told : List ℕ) (caller : Caller) (fields : List (List ℕ))
+    → IsInRange (call_by told caller fields).request
+row_in_range told caller fields = asked_in_range (sheet_line_of fields) (line_in_range fields)

@@ -1,5 +1,5 @@
 -- What a repayment is told by an institution, and what it changes there.
-use Rattle.std.proofs.Common.{◌≡◌, ◌≢◌, ℕ, Option, Some, None, Result, Ok, Err, refl}
+use Rattle.std.proofs.Common.{◌≡◌, ◌≢◌, ℕ, [], Option, Some, None, Result, Ok, Err, refl}
 use Rattle.mf_base.specs.declared.fault.Fault.{Fault}
 use Rattle.mf_base.specs.declared.fault.Fault.TheVariants.{F2, F4, F9}
 use Rattle.mf_office.specs.declared.caller.Caller.{Caller}
@@ -9,7 +9,7 @@ use Rattle.mf_account.specs.Refusals.{refusal_of}
 use Rattle.mf_model.specs.declared.request.Repayment.{Repayment}
 use Rattle.mf_model.specs.declared.request.LoanRequest.TheVariants as asks
 use Rattle.mf_model.specs.declared.reply.Reply.TheVariants as reply
-use Rattle.mf_model.specs.declared.reply.LoanReply.TheVariants as told
+use Rattle.mf_model.specs.declared.reply.LoanReply.TheVariants as loan_reply
 use Rattle.mf_model.specs.Institution.{Institution, Catalogue, Office, Ledger, Staff, Change, Rows_become}
 use Rattle.mf_model.specs.Institution.{item_numbered}
 use Rattle.mf_model.specs.Tree.{seen_office}
@@ -99,9 +99,9 @@ pub record Repeating (c : Caller) (r : SheetRepayment) (i : Institution) (seq : 
 -- What is so of a refusal, of a repetition and of an entry is so of every repayment.
 module _ (c : Caller) (r : SheetRepayment) (i : Institution) (P : Outcome → SheetResult → Type 0)
     (refused : (fault : Fault) → P (Err fault) (Refused fault))
-    (again : (seq : ℕ) → Repeating c r i seq → P (Ok (reply.Loan r.loan (told.Repeated seq), None)) Repeated)
+    (again : (seq : ℕ) → Repeating c r i seq → P (Ok (reply.Loan r.loan (loan_reply.Repeated seq), None)) Repeated)
     (enters : (w : Entering c r i) → P (Ok (
-      reply.Loan r.loan (told.Entered (entry_of c r w.account).seq),
+      reply.Loan r.loan (loan_reply.Entered (entry_of c r w.account).seq),
       Some (entered_change c r i w),
     )) Entered) where
   module _ (s : Staff) (known : staff_at i c ≡ Some s) (f : Office) (seen : seen_office c.office r.loan.office i
@@ -116,7 +116,7 @@ module _ (c : Caller) (r : SheetRepayment) (i : Institution) (P : Outcome → Sh
       where
         at_fault : (o : Option Fault) → refusal_of a (entry_of c r a) i.catalogue.day ≡ o
             → P (of_office r.loan.office (of_loan r.loan f.rows (unless_fault (fault_or None o)
-            (told.Entered (entry_of c r a).seq) (with_new_entry (entry_of c r a))))) (as_entry o)
+            (loan_reply.Entered (entry_of c r a).seq) (with_new_entry (entry_of c r a))))) (as_entry o)
         at_fault None allowed = enters (record {
           staff = s;
           office = f;
@@ -167,26 +167,26 @@ module _ (c : Caller) (r : SheetRepayment) (i : Institution) (P : Outcome → Sh
   at_staff None e = refused F2
   at_staff (Some s) known = at_office s known (seen_office c.office r.loan.office i) refl
 
-  pub every_repayment : P (outcome (call_of_line c (Repay r)) i) (judged c r i)
+  pub every_repayment : P (outcome (call_of_line [] c (Repay r)) i) (judged c r i)
   unfolding looked_at
   every_repayment = at_staff (staff_at i c) refl
 
 module _ (c : Caller) (r : SheetRepayment) (i : Institution) where
-  pub judged_is : result_of (reply_in (outcome (call_of_line c (Repay r)) i)) ≡ judged c r i
+  pub judged_is : result_of (reply_in (outcome (call_of_line [] c (Repay r)) i)) ≡ judged c r i
   judged_is = every_repayment c r i (λ o t. result_of (reply_in o) ≡ t) (λ fault. refl) (λ seq w. refl) (λ w. refl)
 
-  pub unless_entered : judged c r i ≢ Entered → change_in (outcome (call_of_line c (Repay r)) i) ≡ None
+  pub unless_entered : judged c r i ≢ Entered → change_in (outcome (call_of_line [] c (Repay r)) i) ≡ None
   unless_entered = every_repayment c r i (λ o t. t ≢ Entered → change_in o ≡ None) (λ fault n. refl) (λ seq w n. refl)
       (λ w n. absurd (n refl))
 
-  pub entered_so : judged c r i ≡ Entered → (w : Entering c r i) × (change_in (outcome (call_of_line c (Repay r)) i)
+  pub entered_so : judged c r i ≡ Entered → (w : Entering c r i) × (change_in (outcome (call_of_line [] c (Repay r)) i)
       ≡ Some (entered_change c r i w))
   entered_so =
       every_repayment c r i (λ o t. t ≡ Entered → (w : Entering c r i) × (change_in o ≡ Some (entered_change c r i w)))
       (λ fault e. absurd (cc)) (λ seq w e. absurd (cc)) (λ w e. (w, refl))
 
   pub repeated_so : judged c r i ≡ Repeated → (seq : ℕ) × Repeating c r i seq
-      × (outcome (call_of_line c (Repay r)) i ≡ Ok (reply.Loan r.loan (told.Repeated seq), None))
+      × (outcome (call_of_line [] c (Repay r)) i ≡ Ok (reply.Loan r.loan (loan_reply.Repeated seq), None))
   repeated_so = every_repayment c r i (λ o t. t ≡ Repeated → (seq : ℕ) × Repeating c r i seq
-      × (o ≡ Ok (reply.Loan r.loan (told.Repeated seq), None)))
+      × (o ≡ Ok (reply.Loan r.loan (loan_reply.Repeated seq), None)))
       (λ fault e. absurd (cc)) (λ seq w e. (seq, w, refl)) (λ w e. absurd (cc))

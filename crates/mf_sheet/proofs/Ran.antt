@@ -34,36 +34,36 @@ only_F20 : (run : List Line) (i : Institution) → OnlyF20GivesUp run (map resul
 only_F20 [] i = tt
 only_F20 (l ∷ ls) i = (λ n. not_given_up l.given_up _ n, only_F20 ls (next l i))
 
-module _ {S : Type 0} (store : Ghosts S) (caller : Caller) where
+module _ {S : Type 0} (store : Ghosts S) (told : List ℕ) (caller : Caller) where
   one_more : (old mid new : S) (f : List (List ℕ)) (r : SheetResult) (rows : Rows) (results : List SheetResult)
-      → AnswersFields store caller old f r mid → RunsRows store caller mid rows results new
-      → RunsRows store caller old (f ∷ rows) (r ∷ results) new
+      → AnswersFields store told caller old f r mid → RunsRows store told caller mid rows results new
+      → RunsRows store told caller old (f ∷ rows) (r ∷ results) new
   one_more old mid new f r rows results one rest = record {
     premise = λ c. one.premise (rest.premise c);
     ran = λ c i s.
         let w = one.answered (rest.premise c) i s in
-        let l : Line = record { call = call_by caller f; given_up = w.0 } in
+        let l : Line = record { call = call_by told caller f; given_up = w.0 } in
         let more = rest.ran c (next l i) w.1.follows in
         let replied : r ∷ results ≡ map result_of (answers (l ∷ more.run) i) =
         ap (λ x. x ∷ results) w.1.replied ∙ ap (λ rs. result_of (answer l i) ∷ rs) more.replied in
         record {
           run = l ∷ more.run;
-          calls = ap (λ cs. call_by caller f ∷ cs) more.calls;
-          in_range = (row_in_range caller f, more.in_range);
+          calls = ap (λ cs. call_by told caller f ∷ cs) more.calls;
+          in_range = (row_in_range told caller f, more.in_range);
           replied = replied;
           follows = more.follows;
           given_up = subst (OnlyF20GivesUp (l ∷ more.run)) (sym replied) (only_F20 (l ∷ more.run) i);
           with_memory = λ none. none_given_up (l ∷ more.run) i (subst NoResultIsF20 replied none);
           stop = λ is h. more.stop
-              (left_by (noted_of (call_by caller f) i) (change_in (outcome (call_by caller f) i)) w.0 i
+              (left_by (noted_of (call_by told caller f) i) (change_in (outcome (call_by told caller f) i)) w.0 i
               is) (w.1.stop is h);
         };
   }
 
   pub runs_rows : (old : S) (rows : Rows) (results : List SheetResult) (new : S)
-      → AnswersEach (AnswersFields store caller)
-      old rows results new → RunsRows store caller old rows results new
-  runs_rows old [] [] new h = subst (λ n. RunsRows store caller old [] [] n) (sym h) (record {
+      → AnswersEach (AnswersFields store told caller)
+      old rows results new → RunsRows store told caller old rows results new
+  runs_rows old [] [] new h = subst (λ n. RunsRows store told caller old [] [] n) (sym h) (record {
     premise = λ c. c;
     ran = λ c i s. record {
       run = [];
@@ -144,11 +144,11 @@ module _ {S : Type 0} (P Q : S → List (List (List ℕ)) → List SheetResult �
   ends (Ok done) e = whole e
   ends (Err f) e = by f.cause f.answered e
 
-module _ {S : Type 0} (store : Ghosts S) (caller : Caller) (old new : S) (rows others : Rows)
+module _ {S : Type 0} (store : Ghosts S) (told : List ℕ) (caller : Caller) (old new : S) (rows others : Rows)
     (held holds : Option (List ℕ)) (faults now count : ℕ) (r : Result (Unit {0}) StreamFault) where
   -- How a whole sheet ends, of how its rows end. The heading was written without a fault.
   pub sheet_ends : others ≡ rows → now ≡ faults
-      → Ends (AnswersEach (AnswersFields store caller)) old new (record {
+      → Ends (AnswersEach (AnswersFields store told caller)) old new (record {
         rows = others;
         sink = record {
           before = held;
@@ -157,7 +157,7 @@ module _ {S : Type 0} (store : Ghosts S) (caller : Caller) (old new : S) (rows o
           faults_after = count;
         };
       }) r
-      → Ends (RunsRows store caller) old new (record {
+      → Ends (RunsRows store told caller) old new (record {
         rows = rows;
         sink = record {
           before = held;
@@ -167,7 +167,7 @@ module _ {S : Type 0} (store : Ghosts S) (caller : Caller) (old new : S) (rows o
         };
       }) r
   sheet_ends same sound e =
-      subst (λ xs. Ends (RunsRows store caller) old new (record {
+      subst (λ xs. Ends (RunsRows store told caller) old new (record {
         rows = xs;
         sink = record {
           before = held;
@@ -176,7 +176,7 @@ module _ {S : Type 0} (store : Ghosts S) (caller : Caller) (old new : S) (rows o
           faults_after = count;
         };
       }) r) same (
-      subst (λ n. Ends (RunsRows store caller) old new (record {
+      subst (λ n. Ends (RunsRows store told caller) old new (record {
         rows = others;
         sink = record {
           before = held;
@@ -185,5 +185,6 @@ module _ {S : Type 0} (store : Ghosts S) (caller : Caller) (old new : S) (rows o
           faults_after = count;
         };
       }) r) sound
-      (ends (AnswersEach (AnswersFields store caller)) (RunsRows store caller) (runs_rows store caller) old new _ r e)
+      (ends (AnswersEach (AnswersFields store told caller)) (RunsRows store told caller)
+      (runs_rows store told caller) old new _ r e)
       )

@@ -13,7 +13,7 @@ use Rattle.mf_office.specs.Tree.{is_at_or_below}
 use Rattle.mf_account.specs.declared.entry.Entry.{Entry}
 use Rattle.mf_model.specs.declared.loan.ReceiptUse.{ReceiptUse}
 use Rattle.mf_model.specs.declared.reply.Reply.TheVariants as reply
-use Rattle.mf_model.specs.declared.reply.LoanReply.TheVariants as told
+use Rattle.mf_model.specs.declared.reply.LoanReply.TheVariants as loan_reply
 use Rattle.mf_model.specs.Institution.{Institution, Ledger, Office, Staff, Change, Catalogue_becomes, Rows_become}
 use Rattle.mf_model.specs.Institution.{Office_added, new_office, office_at, item_numbered, Noted, after, after_noted}
 use Rattle.mf_model.specs.Institution.{after_line}
@@ -133,7 +133,7 @@ module _ (c : Caller) (r : SheetRepayment) (seq : ℕ) (i : Institution) (t : Ta
       ∙ ap (by_ledger c r i.catalogue (Some t.was)) there
       ∙ ap as_repeat t.same
 
-  pub taken_told : outcome (call_of_line c (Repay r)) i ≡ Ok (reply.Loan r.loan (told.Repeated seq), None)
+  pub taken_told : outcome (call_of_line [] c (Repay r)) i ≡ Ok (reply.Loan r.loan (loan_reply.Repeated seq), None)
   taken_told =
       let w = repeated_so c r i told_so in
       let office : w.1.office ≡ its_office.0 = let e : Some w.1.office ≡ Some its_office.0 =
@@ -142,7 +142,7 @@ module _ (c : Caller) (r : SheetRepayment) (seq : ℕ) (i : Institution) (t : Ta
       ∙ ap (λ (f : Office). first_use r.receipt (uses_from 1 f.rows.loans)) office ∙ its_office.2 in cc in
       let number : w.0 ≡ seq = same_number w.0 seq (repeated_seq r.loan.number r.amount r.day t.was.by)
       (sym (ap (λ (u : Use). repeated_seq r.loan.number r.amount r.day u.by) same) ∙ w.1.same) t.same in
-      w.2 ∙ ap (λ n. Ok (reply.Loan r.loan (told.Repeated n), None)) number
+      w.2 ∙ ap (λ n. Ok (reply.Loan r.loan (loan_reply.Repeated n), None)) number
 
 -- what is noted doesn't matter
 taken_noted : (c : Caller) (r : SheetRepayment) (seq : ℕ) (noted : Noted) (change : Change) (i : Institution)
@@ -152,7 +152,7 @@ taken_noted c r seq noted change i t =
 
 -- it is taken wherever it is accepted
 module _ (c : Caller) (r : SheetRepayment) (seq : ℕ) (i : Institution) where
-  repeats : (n : ℕ) → Repeating c r i n → IsTaken r.loan seq (Ok (reply.Loan r.loan (told.Repeated n)))
+  repeats : (n : ℕ) → Repeating c r i n → IsTaken r.loan seq (Ok (reply.Loan r.loan (loan_reply.Repeated n)))
       → Taken c r seq i
   repeats n w taken =
       let number : n ≡ seq = elim taken [ inl e ↦ absurd (cc) | inr e ↦ cc ] in
@@ -166,7 +166,7 @@ module _ (c : Caller) (r : SheetRepayment) (seq : ℕ) (i : Institution) where
       }
 
   enters : (w : Entering c r i)
-      → IsTaken r.loan seq (Ok (reply.Loan r.loan (told.Entered (entry_of c r w.account).seq)))
+      → IsTaken r.loan seq (Ok (reply.Loan r.loan (loan_reply.Entered (entry_of c r w.account).seq)))
       → Taken c r seq (after (entered_change c r i w) i)
   enters w taken =
       let e : Entry = entry_of c r w.account in
@@ -183,10 +183,10 @@ module _ (c : Caller) (r : SheetRepayment) (seq : ℕ) (i : Institution) where
         same = the_same r.loan.number e ∙ ap Ok number;
       }
 
-  taken_next : IsTaken r.loan seq (reply_in (outcome (call_of_line c (Repay r)) i))
-      → Taken c r seq (next (line_answered (call_of_line c (Repay r))) i)
-  taken_next =
-      let noted : Noted = noted_of (call_of_line c (Repay r)) i in
+  taken_next : (told : List ℕ) → IsTaken r.loan seq (reply_in (outcome (call_of_line told c (Repay r)) i))
+      → Taken c r seq (next (line_answered (call_of_line told c (Repay r))) i)
+  taken_next told =
+      let noted : Noted = noted_of (call_of_line told c (Repay r)) i in
       every_repayment c r i (λ o t. IsTaken r.loan seq (reply_in o) → Taken c r seq (after_line noted (change_in o) i))
       (λ fault taken. absurd (elim taken [ inl e ↦ cc | inr e ↦ cc ])) repeats
       (λ w taken. taken_noted c r seq noted (entered_change c r i w) i (enters w taken))
@@ -239,12 +239,14 @@ module _ (c : Caller) (r : SheetRepayment) (seq : ℕ) where
   taken_last (l ∷ ls) i s range t =
       taken_last ls (next l i) (next_sound l i s range.0) range.1 (taken_by l i s range.0 t)
 
-  pub told_ever_after : (i : Institution) (ls : List Line) → IsSound i → IsInRange (request_of_line (Repay r))
+  pub told_ever_after : (told also : List ℕ) (i : Institution) (ls : List Line) → IsSound i → IsInRange
+      (request_of_line (Repay r))
       → AreInRange ls
-      → IsTaken r.loan seq (reply_in (outcome (call_of_line c (Repay r)) i))
-      → outcome (call_of_line c (Repay r)) (last ls (next (line_answered (call_of_line c (Repay r))) i))
-      ≡ Ok (reply.Loan r.loan (told.Repeated seq), None)
-  told_ever_after i ls s range ranges taken =
-      let j : Institution = next (line_answered (call_of_line c (Repay r))) i in
-      taken_told c r seq (last ls j) (taken_last ls j (next_sound (line_answered (call_of_line c (Repay r))) i s range)
-      ranges (taken_next c r seq i taken))
+      → IsTaken r.loan seq (reply_in (outcome (call_of_line told c (Repay r)) i))
+      → outcome (call_of_line also c (Repay r)) (last ls (next (line_answered (call_of_line told c (Repay r))) i))
+      ≡ Ok (reply.Loan r.loan (loan_reply.Repeated seq), None)
+  told_ever_after told also i ls s range ranges taken =
+      let j : Institution = next (line_answered (call_of_line told c (Repay r))) i in
+      taken_told c r seq (last ls j) (taken_last ls j (next_sound
+      (line_answered (call_of_line told c (Repay r))) i s range)
+      ranges (taken_next c r seq i told taken))

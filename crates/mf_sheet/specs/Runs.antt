@@ -23,10 +23,10 @@ OnlyF20GivesUp [] results = Unit {0}
 OnlyF20GivesUp (l ∷ ls) [] = Unit {0}
 OnlyF20GivesUp (l ∷ ls) (result ∷ results) = (result ≢ Refused F20 → l.given_up ≡ false) × OnlyF20GivesUp ls results
 
-module _ {S : Type 0} (store : Ghosts S) where
-  -- the store answers a line of these fields with this result
+module _ {S : Type 0} (store : Ghosts S) (told : List ℕ) where
+  -- the store answers a line of these fields with this result; this is told of it
   abbrev pub AnswersFields : Caller → S → List (List ℕ) → SheetResult → S → Type 0
-  AnswersFields c old fields result new = Calls store (λ r. result ≡ result_of r) (call_by c fields) old new
+  AnswersFields c old fields result new = Calls store (λ r. result ≡ result_of r) (call_by told c fields) old new
 
   -- The results are those of a run over the lines on the institution, and the store stands for what follows. Each call
   -- has its members in range, also that of a line which was given up. A line is given up only where its result is F20,
@@ -34,7 +34,7 @@ module _ {S : Type 0} (store : Ghosts S) where
   pub record RunsOn (c : Caller) (i : Institution) (rows : List (List (List ℕ))) (old : S) (results : List SheetResult)
       (new : S) : Type 0 where
     pub run : List Line
-    pub calls : map (λ l. l.call) run ≡ map (call_by c) rows
+    pub calls : map (λ l. l.call) run ≡ map (call_by told c) rows
     pub in_range : AreInRange run
     pub replied : results ≡ map result_of (answers run i)
     pub follows : store.stands new (last run i)

@@ -36,9 +36,9 @@ fn request_of(line: &SheetLine) -> Result<Request, AllocError>
     }
 }
 
-/// The text of a line: that of its repayment, sent as a request.
-fn text_of(line: &SheetLine) -> RequestText<'_>
-    ensures { received_now result ≡ received_of_line line.now }
+/// The text of a line, of which this is told: that of its repayment, sent as a request.
+fn text_of<'a>(told: &'a [u8], line: &'a SheetLine) -> RequestText<'a>
+    ensures { received_now result ≡ received_of_line told.now line.now }
 {
     match line {
         SheetLine::Bad => RequestText::Received(ReceivedText {
@@ -48,7 +48,7 @@ fn text_of(line: &SheetLine) -> RequestText<'_>
             body: [].as_slice(),
         }),
         SheetLine::Repay(repayment) => RequestText::Repayment(RepaymentText {
-            told: [].as_slice(),
+            told,
             loan: repayment.loan,
             amount: repayment.amount,
             day: repayment.day,
@@ -74,11 +74,13 @@ fn result_of(reply: &Reply) -> SheetResult
 fn result_of_line<S: InstitutionStore>(
     alloc: Global,
     store: &mut S,
+    told: &[u8],
     caller: Caller,
     line: &SheetLine,
 ) -> Result<SheetResult, Fault>
     requires { IsLineInRange line.now }
-    ensures { Calls S.InstitutionStore (λ r. outcome_of result ≡ result_of r) (call_of_line caller line.now) store.old
+    ensures { Calls S.InstitutionStore (λ r. outcome_of result ≡ result_of r)
+        (call_of_line told.now caller line.now) store.old
         store.new }
 {
     let Ok(request) = request_of(line) else {
@@ -89,7 +91,7 @@ fn result_of_line<S: InstitutionStore>(
         store,
         caller,
         request,
-        &text_of(line),
+        &text_of(told, line),
         |reply: &Reply| -> Result<SheetResult, Fault>
             ensures ok { IfOk result (λ s. s ≡ result_of_success reply.now) }
             ensures err { IfErr result (λ f. f ≡ Fault.F20) }
@@ -107,15 +109,17 @@ fn outcome(answered: Result<SheetResult, Fault>) -> SheetResult
 }
 
 /// Answers a line of a sheet, which somebody sends, as a repayment. A bad line is refused as malformed before its
-/// sender is looked at. A refusal changes nothing.
+/// sender is looked at. A refusal changes nothing. A journal notes what is told with the repayment.
 pub fn answer_line<S: InstitutionStore>(
     alloc: Global,
     store: &mut S,
+    told: &[u8],
     caller: Caller,
     line: SheetLine,
 ) -> SheetResult
     requires { IsLineInRange line }
-    ensures { Calls S.InstitutionStore (λ r. result ≡ result_of r) (call_of_line caller line) store.old store.new }
+    ensures { Calls S.InstitutionStore (λ r. result ≡ result_of r)
+        (call_of_line told.now caller line) store.old store.new }
 {
-    outcome(result_of_line(alloc, store, caller, &line))
+    outcome(result_of_line(alloc, store, told, caller, &line))
 }

@@ -21,15 +21,18 @@ use std::alloc::Global;
 fn collect_row<S: InstitutionStore, W: Sink>(
     alloc: Global,
     store: &mut S,
+    told: &[u8],
     caller: &Caller,
     row: SheetRow,
     sink: &mut W,
 ) -> Result<SheetResult, Cause>
-    ensures answered { IfOk result (λ r. AnswersFields S.InstitutionStore caller.now store.old row r store.new) }
+    ensures answered { IfOk result (λ r. AnswersFields S.InstitutionStore told.now caller.now store.old row r
+        store.new) }
     ensures written { IfOk result (λ r. Appends (W.written sink.old) (W.written sink.new) (record_text row r)) }
     ensures sound { OnOk result (W.faults sink.new ≡ W.faults sink.old) }
     ensures memory { IfErr result (λ c. c ≡ cause.Memory → (store.new ≡ store.old) × (sink.new ≡ sink.old)) }
-    ensures write { IfErr result (λ c. c ≡ cause.Write → (r : SheetResult) × AnswersFields S.InstitutionStore caller.now
+    ensures write { IfErr result (λ c. c ≡ cause.Write → (r : SheetResult)
+        × AnswersFields S.InstitutionStore told.now caller.now
         store.old row r store.new
         × ((n : ℕ) × (n < length (record_text row r)) × Appends (W.written sink.old) (W.written sink.new)
         (take n (record_text row r)))) }
@@ -40,7 +43,7 @@ fn collect_row<S: InstitutionStore, W: Sink>(
     let Ok(begun) = BegunRecord::new(alloc, &fields) else {
         return Err(Cause::Memory);
     };
-    let outcome = answer_line(alloc, store, *caller, line);
+    let outcome = answer_line(alloc, store, told, *caller, line);
     let record = begun.end_with(outcome);
     match put(sink, record.as_slice()) {
         Ok(()) => Ok(outcome),
@@ -63,19 +66,20 @@ fn is_end(outcome: SheetResult) -> bool
 fn collect_rows<S: InstitutionStore, W: Sink>(
     alloc: Global,
     store: &mut S,
+    told: &[u8],
     caller: &Caller,
     rows: Vec<SheetRow>,
     sink: &mut W,
 ) -> Result<(), StreamFault>
     ensures ends { (before : Option (List ℕ)) → Appends before (W.written sink.old) heading →
-        Ends (AnswersEach (AnswersFields S.InstitutionStore caller.now)) store.old store.new (record {
+        Ends (AnswersEach (AnswersFields S.InstitutionStore told.now caller.now)) store.old store.new (record {
           rows = rows.items;
           sink = record (stream_of W.written W.faults sink.old sink.new) { before = before };
         }) result }
 {
     let mut answered = 0u64;
     for row in rows {
-        let outcome = match collect_row(alloc, store, caller, row, sink) {
+        let outcome = match collect_row(alloc, store, told, caller, row, sink) {
             Ok(outcome) => outcome,
             Err(cause) => return Err(StreamFault { answered, cause }),
         };
@@ -88,7 +92,7 @@ fn collect_rows<S: InstitutionStore, W: Sink>(
 }
 
 /// Answers a collection sheet, which somebody sends, line by line as repayments, and writes the sheet of their results.
-/// The first F20 is written and ends the sheet.
+/// The first F20 is written and ends the sheet. A journal notes what is told with each repayment.
 ///
 /// A fault says how many results were written whole. `Memory` is reported where the sheet can't be read, and nothing is
 /// answered or written, and where there is no room for the record of a line's result, which is made before the line is
@@ -97,12 +101,13 @@ fn collect_rows<S: InstitutionStore, W: Sink>(
 pub fn collect<S: InstitutionStore, W: Sink>(
     alloc: Global,
     store: &mut S,
+    told: &[u8],
     caller: Caller,
     bytes: &[u8],
     sink: &mut W,
 ) -> Result<(), StreamFault>
     requires { length bytes.now ≤ longest }
-    ensures ends { Ends (RunsRows S.InstitutionStore caller) store.old store.new (record {
+    ensures ends { Ends (RunsRows S.InstitutionStore told.now caller) store.old store.new (record {
       rows = sheet_rows_of bytes.now;
       sink = stream_of W.written W.faults sink.old sink.new;
     }) result }
@@ -119,5 +124,5 @@ pub fn collect<S: InstitutionStore, W: Sink>(
             cause: Cause::Write,
         });
     };
-    collect_rows(alloc, store, &caller, sheet.into_rows(), sink)
+    collect_rows(alloc, store, told, &caller, sheet.into_rows(), sink)
 }

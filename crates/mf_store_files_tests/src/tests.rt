@@ -73,7 +73,7 @@ fn answered_over<S: Alter>(
         Ok(mut store) => {
             let mut source = WatchedReader::new(lines);
             let mut sink = WatchedWriter::new(Vec::new(alloc));
-            let _ended = run(alloc, &mut store, &mut source, &mut sink);
+            let _ended = run(alloc, false, &mut store, &mut source, &mut sink);
             (sink.into_inner(), store.release())
         }
         Err((_, connection)) => (Vec::new(alloc), connection),

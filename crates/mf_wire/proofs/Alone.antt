@@ -60,13 +60,14 @@ module _ {S : Type 0} (store : Ghosts S) where
       }
 
   -- a message that was answered was answered as the message that it is
-  pub as_message : (bytes text : List ℕ) (old new : S) (message : Option Message) (to_head : Bool)
-      → IsMessage bytes message to_head → AnswersMessage store bytes old text new
-      → Calls store (λ r. text ≡ shown_response to_head r) (call_of_message message) old new
-  as_message bytes text old new message to_head is a =
+  pub as_message : (told : Bool) (bytes text : List ℕ) (old new : S) (message : Option Message) (to_head : Bool)
+      → IsMessage bytes message to_head → AnswersMessage store told bytes old text new
+      → Calls store (λ r. text ≡ shown_response to_head r) (call_of_message told message) old new
+  as_message told bytes text old new message to_head is a =
       let same = one_message bytes a.message message a.to_head to_head a.is is in
-      subst (λ (t : Bool). Calls store (λ r. text ≡ shown_response t r) (call_of_message message) old new) same.1
-      (subst (λ (m : Option Message). Calls store (λ r. text ≡ shown_response a.to_head r) (call_of_message m) old new)
+      subst (λ (t : Bool). Calls store (λ r. text ≡ shown_response t r) (call_of_message told message) old new) same.1
+      (subst (λ (m : Option Message). Calls store (λ r. text ≡ shown_response a.to_head r)
+      (call_of_message told m) old new)
       same.0 a.answered)
 
 -- what two institutions are told of one call is the same where the caller's office sees the same, unless it is given up
@@ -80,7 +81,7 @@ same_response to_head false false call v w text other e one two m n =
     one ∙ ap (λ x. shown_response to_head (reply call x)) e ∙ sym two
 
 -- the texts of a reply make its response
-text_is_shown : {Z : Type 0} (to_head : Bool) (text : Result (ℕ × String Z) Fault) (r : Result Reply Fault)
+pub text_is_shown : {Z : Type 0} (to_head : Bool) (text : Result (ℕ × String Z) Fault) (r : Result Reply Fault)
     → IsReplyText text r → text_response to_head text ≡ shown_response to_head r
 text_is_shown to_head (Ok text) (Ok reply) e = ap₂ (λ status body. response status body to_head) e.0 e.1
 text_is_shown to_head (Err fault) (Err refused) e = ap (λ f. refusal f to_head) e

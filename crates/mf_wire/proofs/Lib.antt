@@ -8,3 +8,4 @@ pub mod Responses
 pub mod Alone
 pub mod HeadRefused
 pub mod Served
+pub mod Sendable

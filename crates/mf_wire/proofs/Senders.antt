@@ -19,10 +19,10 @@ use Rattle.mf_model.specs.Run.{Line, answer, next, from_office, from_caller, rep
 use Rattle.mf_model.specs.Answering.{all_answered}
 use Rattle.mf_wire_lines.specs.Replies.{fault_line}
 use Rattle.mf_wire_replies.specs.Shown.{shown_line}
-use Rattle.mf_wire_requests.specs.RequestLine.{split_space}
-use Rattle.mf_wire_requests.specs.Requests.{call_of}
+use Rattle.mf_wire_requests.specs.RequestLine.{split_space, line_in}
+use Rattle.mf_wire_requests.specs.Requests.{call_in}
 use Rattle.mf_wire.specs.Senders.{sender_of, is_text, is_sent_by, is_sent_from, texts_for, NoTextIsF20}
-use Rattle.mf_wire.specs.Runs.{texts_of}
+use Rattle.mf_wire.specs.Runs.{texts_of, lines_in}
 
 both_ways : (a b : Bool) → (a ≡ true → b ≡ true) → (b ≡ true → a ≡ true) → a ≡ b
 both_ways true true h k = refl
@@ -66,27 +66,42 @@ caller_of_sender : (first : Option (List ℕ × List ℕ)) → option_and_then c
 caller_of_sender None = refl
 caller_of_sender (Some p) = refl
 
-pub sent_by_is : (c : Caller) → IsCaller c → (line : List ℕ) → is_sent_by (caller_text c.office c.staff) line
-    ≡ from_caller c (call_of line)
-sent_by_is c range line = named_by c range (sender_of line) ∙ ap (model.is_by c) (caller_of_sender (split_space line))
+pub sent_by_is : (told : Bool) (c : Caller) → IsCaller c → (line : List ℕ)
+    → is_sent_by (caller_text c.office c.staff) (line_in told line) ≡ from_caller c (call_in told line)
+sent_by_is told c range line = named_by c range (sender_of (line_in told line))
+    ∙ ap (model.is_by c) (caller_of_sender (split_space (line_in told line)))
 
-pub sent_from_is : (o : ℕ) (line : List ℕ) → is_sent_from o line ≡ from_office o (call_of line)
-sent_from_is o line = ap (model.is_of o) (caller_of_sender (split_space line))
+pub sent_from_is : (told : Bool) (o : ℕ) (line : List ℕ) → is_sent_from o (line_in told line)
+    ≡ from_office o (call_in told line)
+sent_from_is told o line = ap (model.is_of o) (caller_of_sender (split_space (line_in told line)))
+
+-- lines without what is told of them pass as they do with it
+texts_for-map : (passes : List ℕ → Bool) (f : List ℕ → List ℕ) (lines texts : List (List ℕ))
+    → texts_for passes (map f lines) texts ≡ texts_for (λ line. passes (f line)) lines texts
+texts_for-map passes f [] texts = refl
+texts_for-map passes f (line ∷ lines) [] = refl
+texts_for-map passes f (line ∷ lines) (text ∷ texts) =
+    ap (λ ts. cond (passes (f line)) (text ∷ ts) ts) (texts_for-map passes f lines texts)
+
+pub texts_for-in : (told : Bool) (passes : List ℕ → Bool) (lines texts : List (List ℕ))
+    → texts_for passes (lines_in told lines) texts ≡ texts_for (λ line. passes (line_in told line)) lines texts
+texts_for-in false passes lines texts = refl
+texts_for-in true passes lines texts = texts_for-map passes (line_in true) lines texts
 
 -- the texts for the lines that pass are those told to the calls that are meant
-pub texts_for-told : (passes : List ℕ → Bool) (meant : Call → Bool)
-    → ((line : List ℕ) → passes line ≡ meant (call_of line)) → (run : List Line) (lines texts : List (List ℕ))
-    → map (λ l. l.call) run ≡ map call_of lines → texts_for passes lines texts ≡ replies_to meant run texts
-texts_for-told passes meant same [] [] texts e = refl
-texts_for-told passes meant same [] (line ∷ lines) texts e = absurd (cc)
-texts_for-told passes meant same (l ∷ run) [] texts e = absurd (cc)
-texts_for-told passes meant same (l ∷ run) (line ∷ lines) [] e = refl
-texts_for-told passes meant same (l ∷ run) (line ∷ lines) (text ∷ texts) e =
-    let first : l.call ≡ call_of line = cc in
-    let rest : map (λ (k : Line). k.call) run ≡ map call_of lines = cc in
+pub texts_for-told : (told : Bool) (passes : List ℕ → Bool) (meant : Call → Bool)
+    → ((line : List ℕ) → passes line ≡ meant (call_in told line)) → (run : List Line) (lines texts : List (List ℕ))
+    → map (λ l. l.call) run ≡ map (call_in told) lines → texts_for passes lines texts ≡ replies_to meant run texts
+texts_for-told told passes meant same [] [] texts e = refl
+texts_for-told told passes meant same [] (line ∷ lines) texts e = absurd (cc)
+texts_for-told told passes meant same (l ∷ run) [] texts e = absurd (cc)
+texts_for-told told passes meant same (l ∷ run) (line ∷ lines) [] e = refl
+texts_for-told told passes meant same (l ∷ run) (line ∷ lines) (text ∷ texts) e =
+    let first : l.call ≡ call_in told line = cc in
+    let rest : map (λ (k : Line). k.call) run ≡ map (call_in told) lines = cc in
     let test : passes line ≡ meant l.call = same line ∙ ap meant (sym first) in
     let more : texts_for passes lines texts ≡ replies_to meant run texts =
-    texts_for-told passes meant same run lines texts rest in
+    texts_for-told told passes meant same run lines texts rest in
     ap (λ b. cond b (text ∷ texts_for passes lines texts) (texts_for passes lines texts)) test
     ∙ ap (λ ts. cond (meant l.call) (text ∷ ts) ts) more
 
@@ -116,14 +131,15 @@ all_told meant (l ∷ run) i rs h = step (meant l.call) rs h (λ qs k. all_told 
         (not_given_up l i h.0) ∙ ap (λ qs. r ∷ qs) (more rs h.1)
 
 -- where no text is F20's, nothing was given up
-pub all_answered_run : (run : List Line) (lines : List (List ℕ)) (i : Institution) → map (λ l. l.call) run
-    ≡ map call_of lines → NoTextIsF20 (texts_of run i) → run ≡ all_answered (map call_of lines)
-all_answered_run [] [] i e h = refl
-all_answered_run [] (line ∷ lines) i e h = absurd (cc)
-all_answered_run (l ∷ run) [] i e h = absurd (cc)
-all_answered_run (l ∷ run) (line ∷ lines) i e h =
-    let first : l.call ≡ call_of line = cc in
-    let rest : map (λ (k : Line). k.call) run ≡ map call_of lines = cc in
-    let this : l ≡ record { call = call_of line; given_up = false } =
+pub all_answered_run : (told : Bool) (run : List Line) (lines : List (List ℕ)) (i : Institution)
+    → map (λ l. l.call) run ≡ map (call_in told) lines → NoTextIsF20 (texts_of run i)
+    → run ≡ all_answered (map (call_in told) lines)
+all_answered_run told [] [] i e h = refl
+all_answered_run told [] (line ∷ lines) i e h = absurd (cc)
+all_answered_run told (l ∷ run) [] i e h = absurd (cc)
+all_answered_run told (l ∷ run) (line ∷ lines) i e h =
+    let first : l.call ≡ call_in told line = cc in
+    let rest : map (λ (k : Line). k.call) run ≡ map (call_in told) lines = cc in
+    let this : l ≡ record { call = call_in told line; given_up = false } =
     ap₂ (λ c g. let k : Line = record { call = c; given_up = g } in k) first (not_given_up l i h.0) in
-    ap₂ (λ (k : Line) (ks : List Line). k ∷ ks) this (all_answered_run run lines (next l i) rest h.1)
+    ap₂ (λ (k : Line) (ks : List Line). k ∷ ks) this (all_answered_run told run lines (next l i) rest h.1)

@@ -12,8 +12,9 @@ use Rattle.mf_wire.specs.Serving.{call_of_message}
 use Rattle.mf_wire.specs.Exchanges.{Exchange, AreLinesOf, responses, AnswersAll, ServesOn}
 use Rattle.mf_wire.proofs.Ran.{IsolationLaw}
 
-module _ {S : Type 0} (store : Ghosts S) where
-  premise : (old : S) (es : List Exchange) (new : S) → AnswersAll store old es new → store.clean new → store.clean old
+module _ {S : Type 0} (store : Ghosts S) (told : Bool) where
+  premise : (old : S) (es : List Exchange) (new : S) → AnswersAll store told old es new → store.clean new
+      → store.clean old
   premise old [] new h c = subst store.clean h c
   premise old (e ∷ es) new h c = h.1.answered.premise (premise h.0 es new h.2 c)
 
@@ -21,13 +22,13 @@ module _ {S : Type 0} (store : Ghosts S) where
   record RanOn (i : Institution) (es : List Exchange) (old new : S) : Type 0 where
     pub run : List Line
     pub to_heads : List Bool
-    pub calls : AreLinesOf es run to_heads
+    pub calls : AreLinesOf told es run to_heads
     pub in_range : AreInRange run
     pub replied : map (λ (e : Exchange). e.text) es ≡ responses to_heads (answers run i)
     pub follows : store.stands new (last run i)
     pub stop : (is : List Institution) → store.leaves old is → store.leaves new (left_after run i is)
 
-  ran : (old : S) (es : List Exchange) (new : S) (i : Institution) → AnswersAll store old es new → store.clean new
+  ran : (old : S) (es : List Exchange) (new : S) (i : Institution) → AnswersAll store told old es new → store.clean new
       → store.stands old i → RanOn i es old new
   ran old [] new i h c s = subst (λ (n : S). RanOn i [] old n) (sym h) (record {
     run = [];
@@ -41,7 +42,7 @@ module _ {S : Type 0} (store : Ghosts S) where
   ran old (e ∷ es) new i h c s =
       let one = h.1 in
       let w = one.answered.answered (premise h.0 es new h.2 c) i s in
-      let l = line_of_call (call_of_message one.message) w.0 in
+      let l = line_of_call (call_of_message told one.message) w.0 in
       let r = ran h.0 es new (next l i) h.2 c w.1.follows in record {
         run = l ∷ r.run;
         to_heads = one.to_head ∷ r.to_heads;
@@ -53,7 +54,7 @@ module _ {S : Type 0} (store : Ghosts S) where
       }
 
   pub serves_on : IsolationLaw → (old : S) (es : List Exchange) (new : S) (i : Institution) → IsTree i.offices
-      → AnswersAll store old es new → store.clean new → store.stands old i → ServesOn store i es old new
+      → AnswersAll store told old es new → store.clean new → store.stands old i → ServesOn store told i es old new
   serves_on law old es new i tree h c s =
       let r = ran old es new i h c s in record {
         run = r.run;

@@ -1,5 +1,5 @@
 -- Runs of request lines over a store, in the words of the institution that it stands for.
-use Rattle.std.specs.Prelude.{◌≡◌, ℕ, List, map, Result}
+use Rattle.std.specs.Prelude.{◌≡◌, ℕ, Bool, true, false, List, map, Result}
 use Rattle.mf_office.specs.declared.caller.Caller.{Caller}
 use Rattle.mf_office.specs.Texts.{IsCaller}
 use Rattle.mf_office.specs.Written.{caller_text}
@@ -15,7 +15,8 @@ use Rattle.mf_model.specs.Store.{left_after}
 use Rattle.mf_model.specs.declared.store.InstitutionStore.{Ghosts}
 pub use Rattle.mf_desk.specs.Runs.{AnswersLine, Calls}
 use Rattle.mf_wire_replies.specs.Shown.{shown_line}
-use Rattle.mf_wire_requests.specs.Requests.{call_of}
+use Rattle.mf_wire_requests.specs.RequestLine.{line_in}
+use Rattle.mf_wire_requests.specs.Requests.{call_in}
 use Rattle.mf_wire.specs.Senders.{is_sent_by, is_sent_from, texts_for, NoTextIsF20}
 
 -- the texts of the replies to the lines
@@ -30,8 +31,13 @@ office_play o ls i = play_replies (from_office o) (touching_list o ls i) (view o
 abbrev pub own_play : Caller → List Line → Institution → List (Result Reply Fault)
 own_play c ls i = play_replies (from_caller c) (touching_list c.office ls i) (view c.office i)
 
+-- the lines without what is told of them, where their first words are
+abbrev pub lines_in : Bool → List (List ℕ) → List (List ℕ)
+lines_in false lines = lines
+lines_in true lines = map (line_in true) lines
+
 -- a run as it is seen on the wire: the institution that it began with, its lines, the lines' bytes as they were read,
--- and the texts of their replies
+-- without what is told of them, and the texts of their replies
 pub record WireRun : Type 0 where
   pub institution : Institution
   pub run : List Line
@@ -61,18 +67,19 @@ pub record IsIsolated (r : WireRun) : Type 0 where
   pub all_own_texts : (c : Caller) → IsCaller c → NoTextIsF20 (texts_of_caller c r) → texts_of_caller c r
       ≡ map shown_line (own_play c r.run r.institution)
 
-module _ {S : Type 0} (store : Ghosts S) where
-  -- These texts are the replies of a run over the lines on the institution, and the store stands for what follows. Each
-  -- call has its members in range, also that of a line which was given up. What each office is told is isolated. Where
-  -- no text is F20's, the run is that of the lines' calls with none given up.
+module _ {S : Type 0} (store : Ghosts S) (told : Bool) where
+  -- These texts are the replies of a run over the lines on the institution, whose first words are told of them or not,
+  -- and the store stands for what follows. Each call has its members in range, also that of a line which was given up.
+  -- What each office is told is isolated. Where no text is F20's, the run is that of the lines' calls with none given
+  -- up.
   pub record RunsOn (i : Institution) (lines : List (List ℕ)) (old : S) (texts : List (List ℕ)) (new : S) : Type 0 where
     pub run : List Line
-    pub calls : map (λ l. l.call) run ≡ map call_of lines
+    pub calls : map (λ l. l.call) run ≡ map (call_in told) lines
     pub in_range : AreInRange run
     pub replied : texts ≡ texts_of run i
     pub follows : store.stands new (last run i)
-    pub isolated : IsIsolated (record { institution = i; run = run; lines = lines; texts = texts })
-    pub with_memory : NoTextIsF20 texts → run ≡ all_answered (map call_of lines)
+    pub isolated : IsIsolated (record { institution = i; run = run; lines = lines_in told lines; texts = texts })
+    pub with_memory : NoTextIsF20 texts → run ≡ all_answered (map (call_in told) lines)
     pub stop : (is : List Institution) → store.leaves old is → store.leaves new (left_after run i is)
 
   -- The same of each institution that the store stood for. That the disk returned what was written holds only as long

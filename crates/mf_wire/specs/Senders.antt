@@ -37,6 +37,10 @@ texts_for passes (line ∷ lines) (text ∷ texts) =
 abbrev pub NoTextIsF20 : List (List ℕ) → Type 0
 NoTextIsF20 texts = AllByRecursion (λ (text : List ℕ). text ≢ fault_line F20) texts
 
+-- no byte is a space
+abbrev pub HasNoSpace : List ℕ → Type 0
+HasNoSpace bytes = AllByRecursion (λ (b : ℕ). b ≢ 32) bytes
+
 -- no byte is a line feed
 abbrev pub HasNoLineFeed : List ℕ → Type 0
 HasNoLineFeed bytes = AllByRecursion (λ (b : ℕ). b ≢ 10) bytes

@@ -1,6 +1,7 @@
 -- HTTP messages over a store: which call a message is, and what answers it.
-use Rattle.std.specs.Prelude.{◌≡◌, ◌≢◌, ℕ, Bool, true, false, List, [], ◌++◌, Option, Some, None, String, string_bytes}
-use Rattle.std.specs.Prelude.{Result, Ok, Err}
+use Rattle.std.specs.Prelude.{◌≡◌, ◌≢◌, ℕ, Bool, true, false, ◌&&◌, List, [], ◌++◌}
+use Rattle.std.specs.Prelude.{Option, Some, None, String, string_bytes}
+use Rattle.std.specs.Prelude.{Result, Ok, Err, cond, option_and_then}
 use Rattle.std.specs.Io.KnownBytes.{Appends, Consumes, IsAtEnd}
 use Rattle.mf_base.specs.declared.fault.Cause.{Cause}
 use Rattle.mf_base.specs.declared.fault.Cause.TheVariants.{Read, Write, Memory}
@@ -13,23 +14,38 @@ use Rattle.mf_model.specs.declared.reply.Reply.{Reply}
 use Rattle.mf_model.specs.Sound.{IsInRange}
 use Rattle.mf_model.specs.declared.store.InstitutionStore.{Ghosts}
 use Rattle.mf_wire_lines.specs.Replies.{fault_status, fault_body}
+use Rattle.mf_wire_lines.specs.Told.{may_be_told}
 use Rattle.mf_wire_messages.specs.Arrivals.{bytes_left}
 use Rattle.mf_wire_messages.specs.Messages.{IsMessage, Message}
 use Rattle.mf_wire_messages.specs.Responses.{response, refusal, IsCut}
 use Rattle.mf_wire_replies.specs.Shown.{reply_status, reply_body}
-use Rattle.mf_wire_requests.specs.RequestLine.{Parts}
-use Rattle.mf_wire_requests.specs.Requests.{call_of_parts}
+use Rattle.mf_wire_requests.specs.RequestLine.{Parts, fit_line}
+use Rattle.mf_wire_requests.specs.Requests.{call_by_parts}
 use Rattle.mf_wire.specs.Runs.{Calls}
 use Rattle.mf_wire_lines.specs.Streams.{Streams}
 
--- the parts of a message: its staff is the caller, and its target the path
-abbrev pub parts_of_message : Message → Parts
-parts_of_message m = record { caller = m.staff; method = m.method; path = m.target; body = m.body }
+-- the parts of a message of which this is told: its staff is the caller, and its target the path
+abbrev pub parts_of_message : List ℕ → Message → Parts
+parts_of_message told m =
+    record { told = told; caller = m.staff; method = m.method; path = m.target; body = m.body }
+
+-- the parts, where what is told may be told, and where they could be sent as a request line
+abbrev pub if_noted : Parts → Option Parts
+if_noted p = cond (may_be_told p.told && fit_line p) (Some p) None
+
+-- the parts of a message of which is told what its field X-Told has, once at most
+abbrev pub told_parts_of : Message → Option Parts
+told_parts_of m = option_and_then (λ told. if_noted (parts_of_message told m)) m.told
+
+-- the parts of a message, of which something may be told or nothing is; in that case the field is not looked at
+abbrev pub message_parts : Bool → Message → Option Parts
+message_parts false m = Some (parts_of_message [] m)
+message_parts true m = told_parts_of m
 
 -- the call of a message; a malformed one is nobody's
-abbrev pub call_of_message : Option Message → Call
-call_of_message None = record { caller = None; request = Unreadable Malformed; received = nothing_received }
-call_of_message (Some m) = call_of_parts (parts_of_message m)
+abbrev pub call_of_message : Bool → Option Message → Call
+call_of_message told None = record { caller = None; request = Unreadable Malformed; received = nothing_received }
+call_of_message told (Some m) = call_by_parts m.staff (message_parts told m)
 
 -- the status of a reply
 abbrev pub reply_or_fault_status : Result Reply Fault → ℕ
@@ -51,14 +67,14 @@ text_response to_head (Ok text) = response text.0 (string_bytes text.1) to_head
 text_response to_head (Err fault) = refusal fault to_head
 
 -- A store answered the message that a stream of these bytes is by that response: the reply to its call, which is the
--- only one that was made and has its members in range.
-pub record AnswersMessage {S : Type 0} (store : Ghosts S) (bytes : List ℕ) (old : S) (text : List ℕ)
+-- only one that was made and has its members in range. Something may be told of messages, or nothing is.
+pub record AnswersMessage {S : Type 0} (store : Ghosts S) (told : Bool) (bytes : List ℕ) (old : S) (text : List ℕ)
     (new : S) : Type 0 where
   pub message : Option Message
   pub to_head : Bool
   pub is : IsMessage bytes message to_head
-  pub in_range : IsInRange (call_of_message message).request
-  pub answered : Calls store (λ r. text ≡ shown_response to_head r) (call_of_message message) old new
+  pub in_range : IsInRange (call_of_message told message).request
+  pub answered : Calls store (λ r. text ≡ shown_response to_head r) (call_of_message told message) old new
 
 module _ {S : Type 0} (answers : List ℕ → S → List ℕ → S → Type 0) (old new : S) (streams : Streams) where
   -- nothing was answered or written, and the sink did not fail

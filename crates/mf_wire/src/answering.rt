@@ -1,6 +1,6 @@
 //! Requests answered over a store, from their texts to the texts of their replies.
 
-ghost use Rattle.std.specs.Prelude.{◌≡◌, ◌≢◌, ◌⊎◌, Err, IfOk, IfErr, string_bytes};
+ghost use Rattle.std.specs.Prelude.{◌≡◌, ◌≢◌, ◌⊎◌, Err, [], IfOk, IfErr, string_bytes};
 ghost use Rattle.std.specs.Fn.{FnOnceReturnsAt};
 ghost use Rattle.mf_model.specs.declared.reply.Reply.{Reply};
 ghost use Rattle.mf_model.specs.Desk.{reply};
@@ -8,7 +8,7 @@ ghost use Rattle.mf_desk.specs.Answers.{Tells, Changes};
 ghost use Rattle.mf_wire_requests.specs.RequestLine.{parts_now};
 ghost use Rattle.mf_wire_lines.specs.Replies.{reply_line, reply_line_of};
 ghost use Rattle.mf_wire_replies.specs.Shown.{reply_status, reply_body, shown_line, IsReplyText};
-ghost use Rattle.mf_wire_requests.specs.Requests.{call_of_parts, call_of};
+ghost use Rattle.mf_wire_requests.specs.Requests.{call_of_parts, call_in};
 ghost use Rattle.mf_wire.specs.Runs.{Calls};
 
 use mf_base::Fault;
@@ -17,7 +17,7 @@ use mf_model::{InstitutionStore, ReceivedText, Reply, RequestText};
 use mf_office::Caller;
 use mf_wire_lines::LineDesk;
 use mf_wire_replies::{body_text, line_text, status};
-use mf_wire_requests::{LineParts, Routes, is_token, line_parts, read_request};
+use mf_wire_requests::{LineParts, Routes, is_token, parts_in, read_request};
 use std::alloc::{AllocError, Global};
 
 /// Answers a request in its parts. The caller and the method are looked at first, then the route and the rest.
@@ -43,7 +43,7 @@ fn answer_parts<S: InstitutionStore, T: Drop, F: FnOnce(&Reply) -> Result<T, Fau
     }
     let request = read_request(alloc, routes, parts.method, parts.path, parts.body)?;
     let text = RequestText::Received(ReceivedText {
-        told: [].as_slice(),
+        told: parts.told,
         method: parts.method,
         path: parts.path,
         body: parts.body,
@@ -106,8 +106,8 @@ pub(crate) fn answer_text_parts<S: InstitutionStore>(
     )
 }
 
-/// The status and the body of the reply to a request, by the texts of its caller, method, path and body. At `Err`
-/// the refusal, whose text is that of `fault_text`, and nothing is changed.
+/// The status and the body of the reply to a request, by the texts of its caller, method, path and body; nothing is
+/// told of it. At `Err` the refusal, whose text is that of `fault_text`, and nothing is changed.
 pub fn answer_text<S: InstitutionStore>(
     alloc: Global,
     store: &mut S,
@@ -117,14 +117,20 @@ pub fn answer_text<S: InstitutionStore>(
     body: &[u8],
 ) -> Result<(u16, String), Fault>
     ensures calls { Calls S.InstitutionStore (IsReplyText result)
-        (call_of_parts (record { caller = caller.now; method = method.now; path = path.now; body = body.now }))
-        store.old store.new }
+        (call_of_parts (record {
+          told = [];
+          caller = caller.now;
+          method = method.now;
+          path = path.now;
+          body = body.now;
+        })) store.old store.new }
     ensures refusal { IfErr result (λ f. f ≢ Fault.F19) }
 {
     let Ok(routes) = Routes::new(alloc) else {
         return Err(Fault::F20);
     };
     let parts = LineParts {
+        told: [].as_slice(),
         caller,
         method,
         path,
@@ -137,24 +143,29 @@ pub fn answer_text<S: InstitutionStore>(
 #[derive(Drop)]
 pub struct Desk {
     pub(crate) routes: Routes,
+    /// Whether something is told of each request, for a journal: by the first word of a line, or by the field X-Told of
+    /// a message.
+    pub told: bool,
 }
 
 impl Desk {
-    /// A desk. It fails only when out of memory.
-    pub fn new(alloc: Global) -> Result<Desk, AllocError> {
+    /// A desk, which is told something of each request or not. It fails only when out of memory.
+    pub fn new(alloc: Global, told: bool) -> Result<Desk, AllocError>
+        ensures { IfOk result (λ desk. desk.told ≡ told) }
+    {
         match Routes::new(alloc) {
-            Ok(routes) => Ok(Desk { routes }),
+            Ok(routes) => Ok(Desk { routes, told }),
             Err(_) => Err(AllocError),
         }
     }
 }
 
 impl<S: InstitutionStore> LineDesk<S> for Desk {
-    ghost may_answer = { λ _ old line text new. Calls S.InstitutionStore (λ r. text ≡ shown_line r)
-        (call_of line) old new };
+    ghost may_answer = { λ desk old line text new. Calls S.InstitutionStore (λ r. text ≡ shown_line r)
+        (call_in desk.told line) old new };
 
     fn answer(&self, alloc: Global, state: &mut S, line: &[u8]) -> Result<String, Fault> {
-        let Some(parts) = line_parts(line) else {
+        let Some(parts) = parts_in(self.told, line) else {
             return Err(Fault::F1);
         };
         answer_line_parts(alloc, &self.routes, state, parts)

@@ -1,6 +1,7 @@
 //! HTTP messages over a store, one a stream.
 
 ghost use Rattle.std.specs.Prelude.{◌≡◌, ◌≢◌, List, ℕ, [], false, None, Some, IfOk, IfErr, IfSome, OnOk, OnErr};
+ghost use Rattle.std.specs.Prelude.{option_map};
 ghost use Rattle.std.specs.Io.KnownBytes.{Appends};
 ghost use Rattle.mf_base.specs.declared.fault.Cause.TheVariants as cause;
 ghost use Rattle.mf_wire_messages.specs.Arrivals.{TellsArrival};
@@ -8,14 +9,17 @@ ghost use Rattle.mf_wire_messages.specs.Messages.{is_head};
 ghost use Rattle.mf_wire_messages.specs.Responses.{IsCut};
 ghost use Rattle.mf_wire.specs.Runs.{Calls};
 ghost use Rattle.mf_wire.specs.Serving.{call_of_message, shown_response, text_response, AnswersMessage, EndsMessage};
+ghost use Rattle.mf_wire.specs.Serving.{parts_of_message, told_parts_of, message_parts};
 ghost use Rattle.mf_wire_lines.specs.Streams.{stream_of, streams_of};
+ghost use Rattle.mf_wire_replies.specs.Shown.{IsReplyText};
+ghost use Rattle.mf_wire_requests.specs.RequestLine.{parts_now};
 
 use crate::answering::{Desk, answer_text_parts};
 use mf_base::{Cause, Fault, StreamFault};
 use mf_model::InstitutionStore;
-use mf_wire_lines::{Sink, Source, WriteFault};
+use mf_wire_lines::{Sink, Source, WriteFault, may_be_told};
 use mf_wire_messages::{Arrival, Message, read_message, response_room, write_refusal, write_reply};
-use mf_wire_requests::LineParts;
+use mf_wire_requests::{LineParts, fit_line};
 use std::alloc::Global;
 
 /// A response that is ready to be written: the status and the body of a success, or a refusal.
@@ -23,6 +27,61 @@ use std::alloc::Global;
 struct Response {
     text: Result<(u16, String), Fault>,
     to_head: bool,
+}
+
+/// The parts of a message, of which this is told.
+fn parts_of_message<'m>(told: &'m [u8], message: &'m Message) -> LineParts<'m>
+    ensures { parts_now result ≡ parts_of_message told.now message.now }
+{
+    LineParts {
+        told,
+        caller: message.staff(),
+        method: message.method(),
+        path: message.target(),
+        body: message.body(),
+    }
+}
+
+/// The parts of a message whose field X-Told is told of it. None where that stands more than once, or is longer than
+/// 100 bytes or not printed ASCII, and where the parts would be too long for a request line.
+fn told_parts_of(message: &Message) -> Option<LineParts<'_>>
+    ensures { option_map parts_now result ≡ told_parts_of message.now }
+{
+    let told = message.told()?;
+    let parts = parts_of_message(told, message);
+    if may_be_told(told) && fit_line(&parts) {
+        Some(parts)
+    } else {
+        None
+    }
+}
+
+/// The parts of a message, of which something may be told or nothing is.
+fn message_parts(told: bool, message: &Message) -> Option<LineParts<'_>>
+    ensures { option_map parts_now result ≡ message_parts told message.now }
+{
+    if told {
+        told_parts_of(message)
+    } else {
+        Some(parts_of_message([].as_slice(), message))
+    }
+}
+
+/// The status and the body of the reply to a request that came in a message.
+fn answer_message_text<S: InstitutionStore>(
+    alloc: Global,
+    desk: &Desk,
+    store: &mut S,
+    message: &Message,
+) -> Result<(u16, String), Fault>
+    ensures calls { Calls S.InstitutionStore (IsReplyText result) (call_of_message desk.now.told (Some message.now))
+        store.old store.new }
+    ensures refusal { IfErr result (λ f. f ≢ Fault.F19) }
+{
+    match message_parts(desk.told, message) {
+        Some(parts) => answer_text_parts(alloc, &desk.routes, store, parts),
+        None => Err(Fault::F1),
+    }
 }
 
 /// Answers a request that came in a message.
@@ -33,18 +92,12 @@ fn answer_message<S: InstitutionStore>(
     message: &Message,
 ) -> Response
     ensures calls { Calls S.InstitutionStore (λ r. text_response result.to_head result.text
-        ≡ shown_response result.to_head r) (call_of_message (Some message.now)) store.old store.new }
+        ≡ shown_response result.to_head r) (call_of_message desk.now.told (Some message.now)) store.old store.new }
     ensures to_head { result.to_head ≡ is_head message.now.method }
     ensures refusal { IfErr result.text (λ f. f ≢ Fault.F19) }
 {
-    let parts = LineParts {
-        caller: message.staff(),
-        method: message.method(),
-        path: message.target(),
-        body: message.body(),
-    };
     Response {
-        text: answer_text_parts(alloc, &desk.routes, store, parts),
+        text: answer_message_text(alloc, desk, store, message),
         to_head: message.is_head(),
     }
 }
@@ -60,7 +113,8 @@ fn answer_arrival<S: InstitutionStore>(
     ensures silent { result ≡ None → (store.new ≡ store.old)
         × ((bytes : List ℕ) → TellsArrival bytes arrival → bytes ≡ []) }
     ensures answered { IfSome result (λ response. (bytes : List ℕ) → TellsArrival bytes arrival →
-        AnswersMessage S.InstitutionStore bytes store.old (text_response response.to_head response.text) store.new) }
+        AnswersMessage S.InstitutionStore desk.now.told bytes store.old
+        (text_response response.to_head response.text) store.new) }
     ensures refusal { IfSome result (λ response. IfErr response.text (λ f. f ≢ Fault.F19)) }
 {
     match arrival {
@@ -108,6 +162,10 @@ fn put_response<W: Sink>(
 /// message that is anything else, or is cut, is refused as malformed, and one for whose body there is no room is F20.
 /// To HEAD the body of the reply is left off, where the head was read.
 ///
+/// Where something is told to the desk, the field `X-Told` tells of the message what a journal notes with it: at most
+/// 100 bytes, each a space or another printed character of ASCII, or nothing. With two such fields, with another value,
+/// and where the message would be too long for a request line, it is refused as malformed.
+///
 /// The rooms for the head and for the response are made first: where one can't be, `Memory` is reported, and nothing is
 /// read, answered or written. After `Read` nothing was answered or written. After `Write` the message was answered, and
 /// a beginning of its response was written. `Read` and `Write` are reported only where the reader or the writer failed
@@ -119,7 +177,7 @@ pub fn serve_one<S: InstitutionStore, R: Source, W: Sink>(
     source: &mut R,
     sink: &mut W,
 ) -> Result<bool, StreamFault>
-    ensures ends { EndsMessage (AnswersMessage S.InstitutionStore) store.old store.new
+    ensures ends { EndsMessage (AnswersMessage S.InstitutionStore desk.now.told) store.old store.new
         (streams_of (stream_of R.unread R.faults source.old source.new)
         (stream_of W.written W.faults sink.old sink.new)) result }
     ensures silent { IfOk result (λ served. served ≡ false → sink.new ≡ sink.old) }

@@ -2,6 +2,10 @@
 use Rattle.std.specs.Prelude.{◌==◌, ℕ, ◌-◌, List, [], ◌∷◌, ◌++◌, cond, length, take, slice_index}
 use Rattle.std.specs.List.{slice_split}
 
+-- the longest request line, in bytes, without its ending
+abbrev pub longest_line : ℕ
+longest_line = 65536
+
 -- a carriage return at the end of a line goes
 abbrev pub without_return : List ℕ → List ℕ
 without_return line = cond (slice_index line (length line - 1) == 13) (take (length line - 1) line) line

@@ -5,3 +5,4 @@ pub mod Run
 pub mod Streams
 pub mod Ends
 pub mod Watched
+pub mod Told

@@ -3,14 +3,14 @@ use Rattle.std.specs.Prelude.{◌≡◌, ℕ, ◌<◌, List, [], ◌∷◌, ◌+
 use Rattle.std.specs.List.{concat}
 use Rattle.std.specs.Io.KnownBytes.{Appends}
 use Rattle.mf_base.specs.declared.fault.Fault.TheVariants.{F1}
-use Rattle.mf_wire_lines.specs.Cut.{request}
+use Rattle.mf_wire_lines.specs.Cut.{longest_line, request}
 use Rattle.mf_wire_lines.specs.Replies.{fault_line}
 
 -- From old, the desk may answer the line with the text and go on to new. A line that is too long is refused and changes
 -- nothing.
 abbrev pub LineStep : {S : Type 0} → (S → List ℕ → List ℕ → S → Type 0) → S → List ℕ → List ℕ → S → Type 0
 LineStep step old line text new =
-    MatchBool (nat_le (length line) 65536) (step old line text new) ((text ≡ fault_line F1) × (new ≡ old))
+    MatchBool (nat_le (length line) longest_line) (step old line text new) ((text ≡ fault_line F1) × (new ≡ old))
 
 -- the desk may give these texts to these lines, one after another
 abbrev pub Run : {S : Type 0} → (S → List ℕ → List ℕ → S → Type 0) → S → List (List ℕ) → List (List ℕ) → S → Type 0

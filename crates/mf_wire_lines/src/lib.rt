@@ -10,10 +10,12 @@ mod lines;
 mod refusals;
 mod sinks;
 mod sources;
+mod told;
 mod writing;
 
-pub use lines::{LineDesk, run_lines};
+pub use lines::{LONGEST_LINE, LineDesk, run_lines};
 pub use refusals::fault_text;
 pub use sinks::{Sink, WatchedWriter, WriteFault};
 pub use sources::{ReadFault, Source, WatchedReader};
+pub use told::{LONGEST_TOLD, may_be_told};
 pub use writing::put;

@@ -2,7 +2,7 @@
 
 ghost use Rattle.std.specs.Prelude.{◌≡◌, ◌≢◌, ℕ, ◌+◌, ◌-◌, ◌<◌, ◌≤◌, ◌^◌, List, [], length, take, IfOk, IfErr, OnOk};
 ghost use Rattle.mf_base.specs.declared.fault.Cause.TheVariants as cause;
-ghost use Rattle.mf_wire_lines.specs.Cut.{without_return, request};
+ghost use Rattle.mf_wire_lines.specs.Cut.{longest_line, without_return, request};
 ghost use Rattle.mf_wire_lines.specs.Reading.{ended_from, begun_from};
 ghost use Rattle.mf_wire_lines.specs.Replies.{reply_line_of};
 ghost use Rattle.mf_wire_lines.specs.Run.{LineStep, Run, Answered, Half, Broken};
@@ -17,7 +17,10 @@ use mf_base::{Cause, Fault, StreamFault};
 use std::alloc::{AllocError, Global};
 
 /// The longest line that a desk hears, in bytes, without its ending.
-pub const LONGEST: usize = 65536;
+pub const LONGEST_LINE: usize = 65536;
+
+/// How many bytes are read at once.
+const READ_AT_ONCE: usize = 65536;
 
 /// As many bytes are read at most: a stream of more has no end.
 pub const MOST: u64 = 1 << 60;
@@ -29,7 +32,7 @@ pub trait LineDesk<S> {
 
     /// The text of a line's success, which was made before the state was changed, or its refusal.
     fn answer(&self, alloc: Global, state: &mut S, line: &[u8]) -> Result<String, Fault>
-        requires { length line.now ≤ 65536 }
+        requires { length line.now ≤ longest_line }
         ensures step { may_answer self.now state.old line.now (reply_line_of result) state.new }
         ensures refusal { IfErr result (λ f. f ≢ Fault.F19) };
 }
@@ -43,7 +46,7 @@ fn reply_to<S, D: LineDesk<S>>(
     ensures step { LineStep (D.may_answer desk.now) state.old line.now (reply_line_of result) state.new }
     ensures refusal { IfErr result (λ f. f ≢ Fault.F19) }
 {
-    if line.len() <= LONGEST {
+    if line.len() <= LONGEST_LINE {
         desk.answer(alloc, state, line)
     } else {
         Err(Fault::F1)
@@ -125,7 +128,7 @@ fn feed<S, D: LineDesk<S>, W: Sink>(
 fn room(alloc: Global) -> Result<Vec<u8>, AllocError>
     ensures { IfOk result (λ v. length v.items ≡ 65536) }
 {
-    vec![in alloc; 0; LONGEST]
+    vec![in alloc; 0; READ_AT_ONCE]
 }
 
 /// Answers each request line of a stream: the reply of each is written before the next is answered. It gives how

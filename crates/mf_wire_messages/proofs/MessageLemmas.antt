@@ -11,7 +11,7 @@ use Rattle.httparse.specs.declared.spans.HeaderSpan.{HeaderSpan}
 use Rattle.httparse.specs.declared.spans.RequestSpans.{RequestSpans}
 use Rattle.httparse.proofs.GrammarLemmas.{ReadsRequest-append, request_unique}
 use Rattle.mf_wire_messages.specs.Heads.{ReadsHead}
-use Rattle.mf_wire_messages.specs.Messages.{Message, frame_of, request_within, request_of, is_head, IsMessage}
+use Rattle.mf_wire_messages.specs.Messages.{Message, frame_of, told_in, request_within, request_of, is_head, IsMessage}
 use Rattle.mf_wire_messages.specs.Arrivals.{bytes_left, TellsArrival, Arrives}
 use Rattle.mf_wire_messages.specs.declared.reading.Arrival.{Arrival}
 use Rattle.std.proofs.KnownBytes.{Consumes-trans}
@@ -55,6 +55,7 @@ cut_short head begun more left frame size e same short end =
     ap (λ l. begun ++ l) (ap (λ l. more ++ l) (none_follows left end) ∙ append-nil more) in
     ap (request_of head) all ∙ ap (option_and_then (request_within head (begun ++ more))) e
     ∙ ap (λ t. cond t (Some (record {
+      told = told_in (map name_and_value head.fields);
       staff = frame.0;
       method = head.method;
       target = head.target;
@@ -67,6 +68,7 @@ pub whole_request : (head : RequestHead) (begun more body : List ℕ) (left : Op
     → frame_of (map name_and_value head.fields) ≡ Some frame → length body ≡ frame.1
     → length body ≤ length (begun ++ more) → body ≡ take (length body) (begun ++ more)
     → request_of head (begun ++ (more ++ bytes_left left)) ≡ Some (record {
+      told = told_in (map name_and_value head.fields);
       staff = frame.0;
       method = head.method;
       target = head.target;
@@ -81,13 +83,20 @@ whole_request head begun more body left frame e same fits content =
     ∙ ap (λ n. take n (begun ++ more)) (sym same) ∙ sym content in
     ap (option_and_then (request_within head rest)) e
     ∙ ap (λ t. cond t (Some (record {
+      told = told_in (map name_and_value head.fields);
       staff = frame.0;
       method = head.method;
       target = head.target;
       body = take frame.1 rest;
     })) None) (le-leb frame.1 (length rest)
     (omega (arith, same, fits, long, length-append (begun ++ more) (bytes_left left))))
-    ∙ ap (λ b. Some (record { staff = frame.0; method = head.method; target = head.target; body = b })) taken
+    ∙ ap (λ b. Some (record {
+      told = told_in (map name_and_value head.fields);
+      staff = frame.0;
+      method = head.method;
+      target = head.target;
+      body = b;
+    })) taken
 
 -- the head and its message are read one after the other
 pub together : (a b d : Option (List ℕ)) (bytes : List ℕ) (arrival : Arrival) → Consumes a b bytes
@@ -100,12 +109,15 @@ together a b d bytes arrival p t = (
       (sym (append_assoc bytes t.0 (bytes_left d))) t.2,
 )
 
-abbrev pub made : List ℕ → List ℕ → List ℕ → List ℕ → Message
-made staff method target body = record { staff = staff; method = method; target = target; body = body }
+abbrev pub made : Option (List ℕ) → List ℕ → List ℕ → List ℕ → List ℕ → Message
+made told staff method target body =
+    record { told = told; staff = staff; method = method; target = target; body = body }
 
-pub same_request : (staff method target body verb path content : List ℕ) → method ≡ verb → target ≡ path
-    → body ≡ content → Some (made staff method target body) ≡ Some (made staff verb path content)
-same_request staff method target body verb path content p q r i = Some (made staff (p i) (q i) (r i))
+pub same_request : (told said : Option (List ℕ)) (staff method target body verb path content : List ℕ) → told ≡ said
+    → method ≡ verb → target ≡ path → body ≡ content
+    → Some (made told staff method target body) ≡ Some (made said staff verb path content)
+same_request told said staff method target body verb path content t p q r i =
+    Some (made (t i) staff (p i) (q i) (r i))
 
 -- a vector whose slice was written as a whole
 pub written : (size : ℕ) (new old : List ℕ) → length new ≡ size → take size (new ++ drop (length new) old) ≡ new
@@ -118,9 +130,11 @@ method_is : (head : RequestHead) (rest : List ℕ) (request : Message) → reque
 method_is head rest request e = framed (frame_of (map name_and_value head.fields)) e
   where
     cut_or_whole : (frame : List ℕ × ℕ) (whole : Bool)
-        → cond whole (Some (made frame.0 head.method head.target (take frame.1 rest))) None ≡ Some request
+        → cond whole (Some (made (told_in (map name_and_value head.fields)) frame.0 head.method head.target
+        (take frame.1 rest))) None ≡ Some request
         → head.method ≡ request.method
-    cut_or_whole frame true e = let same : made frame.0 head.method head.target (take frame.1 rest) ≡ request =
+    cut_or_whole frame true e = let same : made (told_in (map name_and_value head.fields)) frame.0 head.method
+        head.target (take frame.1 rest) ≡ request =
         cc in ap (λ (r : Message). r.method) same
     cut_or_whole frame false e = absurd (cc)
 

@@ -9,8 +9,9 @@ use Rattle.httparse.specs.Grammar.{RequestHead}
 use Rattle.httparse.specs.Spans.{name_and_value}
 use Rattle.mf_wire_messages.specs.Heads.{ReadsHead, HasNoHead}
 
--- who asks, by which method, at which target, and with what body
+-- who asks, by which method, at which target, and with what body; and what is told of it, unless that is told twice
 pub record Message : Type 0 where
+  pub told : Option (List ℕ)
   pub staff : List ℕ
   pub method : List ℕ
   pub target : List ℕ
@@ -27,6 +28,16 @@ abbrev pub only_value : List (List ℕ) → Option (List ℕ)
 only_value [] = None
 only_value (value ∷ []) = Some value
 only_value (value ∷ other ∷ values) = None
+
+-- what at most one value tells; without any nothing is told
+abbrev pub told_by : List (List ℕ) → Option (List ℕ)
+told_by [] = Some []
+told_by (value ∷ []) = Some value
+told_by (value ∷ other ∷ values) = None
+
+-- what the fields of a head tell of its message
+abbrev pub told_in : List (List ℕ × List ℕ) → Option (List ℕ)
+told_in fields = told_by (values_of (codes "x-told") fields)
 
 -- the number, where a body may be that long
 abbrev pub allowed_length : ℕ → Option ℕ
@@ -59,6 +70,7 @@ frame_of fields =
 abbrev pub request_within : RequestHead → List ℕ → List ℕ × ℕ → Option Message
 request_within head rest frame =
     cond (nat_le frame.1 (length rest)) (Some (record {
+      told = told_in (map name_and_value head.fields);
       staff = frame.0;
       method = head.method;
       target = head.target;

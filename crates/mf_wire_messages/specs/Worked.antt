@@ -2,7 +2,7 @@
 use Rattle.std.specs.Prelude.{◌≡◌, ℕ, List, [], ◌∷◌, ◌++◌, codes, Some, None, true, false}
 use Rattle.httparse.specs.Grammar.{Field, RequestHead, crlf, print_request}
 use Rattle.mf_base.specs.declared.fault.Fault.TheVariants.{F1}
-use Rattle.mf_wire_messages.specs.Messages.{frame_of, request_of}
+use Rattle.mf_wire_messages.specs.Messages.{frame_of, request_of, told_in}
 use Rattle.mf_wire_messages.specs.Responses.{phrase_of, response, refusal}
 
 -- a field line with a space before its value
@@ -34,6 +34,7 @@ HeadIsWritten = print_request request_head
 -- the request, whatever follows its body
 abbrev pub IsAskedByMessage : Type 0
 IsAskedByMessage = (more : List ℕ) → request_of request_head (request_body ++ more) ≡ Some (record {
+  told = Some [];
   staff = codes "1/1";
   method = codes "POST";
   target = codes "/clients";
@@ -62,6 +63,13 @@ FieldsAreTaken =
       1048576,
     ))
     × (frame_of ((codes "X-Staff", codes "9/9") ∷ []) ≡ Some (codes "9/9", 0))
+
+-- what fields tell: nothing, a text, in any case of the name, or two texts, of which none counts
+abbrev pub FieldsAreTold : Type 0
+FieldsAreTold =
+    (told_in ((codes "X-Staff", codes "1/1") ∷ []) ≡ Some [])
+    × (told_in ((codes "x-TOLD", codes "09:12 10.0.0.7") ∷ []) ≡ Some (codes "09:12 10.0.0.7"))
+    × (told_in ((codes "X-Told", codes "09:12") ∷ (codes "X-Told", codes "09:12") ∷ []) ≡ None)
 
 -- the response to the request, and that of a malformed message to HEAD
 abbrev pub ResponsesAreWritten : Type 0

@@ -1,4 +1,4 @@
-//! The fields of a head that say who asks and how long the body is.
+//! The fields of a head that say who asks, how long the body is and what is told of the message.
 
 ghost use Rattle.std.specs.Prelude.{◌≡◌, ℕ, ◌^◌, ◌<◌, ◌≤◌, List, ◌∷◌, [], ◌++◌, length, map, codes, All, IsTrue};
 ghost use Rattle.std.specs.Prelude.{IfSome, option_map};
@@ -8,8 +8,8 @@ ghost use Rattle.std.specs.Str.{all_ascii_digits, str_eq_ignore_ascii_case};
 ghost use Rattle.std.specs.Str.Parse.{digits_value};
 ghost use Rattle.httparse.specs.Spans.{span_bytes, header_bytes, IsWithin, IsHeaderWithin};
 ghost use Rattle.mf_wire_messages.specs.Messages.{values_of, only_value, allowed_length, length_of_digits, body_length};
-ghost use Rattle.mf_wire_messages.specs.Messages.{unless_any, frame_of};
-ghost use Rattle.mf_wire_messages.specs.Framing.{FoundIn, frame_at};
+ghost use Rattle.mf_wire_messages.specs.Messages.{unless_any, frame_of, told_in};
+ghost use Rattle.mf_wire_messages.specs.Framing.{FoundIn, frame_at, told_at, IsFoundWithin};
 
 use httparse::spans::{HeaderSpan, Span};
 use mf_base::{is_digits, value_of_digits};
@@ -111,4 +111,13 @@ pub fn find_frame(head: &[u8], fields: &[HeaderSpan]) -> Option<Frame>
         return None;
     };
     Some(Frame { staff, length })
+}
+
+/// Where what is told of a message stands in its head.
+pub fn find_told(head: &[u8], fields: &[HeaderSpan]) -> Found
+    requires { All (IsHeaderWithin (length head.now)) fields.now }
+    ensures value { told_at head.now result ≡ told_in (map (header_bytes head.now) fields.now) }
+    ensures within { IsFoundWithin (length head.now) result }
+{
+    find_field(head, fields, b"x-told")
 }

@@ -3,16 +3,18 @@
 ghost use Rattle.std.specs.Prelude.{◌≡◌, ℕ, Bool, List, Option};
 ghost use Rattle.mf_wire_messages.specs.Messages.{Message, IsMessage};
 ghost use Rattle.mf_wire_messages.specs.Worked.{HeadIsWritten, IsAskedByMessage, CutIsRefused, FieldsAreRefused};
-ghost use Rattle.mf_wire_messages.specs.Worked.{FieldsAreTaken};
+ghost use Rattle.mf_wire_messages.specs.Worked.{FieldsAreTaken, FieldsAreTold};
 ghost use Rattle.mf_wire_messages.specs.Worked.{PhrasesAreWritten, ResponsesAreWritten};
 
-/// A message that asks for a new client, its response, the heads that are refused, and the phrases of responses.
+/// A message that asks for a new client, its response, the heads that are refused, what heads tell, and the phrases of
+/// responses.
 pub fn worked_messages()
     ensures head { HeadIsWritten }
     ensures asked { IsAskedByMessage }
     ensures cut { CutIsRefused }
     ensures refused { FieldsAreRefused }
     ensures taken { FieldsAreTaken }
+    ensures told { FieldsAreTold }
     ensures phrases { PhrasesAreWritten }
     ensures responses { ResponsesAreWritten }
 {}

@@ -7,7 +7,7 @@ ghost use Rattle.mf_base.specs.declared.fault.Cause.TheVariants as cause;
 ghost use Rattle.mf_wire_messages.specs.Arrivals.{Arrives, TellsArrival, bytes_left};
 
 use crate::bodies::read_body;
-use crate::fields::find_frame;
+use crate::fields::{find_frame, find_told};
 use crate::head::{HeadRead, LONGEST_HEAD, MOST_FIELDS, read_head};
 use crate::messages::{Message, is_head};
 use httparse::spans::{EMPTY_HEADER_SPAN, HeaderSpan, RequestSpans};
@@ -64,7 +64,9 @@ fn read_request<R: Source>(
     if !whole {
         return Ok(Arrival::Malformed { to_head });
     }
-    Ok(Arrival::Received(Message::new(head, frame.staff, spans.method, spans.path, body)))
+    let told = find_told(&head, &fields[..spans.headers]);
+    let message = Message::new(head, told, frame.staff, spans.method, spans.path, body);
+    Ok(Arrival::Received(message))
 }
 
 /// Reads one message. The room for its head is made first: where it can't be, nothing is read.

@@ -53,9 +53,10 @@ use Rattle.mf_wire_requests.specs.PathParts.{PathParts, number_in, account_numbe
 use Rattle.mf_wire_requests.specs.ProductRequests.{step_at, planning_at, bounds_at, charged_at, members_of}
 use Rattle.mf_wire_requests.specs.ProductRequests.{new_product_request}
 use Rattle.mf_wire_requests.specs.ProductRequests.{IsDueStepInRange, IsPlanningInRange, AreBoundsInRange}
-use Rattle.mf_wire_requests.specs.RequestLine.{Parts, parts_of_line, is_token}
+use Rattle.mf_wire_lines.specs.Cut.{longest_line}
+use Rattle.mf_wire_requests.specs.RequestLine.{Parts, parts_in, is_token}
 use Rattle.mf_wire_requests.specs.Requests.{method_of, endpoint_of, request_at, or_malformed, asked_at, asked_on}
-use Rattle.mf_wire_requests.specs.Requests.{asked_by, asked_in, request_of, call_of_parts, call_of}
+use Rattle.mf_wire_requests.specs.Requests.{asked_by, asked_in, request_of, call_of_parts, call_in}
 use Rattle.mf_wire_requests.specs.Routes.{route_at, parts_on}
 use Rattle.mf_wire_requests.proofs.Ranges.{IsWithin, IsEntered, IsOfNineDigits, name_range, office_range, within_range}
 use Rattle.mf_wire_requests.proofs.Ranges.{number_range, receipt_range, account_range, day_range, number_in_range}
@@ -471,15 +472,15 @@ sent_in_range caller method path body = either (is_some (caller_of caller) && is
 pub parts_in_range : (p : Parts) → IsInRange (call_of_parts p).request
 parts_in_range p = sent_in_range p.caller p.method p.path p.body
 
-pub line_in_range : (line : List ℕ) → IsInRange (call_of line).request
-line_in_range line = short (nat_le (length line) 65536)
-  where
-    among : (o : Option Parts) → IsInRange (asked_in o)
-    among None = tt
-    among (Some p) = sent_in_range p.caller p.method p.path p.body
+pub maybe_in_range : (o : Option Parts) → IsInRange (asked_in o)
+maybe_in_range None = tt
+maybe_in_range (Some p) = sent_in_range p.caller p.method p.path p.body
 
-    short : (b : Bool) → IsInRange (cond b (asked_in (parts_of_line line)) (Unreadable Malformed))
-    short true = among (parts_of_line line)
+pub line_in_range : (told : Bool) (line : List ℕ) → IsInRange (call_in told line).request
+line_in_range told line = short (nat_le (length line) longest_line)
+  where
+    short : (b : Bool) → IsInRange (cond b (asked_in (parts_in told line)) (Unreadable Malformed))
+    short true = maybe_in_range (parts_in told line)
     short false = tt
 
 -- so do those of a run, whichever calls its lines are

@@ -1,6 +1,6 @@
 -- What a request asks.
-use Rattle.std.specs.Prelude.{[], ℕ, ◌&&◌, cond, List, codes, is_some, nat_le, length, Option, Some, None, option_map}
-use Rattle.std.specs.Prelude.{option_and_then}
+use Rattle.std.specs.Prelude.{ℕ, Bool, false, ◌&&◌, cond, List, codes, is_some, nat_le, length, Option, Some, None}
+use Rattle.std.specs.Prelude.{option_map, option_and_then}
 use Rattle.std.specs.Str.{bytes_eq}
 use Rattle.mf_office.specs.Texts.{caller_of}
 use Rattle.mf_model.specs.declared.request.CatalogueRequest.TheVariants as catalogue
@@ -18,7 +18,8 @@ use Rattle.mf_wire_requests.specs.declared.routes.Methods.{Methods}
 use Rattle.mf_wire_requests.specs.declared.routes.Methods.TheVariants.{Get, Post, GetAndPost, GetAndPut}
 use Rattle.mf_wire_requests.specs.declared.request.Method.{Method}
 use Rattle.mf_wire_requests.specs.declared.request.Method.TheVariants as method
-use Rattle.mf_wire_requests.specs.RequestLine.{Parts, parts_of_line, split_space, is_token}
+use Rattle.mf_wire_lines.specs.Cut.{longest_line}
+use Rattle.mf_wire_requests.specs.RequestLine.{Parts, parts_in, line_in, split_space, is_token}
 use Rattle.mf_wire_requests.specs.PathParts.{PathParts, number_in}
 use Rattle.matchit.specs.Router.{RouteOf}
 use Rattle.mf_wire_requests.specs.Routes.{route_at, parts_on}
@@ -92,11 +93,11 @@ abbrev pub asked_by : List ℕ → List ℕ → List ℕ → List ℕ → Reques
 asked_by caller method path body = cond (is_some (caller_of caller) && is_token method) (request_of method path body)
     (Unreadable Malformed)
 
--- the text of a request in its four parts
+-- the text of a request in its parts
 abbrev pub received_in_parts : Parts → Received
-received_in_parts p = record { told = []; method = p.method; path = p.path; body = p.body }
+received_in_parts p = record { told = p.told; method = p.method; path = p.path; body = p.body }
 
--- a call in its four parts
+-- a call in its parts
 abbrev pub call_of_parts : Parts → Call
 call_of_parts p = record {
   caller = caller_of p.caller;
@@ -104,21 +105,33 @@ call_of_parts p = record {
   received = received_in_parts p;
 }
 
--- what the parts of a line ask for
+-- what the parts of a request ask for
 abbrev pub asked_in : Option Parts → Request
 asked_in None = Unreadable Malformed
 asked_in (Some p) = asked_by p.caller p.method p.path p.body
 
--- the text of a line in its parts, if it has them
+-- the text of a request in its parts, if it has them
 abbrev pub received_in : Option Parts → Received
 received_in None = nothing_received
 received_in (Some p) = received_in_parts p
 
--- Who sends a request line, by the text before its first space, and what it asks. A line of over 65,536 bytes asks
--- nothing.
-abbrev pub call_of : List ℕ → Call
-call_of line = record {
-  caller = option_and_then (λ p. caller_of p.0) (split_space line);
-  request = cond (nat_le (length line) 65536) (asked_in (parts_of_line line)) (Unreadable Malformed);
-  received = received_in (parts_of_line line);
+-- the call of a request that this caller's text sends, in its parts; without them it asks nothing
+abbrev pub call_by_parts : List ℕ → Option Parts → Call
+call_by_parts caller parts = record {
+  caller = caller_of caller;
+  request = asked_in parts;
+  received = received_in parts;
 }
+
+-- Who sends a request line, by the text before its first space, and what it asks, where its first word may be told of
+-- the line behind it. A line of over 65,536 bytes asks nothing, and so does one whose first word may not be told.
+abbrev pub call_in : Bool → List ℕ → Call
+call_in told line = record {
+  caller = option_and_then (λ p. caller_of p.0) (split_space (line_in told line));
+  request = cond (nat_le (length line) longest_line) (asked_in (parts_in told line)) (Unreadable Malformed);
+  received = received_in (parts_in told line);
+}
+
+-- the same of a line of which nothing is told
+abbrev pub call_of : List ℕ → Call
+call_of line = call_in false line

@@ -9,5 +9,5 @@ mod request_line;
 mod routes;
 
 pub use request::read_request;
-pub use request_line::{LineParts, is_token, line_parts};
+pub use request_line::{LineParts, fit_line, is_token, line_parts, parts_in};
 pub use routes::Routes;

@@ -95,11 +95,15 @@ fn batch(rt: &HostRuntime, asked: &BatchWords<'_>) -> u8
             tell_reading(rt);
             answer_input_in_memory(rt, asked.day)
         }
-        Some(file) => work_where(rt, file.as_str(), wanted, Work::Answer),
+        Some(file) => {
+            let work = Work::Answer { told: asked.told };
+            work_where(rt, file.as_str(), wanted, work, &[])
+        }
     }
 }
 
-/// Serves HTTP over a file, which is opened before the port.
+/// Serves HTTP over a file, which is opened before the port. Where the institution is to keep a journal, something may
+/// be told of each message.
 fn serve(rt: &HostRuntime, asked: &ServeWords<'_>) -> u8
     requires { IsServeWithinLimits asked.now }
     ensures { IsPrintStatus result }
@@ -108,6 +112,7 @@ fn serve(rt: &HostRuntime, asked: &ServeWords<'_>) -> u8
         port: asked.port,
         connections: asked.count,
         patience: asked.patience,
+        told: asked.journal,
     };
     let wanted = Wanted {
         existing: asked.existing,
@@ -115,7 +120,7 @@ fn serve(rt: &HostRuntime, asked: &ServeWords<'_>) -> u8
         day: asked.day,
     };
     tell_checking(rt, asked.file.as_str());
-    work_where(rt, asked.file.as_str(), wanted, work)
+    work_where(rt, asked.file.as_str(), wanted, work, &[])
 }
 
 /// Collects the sheet on standard input over a file; a missing file becomes a new institution on the default day,
@@ -128,7 +133,12 @@ fn collect(rt: &HostRuntime, asked: &CollectWords<'_>) -> u8
         journal: asked.journal,
         day: default_day(),
     };
-    work_where(rt, asked.file.as_str(), wanted, Work::Collect(asked.staff))
+    let told = match &asked.told {
+        Some(told) => told.as_bytes(),
+        None => [].as_slice(),
+    };
+    let work = Work::Collect(asked.staff);
+    work_where(rt, asked.file.as_str(), wanted, work, told)
 }
 
 /// Prints the report of arrears over a file, which becomes a new institution as that of `collect` does.
@@ -140,7 +150,8 @@ fn report(rt: &HostRuntime, asked: &StaffWords<'_>) -> u8
         journal: false,
         day: default_day(),
     };
-    work_where(rt, asked.file.as_str(), wanted, Work::Report(asked.staff))
+    let work = Work::Report(asked.staff);
+    work_where(rt, asked.file.as_str(), wanted, work, &[])
 }
 
 /// Brings a file up to date, which must hold an institution, and begins a journal where one is asked for and none kept.
@@ -152,8 +163,10 @@ fn upgrade(rt: &HostRuntime, asked: &UpgradeWords<'_>) -> u8
         journal: false,
         day: default_day(),
     };
-    let journal = asked.journal;
-    work_where(rt, asked.file.as_str(), wanted, Work::Upgrade { journal })
+    let work = Work::Upgrade {
+        journal: asked.journal,
+    };
+    work_where(rt, asked.file.as_str(), wanted, work, &[])
 }
 
 /// Says why a file is not opened, and gives the program's status, where opening would put a new institution in the
@@ -171,20 +184,21 @@ fn refuse_place(rt: &HostRuntime, file: &str, existing: bool) -> Option<u8>
     }
 }
 
-/// Works over a file unless it is refused for what stands there, and gives the program's status.
-fn work_where(rt: &HostRuntime, file: &str, wanted: Wanted, work: Work) -> u8
+/// Works over a file unless it is refused for what stands there, and gives the program's status. This is told of each
+/// line of a sheet.
+fn work_where(rt: &HostRuntime, file: &str, wanted: Wanted, work: Work, told: &[u8]) -> u8
     requires { wanted.day ≤ last_entered_day }
     ensures { IsPrintStatus result }
 {
     match refuse_place(rt, file, wanted.existing) {
         Some(status) => status,
-        None => work_over(rt, file, wanted, work),
+        None => work_over(rt, file, wanted, work, told),
     }
 }
 
 /// Opens a file, works over the institution that it holds, closes it, and gives the program's status. The only function
 /// that holds a store of a known type: the prover reads all of `sqlite` for each.
-fn work_over(rt: &HostRuntime, file: &str, wanted: Wanted, work: Work) -> u8
+fn work_over(rt: &HostRuntime, file: &str, wanted: Wanted, work: Work, told: &[u8]) -> u8
     requires { wanted.day ≤ last_entered_day }
     ensures { IsPrintStatus result }
 {
@@ -202,7 +216,7 @@ fn work_over(rt: &HostRuntime, file: &str, wanted: Wanted, work: Work) -> u8
         open(rt, file, wanted.day, &mut following).map_err(failed)
     };
     match opened {
-        Ok(store) => work_on(rt, file, store, work),
+        Ok(store) => work_on(rt, file, store, work, told),
         Err(Unjournaled::NoJournal) => tell_no_journal(rt),
         Err(Unjournaled::Refused(Refused::NoInstitution)) => tell_no_institution(rt),
         Err(Unjournaled::Refused(Refused::Failed(fault))) => tell_refusal(rt, fault),

@@ -24,13 +24,16 @@ use std::net::{Ipv4Addr, TcpListener};
 /// What is done over a file.
 #[derive(Drop)]
 pub enum Work {
-    /// Request lines on standard input are answered.
-    Answer,
-    /// HTTP messages on a port of this machine are answered, one a connection.
+    /// Request lines on standard input are answered; the first word of each may be told of it.
+    Answer {
+        told: bool,
+    },
+    /// HTTP messages on a port of this machine are answered, one a connection; something may be told of each.
     Serve {
         port: u16,
         connections: u64,
         patience: u32,
+        told: bool,
     },
     /// The sheet on standard input is collected, for this member of staff.
     Collect(Caller),
@@ -49,20 +52,22 @@ pub fn work_on<D: Disk + Drop>(
     file: &str,
     store: Store<FileStore<D>>,
     work: Work,
+    told: &[u8],
 ) -> u8
     ensures { IsPrintStatus result }
 {
     match work {
-        Work::Answer => {
+        Work::Answer { told: hears } => {
             tell_reading(rt);
-            answer_input(rt, store)
+            answer_input(rt, store, hears)
         }
         Work::Serve {
             port,
             connections,
             patience,
-        } => serve_port(rt, file, store, port, connections, patience),
-        Work::Collect(staff) => collect_input(rt, store, staff),
+            told: hears,
+        } => serve_port(rt, file, store, port, connections, patience, hears),
+        Work::Collect(staff) => collect_input(rt, store, staff, told),
         Work::Report(staff) => print_report(rt, store, staff),
         Work::Upgrade { journal } => upgrade_store(rt, file, store, journal),
     }
@@ -83,12 +88,13 @@ pub fn answer_input_in_memory<R: Print + Eprint + Input + AllocGlobal>(rt: &R, d
 fn answer_input<R: Print + Eprint + Input + AllocGlobal, D: Disk + Drop>(
     rt: &R,
     store: Store<FileStore<D>>,
+    told: bool,
 ) -> u8
     ensures { IsPrintStatus result }
 {
     let mut source = WatchedReader::new(rt.reader());
     let mut sink = WatchedWriter::new(io::writer(rt));
-    let (ended, closed) = run_and_close(rt.alloc(), store, &mut source, &mut sink);
+    let (ended, closed) = run_and_close(rt.alloc(), told, store, &mut source, &mut sink);
     let_go(closed);
     tell_end(rt, &ended)
 }
@@ -102,6 +108,7 @@ fn serve_port<D: Disk + Drop>(
     port: u16,
     connections: u64,
     patience: u32,
+    told: bool,
 ) -> u8
     ensures { IsPrintStatus result }
 {
@@ -110,7 +117,15 @@ fn serve_port<D: Disk + Drop>(
         return tell_cause(rt, Cause::Read);
     };
     tell_person(rt, format_args!("serving {file} on 127.0.0.1:{port}"));
-    let (ended, closed) = serve_and_close(rt.alloc(), rt, store, &listener, connections, patience);
+    let (ended, closed) = serve_and_close(
+        rt.alloc(),
+        rt,
+        told,
+        store,
+        &listener,
+        connections,
+        patience,
+    );
     let_go(closed);
     tell_end(rt, &ended)
 }
@@ -120,12 +135,13 @@ fn collect_input<R: Print + Eprint + Input + AllocGlobal, D: Disk + Drop>(
     rt: &R,
     store: Store<FileStore<D>>,
     staff: Caller,
+    told: &[u8],
 ) -> u8
     ensures { IsPrintStatus result }
 {
     let mut source = WatchedReader::new(rt.reader());
     let mut sink = WatchedWriter::new(io::writer(rt));
-    let (ended, closed) = collect_and_close(rt.alloc(), store, staff, &mut source, &mut sink);
+    let (ended, closed) = collect_and_close(rt.alloc(), store, told, staff, &mut source, &mut sink);
     let_go(closed);
     tell_sheet(rt, &ended)
 }

@@ -4,11 +4,12 @@ use Rattle.mf_base.specs.declared.fault.StreamFault.{StreamFault}
 use Rattle.mf_model.specs.declared.store.InstitutionStore.{Ghosts}
 use Rattle.mf_wire.specs.Exchanges.{Exchange, AnswersAll}
 
--- The store answered messages one after another, at most one a connection, and nothing else was done to it. The
--- responses of so many were written whole.
-pub record ServesConnections {S : Type 0} (store : Ghosts S) (connections : ℕ) (old new : S) (count : ℕ) : Type 0 where
+-- The store answered messages one after another, of which something may be told or nothing is, at most one a
+-- connection, and nothing else was done to it. The responses of so many were written whole.
+pub record ServesConnections {S : Type 0} (store : Ghosts S) (told : Bool) (connections : ℕ) (old new : S)
+    (count : ℕ) : Type 0 where
   pub exchanges : List Exchange
-  pub answered : AnswersAll store old exchanges new
+  pub answered : AnswersAll store told old exchanges new
   pub each : length exchanges ≤ connections
   pub counted : count ≤ length exchanges
 

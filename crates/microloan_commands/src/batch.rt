@@ -14,7 +14,7 @@ use sqlite_trees::store::Store as TreeStore;
 use std::alloc::Global;
 
 /// Answers the request lines of a source over a new institution in memory, which begins on a day, and gives how many
-/// replies were written.
+/// replies were written. It keeps no journal, and nothing is told of the lines.
 ///
 /// Its errors are those of `mf_wire::run`. Memory is also reported where there is none for the institution; with
 /// Memory nothing was read, answered or written.
@@ -36,5 +36,5 @@ pub fn answer_lines<R: Source, W: Sink>(
             cause: Cause::Memory,
         });
     };
-    run(alloc, &mut store, source, sink)
+    run(alloc, false, &mut store, source, sink)
 }

@@ -34,7 +34,7 @@ fn serve_streams<S: InstitutionStore, R: Read + Drop, W: Write + Drop>(
     reader: R,
     writer: W,
 ) -> u64
-    ensures { ServesConnections S.InstitutionStore 1 store.old store.new result }
+    ensures { ServesConnections S.InstitutionStore desk.now.told 1 store.old store.new result }
 {
     let mut source = WatchedReader::new(reader);
     let mut sink = WatchedWriter::new(writer);
@@ -50,7 +50,7 @@ fn serve_next<S: InstitutionStore, C: Clock, L: OpenListener<Stream = TcpStream>
     listener: &L,
     patience: u32,
 ) -> u64
-    ensures { ServesConnections S.InstitutionStore 1 store.old store.new result }
+    ensures { ServesConnections S.InstitutionStore desk.now.told 1 store.old store.new result }
 {
     let Ok((stream, _)) = listener.accept() else {
         return 0;
@@ -66,7 +66,8 @@ fn serve_next<S: InstitutionStore, C: Clock, L: OpenListener<Stream = TcpStream>
 }
 
 /// Accepts so many connections, one after another, and answers the HTTP message of each over a store, as
-/// `mf_wire::serve_one` does. It gives how many responses were written whole.
+/// `mf_wire::serve_one` does. It gives how many responses were written whole. Where `told` says so, a message's field
+/// X-Told is told of it.
 ///
 /// A client that neither sends nor takes a byte for so many seconds as the patience says, or that takes six times as
 /// long for its message, or for its response, is left: that is a fault of its streams. After a whole response the
@@ -77,16 +78,17 @@ fn serve_next<S: InstitutionStore, C: Clock, L: OpenListener<Stream = TcpStream>
 pub fn serve_connections<S: InstitutionStore, C: Clock, L: OpenListener<Stream = TcpStream>>(
     alloc: Global,
     clock: &C,
+    told: bool,
     store: &mut S,
     listener: &L,
     connections: u64,
     patience: u32,
 ) -> Result<u64, StreamFault>
-    ensures served { IfOk result (ServesConnections S.InstitutionStore connections store.old store.new) }
+    ensures served { IfOk result (ServesConnections S.InstitutionStore told connections store.old store.new) }
     ensures memory { IfErr result (λ fault. (fault ≡ record { answered = 0; cause = cause.Memory })
         × (store.new ≡ store.old)) }
 {
-    let Ok(desk) = Desk::new(alloc) else {
+    let Ok(desk) = Desk::new(alloc, told) else {
         return Err(StreamFault {
             answered: 0,
             cause: Cause::Memory,

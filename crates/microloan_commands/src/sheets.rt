@@ -57,7 +57,7 @@ fn read_whole<R: Source>(alloc: Global, source: &mut R) -> Result<Vec<u8>, Sheet
 }
 
 /// Reads a source to its end, answers it as a collection sheet that somebody sends, as `mf_sheet::collect` does, and
-/// writes the sheet of its results.
+/// writes the sheet of its results. A journal notes what is told with each repayment.
 ///
 /// A source of more than 1,048,576 bytes is refused, and nothing is answered or written. `Read` is reported where the
 /// reader failed in this call, and nothing was answered or written then. `Memory` is also reported where there is no
@@ -65,16 +65,17 @@ fn read_whole<R: Source>(alloc: Global, source: &mut R) -> Result<Vec<u8>, Sheet
 pub fn collect_sheet<S: InstitutionStore, R: Source, W: Sink>(
     alloc: Global,
     store: &mut S,
+    told: &[u8],
     caller: Caller,
     source: &mut R,
     sink: &mut W,
 ) -> Result<(), SheetFault>
-    ensures ends { Ends (RunsRows S.InstitutionStore caller) store.old store.new
+    ensures ends { Ends (RunsRows S.InstitutionStore told.now caller) store.old store.new
         (streams_of (stream_of R.unread R.faults source.old source.new)
         (stream_of W.written W.faults sink.old sink.new)) result }
 {
     let sheet = read_whole(alloc, source)?;
-    match collect(alloc, store, caller, sheet.as_slice(), sink) {
+    match collect(alloc, store, told, caller, sheet.as_slice(), sink) {
         Ok(()) => Ok(()),
         Err(fault) => Err(SheetFault::Stream(fault)),
     }

@@ -1,6 +1,6 @@
 -- What a run over files leaves of these.
 use Rattle.std.proofs.Common.{◌≡◌, ◌⊎◌, inl, inr, ℕ, List, [], ◌∷◌, ◌++◌, Option, Some, Result, Ok, Err, IsTrue, refl}
-use Rattle.std.proofs.Common.{sym, subst, arith}
+use Rattle.std.proofs.Common.{Bool, sym, subst, arith}
 use Rattle.std.specs.Io.KnownBytes.{IsAtEnd}
 use Rattle.std.proofs.Math.Logic.{∥∥₁_map}
 use Rattle.mf_base.specs.declared.fault.Cause.{Cause}
@@ -182,7 +182,8 @@ module _
       ))
 
 -- a run over a store of files, and what is so after it
-module _ {D : Type 0} {g : Ghosts D} (i : Institution) (first final : KnownStore (FileStore D g)) (K : List Line
+module _ {D : Type 0} {g : Ghosts D} (told : Bool) (i : Institution) (first final : KnownStore (FileStore D g))
+    (K : List Line
     → Type 0)
     (clean : HasGoodDisk over_files final.connection)
     (stood : StandsFor over_files first i) (leaves : Leaves over_files first (i ∷ []))
@@ -193,10 +194,10 @@ module _ {D : Type 0} {g : Ghosts D} (i : Institution) (first final : KnownStore
     stands = StandsFor over_files;
     clean = stores.IsClean over_files;
     leaves = Leaves over_files;
-  })
+  }) told
 
   ran_so : (lines texts : List (List ℕ)) → Runs first lines texts final → (run : List Line)
-      × IsRunOver i lines texts run × K run
+      × IsRunOver told i lines texts run × K run
   ran_so lines texts r =
       let o = r.ran clean i stood in (
         o.run,
@@ -211,6 +212,6 @@ module _ {D : Type 0} {g : Ghosts D} (i : Institution) (first final : KnownStore
       (subst (λ (k : KnownStore (FileStore D g)). Leaves over_files k (i ∷ [])) (sym same) leaves)
 
   pub run_so : (streams : Streams) (result : Result ℕ StreamFault) → Ends Runs first final streams result
-      → (run : List Line) × Ends (λ before lines texts after. IsRunOver i lines texts after) [] run streams result
+      → (run : List Line) × Ends (λ before lines texts after. IsRunOver told i lines texts after) [] run streams result
       × K run
-  run_so = told_of_run Runs (IsRunOver i) K first final ran_so none_so
+  run_so = told_of_run Runs (IsRunOver told i) K first final ran_so none_so

@@ -201,7 +201,8 @@ module _ {S : Type 0} (P : S → Rows → List SheetResult → S → Type 0) (Q 
   told_of_source (Err (Stream fault)) e = ended_by fault.cause fault.answered e
 
 -- a sheet collected over a store of files, and what is so after it
-module _ {D : Type 0} {g : Ghosts D} (c : Caller) (i : Institution) (first final : KnownStore (FileStore D g))
+module _ {D : Type 0} {g : Ghosts D} (told : List ℕ) (c : Caller) (i : Institution)
+    (first final : KnownStore (FileStore D g))
     (K : List Line → Type 0)
     (clean : HasGoodDisk over_files final.connection)
     (stood : StandsFor over_files first i) (leaves : Leaves over_files first (i ∷ []))
@@ -212,10 +213,10 @@ module _ {D : Type 0} {g : Ghosts D} (c : Caller) (i : Institution) (first final
     stands = StandsFor over_files;
     clean = stores.IsClean over_files;
     leaves = Leaves over_files;
-  }) c
+  }) told c
 
   ran_so : (rows : Rows) (results : List SheetResult) → Runs first rows results final → (run : List Line)
-      × IsSheetRun c i rows results run × K run
+      × IsSheetRun told c i rows results run × K run
   ran_so rows results r =
       let o = r.ran clean i stood in (
         o.run,
@@ -230,12 +231,14 @@ module _ {D : Type 0} {g : Ghosts D} (c : Caller) (i : Institution) (first final
 
   pub collect_so : (streams : SheetStreams) (result : Result (Unit {0}) StreamFault)
       → Ends Runs first final streams result
-      → (run : List Line) × Ends (λ before rows results after. IsSheetRun c i rows results after) [] run streams result
+      → (run : List Line) × Ends (λ before rows results after. IsSheetRun told c i rows results after) [] run streams
+      result
       × K run
-  collect_so = sheet_told_of_run Runs (IsSheetRun c i) K first final ran_so none_so
+  collect_so = sheet_told_of_run Runs (IsSheetRun told c i) K first final ran_so none_so
 
   pub source_so : (streams : Streams) (result : Result (Unit {0}) SheetFault) → source.Ends Runs first final streams
       result
-      → (run : List Line) × source.Ends (λ before rows results after. IsSheetRun c i rows results after) [] run streams
+      → (run : List Line) × source.Ends (λ before rows results after. IsSheetRun told c i rows results after) [] run
+      streams
       result × K run
-  source_so = told_of_source Runs (IsSheetRun c i) K first final ran_so none_so
+  source_so = told_of_source Runs (IsSheetRun told c i) K first final ran_so none_so

@@ -1,5 +1,5 @@
 -- How work over a file ends that is closed after it, and what a stop then leaves of the file.
-use Rattle.std.specs.Prelude.{ℕ, List, [], Result, Ok, Err}
+use Rattle.std.specs.Prelude.{ℕ, Bool, List, [], Result, Ok, Err}
 use Rattle.mf_base.specs.declared.fault.Fault.{Fault}
 use Rattle.mf_base.specs.declared.fault.StreamFault.{StreamFault}
 use Rattle.mf_office.specs.declared.caller.Caller.{Caller}
@@ -33,16 +33,18 @@ module _ {D : Type 0} {g : Ghosts D} where
 
   -- The lines of a source were answered as the result says, up to its end or to a fault, by one run on the institution,
   -- which is empty where there was no memory to begin. The files were closed after it.
-  pub record RunsAndCloses (i : Institution) (closed : Result (Files D) (Fault × FileStore D g)) (streams : Streams)
+  pub record RunsAndCloses (told : Bool) (i : Institution) (closed : Result (Files D) (Fault × FileStore D g))
+      (streams : Streams)
       (result : Result ℕ StreamFault) : Type 0 where
     pub run : List Line
-    pub ended : Ends (λ before lines texts after. IsRunOver i lines texts after) [] run streams result
+    pub ended : Ends (λ before lines texts after. IsRunOver told i lines texts after) [] run streams result
     pub left : CloseAfter i closed run
 
   -- The sheet that a source held was collected as the result says by one run on the institution, which is empty where
   -- no line was answered. The files were closed after it.
-  pub record CollectsAndCloses (c : Caller) (i : Institution) (closed : Result (Files D) (Fault × FileStore D g))
+  pub record CollectsAndCloses (told : List ℕ) (c : Caller) (i : Institution)
+      (closed : Result (Files D) (Fault × FileStore D g))
       (streams : Streams) (result : Result (Unit {0}) SheetFault) : Type 0 where
     pub run : List Line
-    pub ended : sheet.Ends (λ before rows results after. IsSheetRun c i rows results after) [] run streams result
+    pub ended : sheet.Ends (λ before rows results after. IsSheetRun told c i rows results after) [] run streams result
     pub left : CloseAfter i closed run

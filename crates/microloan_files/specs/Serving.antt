@@ -6,14 +6,15 @@ use Rattle.mf_model.specs.Institution.{Institution}
 use Rattle.mf_model.specs.Run.{Line, answers, ViewIsPlay, RepliesArePlay, OwnRepliesArePlay}
 use Rattle.mf_wire.specs.Exchanges.{Exchange, AreLinesOf, responses}
 
--- The messages of at most so many connections are the lines of the run on the institution, and the responses are those
--- of its replies; so many were written whole. What each office sees and is told is isolated.
-pub record IsServedRun (i : Institution) (connections count : ℕ) (run : List Line) : Type 0 where
+-- The messages of at most so many connections, of which something may be told or nothing is, are the lines of the run
+-- on the institution, and the responses are those of its replies; so many were written whole. What each office sees
+-- and is told is isolated.
+pub record IsServedRun (told : Bool) (i : Institution) (connections count : ℕ) (run : List Line) : Type 0 where
   pub exchanges : List Exchange
   pub to_heads : List Bool
   pub each : length exchanges ≤ connections
   pub counted : count ≤ length exchanges
-  pub calls : AreLinesOf exchanges run to_heads
+  pub calls : AreLinesOf told exchanges run to_heads
   pub replied : map (λ e. e.text) exchanges ≡ responses to_heads (answers run i)
   pub views : ViewIsPlay i run
   pub replies : RepliesArePlay i run
@@ -21,6 +22,6 @@ pub record IsServedRun (i : Institution) (connections count : ℕ) (run : List L
 
 -- Messages were answered by one run on the institution, and a stop leaves this after it. Without memory to begin none
 -- was answered.
-abbrev pub ServesSo : Institution → ℕ → (List Line → Type 0) → Result ℕ StreamFault → Type 0
-ServesSo i connections Left (Ok count) = (run : List Line) × IsServedRun i connections count run × Left run
-ServesSo i connections Left (Err fault) = (fault ≡ record { answered = 0; cause = Memory }) × Left []
+abbrev pub ServesSo : Bool → Institution → ℕ → (List Line → Type 0) → Result ℕ StreamFault → Type 0
+ServesSo told i connections Left (Ok count) = (run : List Line) × IsServedRun told i connections count run × Left run
+ServesSo told i connections Left (Err fault) = (fault ≡ record { answered = 0; cause = Memory }) × Left []

@@ -29,18 +29,19 @@ use std::rt::HostRuntime;
 /// the files then opens as the institution after a beginning of the lines that holds every line that was answered.
 pub fn run_over<D: Disk + Drop, R: Source, W: Sink>(
     alloc: Global,
+    told: bool,
     mut store: Store<FileStore<D>>,
     source: &mut R,
     sink: &mut W,
 ) -> (Result<u64, StreamFault>, FileStore<D>)
     ensures premise { IsClean (view result.1) → HasGoodDisk over_files store.connection }
     ensures ends { IsClean (view result.1) → (i : Institution) → StandsFor over_files store i →
-        Leaves over_files store (i ∷ []) → EndsAsBeginning i result.1 (streams_of
+        Leaves over_files store (i ∷ []) → EndsAsBeginning told i result.1 (streams_of
         (stream_of R.unread R.faults source.old source.new)
         (stream_of W.written W.faults sink.old sink.new)) result.0 }
 {
-    let told = run(alloc, &mut store, source, sink);
-    (told, hand_back(store))
+    let ended = run(alloc, told, &mut store, source, sink);
+    (ended, hand_back(store))
 }
 
 /// Answers request lines over the file at a path, where `start` stands for what the file held: it is opened, the lines
@@ -56,6 +57,7 @@ pub fn batch_over<S: Start, R: Source, W: Sink>(
     path: &str,
     start: S,
     day: Day,
+    told: bool,
     source: &mut R,
     sink: &mut W,
 ) -> Result<
@@ -64,7 +66,7 @@ pub fn batch_over<S: Start, R: Source, W: Sink>(
 >
     requires { day ≤ last_entered_day }
     ensures ends { IfOk result (λ r. IsClean (view r.1) → (i : Institution) → OpensAs day (image_at S.Start) i →
-        EndsAsBeginning i r.1 (streams_of
+        EndsAsBeginning told i r.1 (streams_of
         (stream_of R.unread R.faults source.old source.new)
         (stream_of W.written W.faults sink.old sink.new)) r.0) }
     ensures errors { IfErr result (λ e. (e.0 ≡ F19) ⊎ (e.0 ≡ F20)) }
@@ -74,7 +76,7 @@ pub fn batch_over<S: Start, R: Source, W: Sink>(
         HoldsInSchema (image_at S.Start) i → StillHolds i files)) }
 {
     match open_with(rt, path, start, day, &mut Unfollowed) {
-        Ok(store) => Ok(run_over(rt.alloc(), store, source, sink)),
+        Ok(store) => Ok(run_over(rt.alloc(), told, store, source, sink)),
         Err((fault, Some(connection))) => Err((fault, Some(give_up(connection)))),
         Err((fault, None)) => Err((fault, None)),
     }

@@ -28,6 +28,7 @@ use std::rt::Clock;
 /// that holds every line that was answered.
 pub fn run_and_close<D: Disk + Drop, R: Source, W: Sink>(
     alloc: Global,
+    told: bool,
     mut store: Store<FileStore<D>>,
     source: &mut R,
     sink: &mut W,
@@ -37,12 +38,12 @@ pub fn run_and_close<D: Disk + Drop, R: Source, W: Sink>(
 )
     ensures premise { CloseWell result.1 → HasGoodDisk over_files store.connection }
     ensures ends { CloseWell result.1 → (i : Institution) → StandsFor over_files store i →
-        Leaves over_files store (i ∷ []) → RunsAndCloses i result.1 (streams_of
+        Leaves over_files store (i ∷ []) → RunsAndCloses told i result.1 (streams_of
         (stream_of R.unread R.faults source.old source.new)
         (stream_of W.written W.faults sink.old sink.new)) result.0 }
 {
-    let told = run(alloc, &mut store, source, sink);
-    (told, close(store))
+    let ended = run(alloc, told, &mut store, source, sink);
+    (ended, close(store))
 }
 
 /// Reads a source to its end, collects it as a sheet over a store of files, as `collect_sheet` does, and closes the
@@ -50,6 +51,7 @@ pub fn run_and_close<D: Disk + Drop, R: Source, W: Sink>(
 pub fn collect_and_close<D: Disk + Drop, R: Source, W: Sink>(
     alloc: Global,
     mut store: Store<FileStore<D>>,
+    told: &[u8],
     caller: Caller,
     source: &mut R,
     sink: &mut W,
@@ -59,12 +61,12 @@ pub fn collect_and_close<D: Disk + Drop, R: Source, W: Sink>(
 )
     ensures premise { CloseWell result.1 → HasGoodDisk over_files store.connection }
     ensures ends { CloseWell result.1 → (i : Institution) → StandsFor over_files store i →
-        Leaves over_files store (i ∷ []) → CollectsAndCloses caller i result.1 (streams_of
+        Leaves over_files store (i ∷ []) → CollectsAndCloses told.now caller i result.1 (streams_of
         (stream_of R.unread R.faults source.old source.new)
         (stream_of W.written W.faults sink.old sink.new)) result.0 }
 {
-    let told = collect_sheet(alloc, &mut store, caller, source, sink);
-    (told, close(store))
+    let ended = collect_sheet(alloc, &mut store, told, caller, source, sink);
+    (ended, close(store))
 }
 
 /// Serves so many connections over a store of files, as `serve_connections` does, and closes the store; a stop then
@@ -72,6 +74,7 @@ pub fn collect_and_close<D: Disk + Drop, R: Source, W: Sink>(
 pub fn serve_and_close<D: Disk + Drop, C: Clock, L: OpenListener<Stream = TcpStream>>(
     alloc: Global,
     clock: &C,
+    told: bool,
     mut store: Store<FileStore<D>>,
     listener: &L,
     connections: u64,
@@ -82,9 +85,17 @@ pub fn serve_and_close<D: Disk + Drop, C: Clock, L: OpenListener<Stream = TcpStr
 )
     ensures premise { CloseWell result.1 → HasGoodDisk over_files store.connection }
     ensures ends { CloseWell result.1 → (i : Institution) → StandsFor over_files store i →
-        Leaves over_files store (i ∷ []) → ServesSo i connections (CloseAfter i result.1) result.0 }
+        Leaves over_files store (i ∷ []) → ServesSo told i connections (CloseAfter i result.1) result.0 }
 {
     laws::served_messages_are_isolated::<Store<FileStore<D>>>();
-    let told = serve_connections(alloc, clock, &mut store, listener, connections, patience);
-    (told, close(store))
+    let ended = serve_connections(
+        alloc,
+        clock,
+        told,
+        &mut store,
+        listener,
+        connections,
+        patience,
+    );
+    (ended, close(store))
 }

@@ -27,6 +27,7 @@ use std::rt::Clock;
 pub fn serve_over<D: Disk + Drop, C: Clock, L: OpenListener<Stream = TcpStream>>(
     alloc: Global,
     clock: &C,
+    told: bool,
     mut store: Store<FileStore<D>>,
     listener: &L,
     connections: u64,
@@ -34,9 +35,17 @@ pub fn serve_over<D: Disk + Drop, C: Clock, L: OpenListener<Stream = TcpStream>>
 ) -> (Result<u64, StreamFault>, FileStore<D>)
     ensures premise { IsClean (view result.1) → HasGoodDisk over_files store.connection }
     ensures ends { IsClean (view result.1) → (i : Institution) → StandsFor over_files store i →
-        Leaves over_files store (i ∷ []) → ServesSo i connections (λ run. LeaveBeginning i run result.1) result.0 }
+        Leaves over_files store (i ∷ []) → ServesSo told i connections (λ run. LeaveBeginning i run result.1) result.0 }
 {
     laws::served_messages_are_isolated::<Store<FileStore<D>>>();
-    let told = serve_connections(alloc, clock, &mut store, listener, connections, patience);
-    (told, hand_back(store))
+    let ended = serve_connections(
+        alloc,
+        clock,
+        told,
+        &mut store,
+        listener,
+        connections,
+        patience,
+    );
+    (ended, hand_back(store))
 }

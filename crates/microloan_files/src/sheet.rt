@@ -26,6 +26,7 @@ use std::alloc::Global;
 pub fn collect_over<D: Disk + Drop, W: Sink>(
     alloc: Global,
     mut store: Store<FileStore<D>>,
+    told: &[u8],
     caller: Caller,
     bytes: &[u8],
     sink: &mut W,
@@ -33,11 +34,11 @@ pub fn collect_over<D: Disk + Drop, W: Sink>(
     requires { length bytes.now ≤ longest }
     ensures premise { IsClean (view result.1) → HasGoodDisk over_files store.connection }
     ensures ends { IsClean (view result.1) → (i : Institution) → StandsFor over_files store i →
-        Leaves over_files store (i ∷ []) → CollectsAsBeginning caller i result.1 (record {
+        Leaves over_files store (i ∷ []) → CollectsAsBeginning told.now caller i result.1 (record {
           rows = sheet_rows_of bytes.now;
           sink = stream_of W.written W.faults sink.old sink.new;
         }) result.0 }
 {
-    let told = collect(alloc, &mut store, caller, bytes, sink);
-    (told, hand_back(store))
+    let ended = collect(alloc, &mut store, told, caller, bytes, sink);
+    (ended, hand_back(store))
 }

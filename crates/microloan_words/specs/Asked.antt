@@ -1,6 +1,6 @@
 -- What the program is asked to do, as it follows from the words.
-use Rattle.std.specs.Prelude.{◌≡◌, ℕ, ◌≤◌, ◌==◌, Bool, true, false, IsTrue, List, codes, Option, Some, is_some, Result}
-use Rattle.std.specs.Prelude.{Ok, IfOk, IfErr, if◌then◌else◌}
+use Rattle.std.specs.Prelude.{◌≡◌, ℕ, ◌<◌, ◌≤◌, ◌==◌, Bool, true, false, IsTrue, List, length, codes, Option, Some}
+use Rattle.std.specs.Prelude.{is_some, IfSome, Result, Ok, IfOk, IfErr, if◌then◌else◌}
 use Rattle.std.specs.Str.Parse.{IsNumeral, digits_value, without_leading_plus}
 use Rattle.clap.specs.Words.{Row, Text, Kinds, first_of, subcommand_of, fault_of}
 use Rattle.mf_base.specs.Choices.{frequency_name}
@@ -8,6 +8,7 @@ use Rattle.mf_base.specs.DayText.{day_text, last_entered_day}
 use Rattle.mf_catalog.specs.Limits.{greatest_amount, greatest_rate, most_grace, most_periods, longest_step}
 use Rattle.mf_catalog.specs.Names.{method_name}
 use Rattle.mf_office.specs.Texts.{IsCaller}
+use Rattle.mf_wire_lines.specs.Told.{may_be_told}
 use Rattle.mf_office.specs.Written.{caller_text}
 use Rattle.mf_office.specs.declared.caller.Caller.{Caller}
 use Rattle.microloan_words.specs.Options.{microloan_app}
@@ -67,7 +68,18 @@ pub record IsCountAt (rows : List Row) (id : Text) (count : ℕ) : Type 0 where
   pub given : IsNumberAt rows id 0 most_connections number
   pub asks : connections number ≡ count
 
--- the options of `batch`: a file may be named, and must be where no new institution is to be made or a journal is kept
+-- a text that may be told, and says something
+pub record IsTold (text : Text) : Type 0 where
+  pub some : 0 < length text
+  pub may : may_be_told text ≡ true
+
+-- the text of the option that tells, if it is given
+pub record IsToldAt (rows : List Row) (told : Option Text) : Type 0 where
+  pub given : first_of (codes "told") rows ≡ told
+  pub right : IfSome told IsTold
+
+-- the options of `batch`: a file may be named, and must be where no new institution is to be made or a journal is kept;
+-- first words are told where a journal is kept
 pub record AreBatchWords (rows : List Row) (asked : BatchWords) : Type 0 where
   pub file : first_of (codes "file") rows ≡ asked.file
   pub day : IsDayAt rows (codes "day") asked.day
@@ -75,6 +87,8 @@ pub record AreBatchWords (rows : List Row) (asked : BatchWords) : Type 0 where
   pub journal : first_of (codes "journal") rows ≡ Some (flag_text asked.journal)
   pub named : IsTrue asked.existing → is_some asked.file ≡ true
   pub journal_named : IsTrue asked.journal → is_some asked.file ≡ true
+  pub told : first_of (codes "told") rows ≡ Some (flag_text asked.told)
+  pub told_noted : IsTrue asked.told → asked.journal ≡ true
 
 -- the options of `serve`
 pub record AreServeWords (rows : List Row) (asked : ServeWords) : Type 0 where
@@ -86,12 +100,14 @@ pub record AreServeWords (rows : List Row) (asked : ServeWords) : Type 0 where
   pub existing : first_of (codes "existing") rows ≡ Some (flag_text asked.existing)
   pub journal : first_of (codes "journal") rows ≡ Some (flag_text asked.journal)
 
--- the options of `collect`
+-- the options of `collect`: something may be told of its lines where a journal is kept
 pub record AreCollectWords (rows : List Row) (asked : CollectWords) : Type 0 where
   pub file : first_of (codes "file") rows ≡ Some asked.file
   pub staff : IsCallerAt rows (codes "staff") asked.staff
   pub existing : first_of (codes "existing") rows ≡ Some (flag_text asked.existing)
   pub journal : first_of (codes "journal") rows ≡ Some (flag_text asked.journal)
+  pub told : IsToldAt rows asked.told
+  pub told_noted : is_some asked.told ≡ true → asked.journal ≡ true
 
 -- the options of `report`
 pub record AreStaffWords (rows : List Row) (asked : StaffWords) : Type 0 where

@@ -48,6 +48,7 @@ batch_app = app_with (codes "batch") (
     ∷ default_rule (codes "day") (codes "2024-01-01")
     ∷ flag_rule (codes "existing")
     ∷ flag_rule (codes "journal")
+    ∷ flag_rule (codes "told")
     ∷ [])
 
 -- `serve` with its options
@@ -69,6 +70,7 @@ collect_app = app_with (codes "collect") (
     ∷ required_rule (codes "staff")
     ∷ flag_rule (codes "existing")
     ∷ flag_rule (codes "journal")
+    ∷ option_rule (codes "told")
     ∷ [])
 
 -- `report` with its options

@@ -1,5 +1,5 @@
 -- Which option is told to be wrong: the first that isn't as it should be, in the order in which the command takes them.
-use Rattle.std.specs.Prelude.{◌≡◌, ◌⊎◌, ℕ, Bool, List, [], ◌∷◌, codes, Some}
+use Rattle.std.specs.Prelude.{◌≡◌, ◌⊎◌, ℕ, Bool, List, [], ◌∷◌, codes, Option, Some}
 use Rattle.clap.specs.Words.{Row, Text, first_of}
 use Rattle.mf_base.specs.Choices.{frequency_name}
 use Rattle.mf_base.specs.declared.day.Freq.{Freq}
@@ -7,12 +7,13 @@ use Rattle.mf_catalog.specs.Limits.{greatest_amount, greatest_rate, most_grace, 
 use Rattle.mf_catalog.specs.Names.{method_name}
 use Rattle.mf_catalog.specs.declared.terms.Method.{Method}
 use Rattle.mf_office.specs.declared.caller.Caller.{Caller}
-use Rattle.microloan_words.specs.Asked.{IsNumberAt, IsDayAt, IsCallerAt, IsCountAt, flag_text, most_patience}
+use Rattle.microloan_words.specs.Asked.{IsNumberAt, IsDayAt, IsCallerAt, IsCountAt, IsToldAt, flag_text}
+use Rattle.microloan_words.specs.Asked.{most_patience}
 use Rattle.microloan_words.specs.declared.reading.Wrong.{Wrong}
 use Rattle.microloan_words.specs.declared.reading.Wrong.TheVariants.{File, Existing, Journal, All, Port, Count}
 use Rattle.microloan_words.specs.declared.reading.Wrong.TheVariants.{Patience, Staff, Method as MethodOption, Principal}
 use Rattle.microloan_words.specs.declared.reading.Wrong.TheVariants.{Rate, Periods, Day, Frequency, Every}
-use Rattle.microloan_words.specs.declared.reading.Wrong.TheVariants.{PrincipalGrace, InterestGrace}
+use Rattle.microloan_words.specs.declared.reading.Wrong.TheVariants.{PrincipalGrace, InterestGrace, Told, ToldOfLines}
 
 -- a flag is given or not
 abbrev pub IsFlag : List Row → Text → Type 0
@@ -22,11 +23,17 @@ IsFlag rows id = (given : Bool) × (first_of id rows ≡ Some (flag_text given))
 abbrev pub IsSomeNumber : List Row → Text → ℕ → ℕ → Type 0
 IsSomeNumber rows id least greatest = (number : ℕ) × IsNumberAt rows id least greatest number
 
+-- what is told is given as it should be, or not at all
+abbrev pub IsToldWell : List Row → Type 0
+IsToldWell rows = (told : Option Text) × IsToldAt rows told
+
 -- the option is as it should be
 abbrev pub IsRight : List Row → Wrong → Type 0
 IsRight rows File = (path : Text) × (first_of (codes "file") rows ≡ Some path)
 IsRight rows Existing = IsFlag rows (codes "existing")
 IsRight rows Journal = IsFlag rows (codes "journal")
+IsRight rows Told = IsFlag rows (codes "told")
+IsRight rows ToldOfLines = IsToldWell rows
 IsRight rows All = IsFlag rows (codes "all")
 IsRight rows Port = IsSomeNumber rows (codes "port") 1 65535
 IsRight rows Count = (count : ℕ) × IsCountAt rows (codes "count") count
@@ -55,7 +62,7 @@ serve_options = File ∷ Port ∷ Count ∷ Patience ∷ Day ∷ Existing ∷ Jo
 
 -- of `collect`
 abbrev pub collect_options : List Wrong
-collect_options = File ∷ Staff ∷ Existing ∷ Journal ∷ []
+collect_options = File ∷ Staff ∷ Existing ∷ Journal ∷ ToldOfLines ∷ []
 
 -- of `report`
 abbrev pub staff_options : List Wrong
@@ -78,9 +85,9 @@ abbrev pub schedule_options : List Wrong
 schedule_options = MethodOption ∷ Principal ∷ Rate ∷ Periods ∷ Day ∷ Frequency ∷ Every ∷ PrincipalGrace ∷ InterestGrace
     ∷ []
 
--- of `batch`, these; and then the first flag that wants a file, where none is named
+-- of `batch`, these; and then the first flag that wants a file, where none is named, or a journal, where none is kept
 abbrev pub batch_options : List Wrong
-batch_options = Day ∷ Existing ∷ Journal ∷ []
+batch_options = Day ∷ Existing ∷ Journal ∷ Told ∷ []
 
 -- the flag stands there, and no file is named
 abbrev pub WantsFile : List Row → Text → Type 0
@@ -89,6 +96,17 @@ WantsFile rows id = (first_of id rows ≡ Some (codes "true")) × (¬ IsRight ro
 -- the option of `batch` that is told to be wrong
 abbrev pub IsBatchWrong : List Row → Wrong → Type 0
 IsBatchWrong rows wrong = IsFirstWrong rows batch_options wrong
-    ⊎ (IsRight rows Day × IsRight rows Journal × WantsFile rows (codes "existing") × (wrong ≡ Existing))
-    ⊎ (IsRight rows Day × (first_of (codes "existing") rows ≡ Some (codes "false"))
+    ⊎ (IsRight rows Day × IsRight rows Journal × IsRight rows Told × WantsFile rows (codes "existing")
+    × (wrong ≡ Existing))
+    ⊎ (IsRight rows Day × (first_of (codes "existing") rows ≡ Some (codes "false")) × IsRight rows Told
     × WantsFile rows (codes "journal") × (wrong ≡ Journal))
+    ⊎ (IsRight rows Day × IsRight rows Existing × (WantsFile rows (codes "existing") → ⊥)
+    × (first_of (codes "journal") rows ≡ Some (codes "false")) × (first_of (codes "told") rows ≡ Some (codes "true"))
+    × (wrong ≡ Told))
+
+-- the option of `collect` that is told to be wrong: the first of these, or what is told where no journal is kept
+abbrev pub IsCollectWrong : List Row → Wrong → Type 0
+IsCollectWrong rows wrong = IsFirstWrong rows collect_options wrong
+    ⊎ (IsRight rows File × IsRight rows Staff × IsRight rows Existing
+    × (first_of (codes "journal") rows ≡ Some (codes "false"))
+    × ((text : Text) × IsToldAt rows (Some text)) × (wrong ≡ Told))

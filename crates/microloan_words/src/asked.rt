@@ -59,6 +59,38 @@ impl<'a> FilePath<'a> {
     }
 }
 
+/// What is told of the lines of a sheet, as it stands in the words. Contracts see its bytes.
+#[derive(Drop)]
+pub struct ToldText<'a> {
+    text: &'a str,
+}
+
+impl<'a> Model for ToldText<'a> {
+    ghost use Rattle.std.specs.Prelude.{ℕ, List};
+
+    ghost Value = { List ℕ };
+
+    ghost view = { λ told. told.text.now };
+}
+
+impl<'a> ToldText<'a> {
+    ghost use Rattle.std.specs.Prelude.{◌≡◌};
+
+    /// The text as it is told.
+    pub fn new(text: &'a str) -> ToldText<'a>
+        ensures { result ≡ text.entry.now }
+    {
+        ToldText { text }
+    }
+
+    /// What is told, as bytes.
+    pub fn as_bytes(&self) -> &'a [u8]
+        ensures { result.now ≡ self.now }
+    {
+        self.text.as_bytes()
+    }
+}
+
 /// The options of `batch`.
 #[derive(Drop)]
 pub struct BatchWords<'a> {
@@ -71,6 +103,8 @@ pub struct BatchWords<'a> {
     /// Whether the institution keeps a journal: a new one begins one, and a file whose institution keeps none is
     /// refused. Then a file is named.
     pub journal: bool,
+    /// Whether the first word of each line is told of it. Then a journal is kept.
+    pub told: bool,
 }
 
 /// The options of `serve`.
@@ -105,6 +139,8 @@ pub struct CollectWords<'a> {
     /// Whether the institution keeps a journal: a new one begins one, and a file whose institution keeps none is
     /// refused.
     pub journal: bool,
+    /// What is told of each line of the sheet: 1 to 100 printed characters of ASCII. Then a journal is kept.
+    pub told: Option<ToldText<'a>>,
 }
 
 /// The options of `report`.

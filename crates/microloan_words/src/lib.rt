@@ -10,7 +10,7 @@ mod values;
 
 pub use asked::{
     BatchWords, CollectWords, Command, FilePath, FileWords, ScheduleWords, ServeWords, StaffWords,
-    UpgradeWords, Words,
+    ToldText, UpgradeWords, Words,
 };
 pub use asking::command;
 pub use values::default_day;

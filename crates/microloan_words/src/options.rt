@@ -12,7 +12,7 @@ use clap::{Arg, ArgAction, Command};
 use std::alloc::{AllocError, Global};
 
 /// This release, and the schema of the files that it writes.
-const VERSION: &str = "1.4.0 (schema 2)";
+const VERSION: &str = "1.5.0 (schema 2)";
 
 /// Whether an option must be given, has a text that stands where it isn't, or is a flag.
 pub(crate) enum Need {
@@ -64,7 +64,7 @@ const JOURNAL: CommandOption = CommandOption {
 };
 
 /// The options of `batch`.
-const BATCH_OPTIONS: [CommandOption; 4] = [
+const BATCH_OPTIONS: [CommandOption; 5] = [
     CommandOption {
         id: "file",
         value_name: "PATH",
@@ -74,6 +74,12 @@ const BATCH_OPTIONS: [CommandOption; 4] = [
     FIRST_DAY,
     EXISTING,
     JOURNAL,
+    CommandOption {
+        id: "told",
+        value_name: "",
+        help: "The journal notes the first word of each line",
+        need: Need::Flag,
+    },
 ];
 
 /// The options of `serve`.
@@ -111,7 +117,18 @@ const STAFF: CommandOption = CommandOption {
 };
 
 /// The options of `collect`.
-const COLLECT_OPTIONS: [CommandOption; 4] = [FILE, STAFF, EXISTING, JOURNAL];
+const COLLECT_OPTIONS: [CommandOption; 5] = [
+    FILE,
+    STAFF,
+    EXISTING,
+    JOURNAL,
+    CommandOption {
+        id: "told",
+        value_name: "TEXT",
+        help: "The journal notes it with each line",
+        need: Need::Optional,
+    },
+];
 
 /// The options of `report`.
 const REPORT_OPTIONS: [CommandOption; 3] = [FILE, STAFF, EXISTING];

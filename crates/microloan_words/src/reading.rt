@@ -1,12 +1,12 @@
 //! A command's options read from what clap found.
 
-ghost use Rattle.std.specs.Prelude.{◌≡◌, ◌≤◌, IfOk, IfErr};
-ghost use Rattle.clap.specs.Words.{found_of, rows_of};
+ghost use Rattle.std.specs.Prelude.{◌≡◌, ◌≤◌, IfOk, IfErr, Option, Ok};
+ghost use Rattle.clap.specs.Words.{Text, found_of, rows_of};
 ghost use Rattle.mf_base.specs.DayText.{last_entered_day};
 ghost use Rattle.microloan_words.specs.Asked.{AreBatchWords, AreServeWords, AreCollectWords, AreStaffWords};
 ghost use Rattle.microloan_words.specs.Asked.{AreFileWords, AreAuditWords, AreScheduleWords, IsWithinLimits};
-ghost use Rattle.microloan_words.specs.Asked.{IsServeWithinLimits, AreUpgradeWords};
-ghost use Rattle.microloan_words.specs.Wrong.{IsFirstWrong, IsBatchWrong, serve_options, collect_options};
+ghost use Rattle.microloan_words.specs.Asked.{IsServeWithinLimits, AreUpgradeWords, IsToldAt};
+ghost use Rattle.microloan_words.specs.Wrong.{IsFirstWrong, IsBatchWrong, IsCollectWrong, IsRight, serve_options};
 ghost use Rattle.microloan_words.specs.Wrong.{staff_options, file_options, audit_options, schedule_options};
 ghost use Rattle.microloan_words.specs.Wrong.{upgrade_options};
 ghost use Rattle.mf_office.specs.Texts.{IsCaller};
@@ -21,14 +21,15 @@ ghost use Rattle.microloan_words.specs.declared.asked.ScheduleWords.{ScheduleWor
 
 use crate::asked::{
     AuditWords, BatchWords, CollectWords, FileWords, ScheduleWords, ServeWords, StaffWords,
-    UpgradeWords,
+    ToldText, UpgradeWords,
 };
 use crate::values::{
     MOST_PATIENCE, connections_at, count_at, day_at, file_at, flag_at, frequency_at, method_at,
-    number_at, port_at, staff_at,
+    number_at, port_at, staff_at, text_at,
 };
 use clap::ArgMatches;
 use mf_catalog::{GREATEST_AMOUNT, GREATEST_RATE, MOST_GRACE, MOST_PERIODS, longest_step};
+use mf_wire_lines::may_be_told;
 
 /// An option whose text isn't what the option wants.
 #[derive(Clone, Copy, PartialEq, Eq)]
@@ -36,6 +37,8 @@ pub(crate) enum Wrong {
     File,
     Existing,
     Journal,
+    Told,
+    ToldOfLines,
     All,
     Port,
     Count,
@@ -63,17 +66,22 @@ pub(crate) fn batch_words<'a>(options: &ArgMatches<'a>) -> Result<BatchWords<'a>
     let day = day_at(options, "day").ok_or(Wrong::Day)?;
     let existing = flag_at(options, "existing").ok_or(Wrong::Existing)?;
     let journal = flag_at(options, "journal").ok_or(Wrong::Journal)?;
+    let told = flag_at(options, "told").ok_or(Wrong::Told)?;
     if existing && file.is_none() {
         return Err(Wrong::Existing);
     }
     if journal && file.is_none() {
         return Err(Wrong::Journal);
     }
+    if told && !journal {
+        return Err(Wrong::Told);
+    }
     Ok(BatchWords {
         file,
         day,
         existing,
         journal,
+        told,
     })
 }
 
@@ -102,13 +110,29 @@ pub(crate) fn serve_words<'a>(options: &ArgMatches<'a>) -> Result<ServeWords<'a>
     })
 }
 
+/// What is told of each line of a sheet, if anything is, where it may be told.
+fn told_at<'a>(options: &ArgMatches<'a>) -> Result<Option<ToldText<'a>>, Wrong>
+    ensures read { IfOk result (IsToldAt (rows_of (found_of options.now))) }
+    ensures every { (told : Option Text) → IsToldAt (rows_of (found_of options.now)) told → result ≡ Ok told }
+    ensures wrong { IfErr result (λ wrong. (wrong ≡ Wrong.ToldOfLines)
+        × (IsRight (rows_of (found_of options.now)) Wrong.ToldOfLines → ⊥)) }
+{
+    let Some(text) = text_at(options, "told") else {
+        return Ok(None);
+    };
+    if text.is_empty() || !may_be_told(text.as_bytes()) {
+        return Err(Wrong::ToldOfLines);
+    }
+    Ok(Some(ToldText::new(text)))
+}
+
 /// The options of `collect`, or the first that isn't what it should be.
 pub(crate) fn collect_words<'a>(options: &ArgMatches<'a>) -> Result<CollectWords<'a>, Wrong>
     ensures read { IfOk result (λ asked. AreCollectWords (rows_of (found_of options.now)) asked) }
     ensures limits { IfOk result (λ asked. IsCaller asked.staff) }
     ensures every { (asked : CollectWords) → AreCollectWords (rows_of (found_of options.now)) asked
         → result ≡ Ok asked }
-    ensures wrong { IfErr result (IsFirstWrong (rows_of (found_of options.now)) collect_options) }
+    ensures wrong { IfErr result (IsCollectWrong (rows_of (found_of options.now))) }
 {
     let StaffWords {
         file,
@@ -119,11 +143,19 @@ pub(crate) fn collect_words<'a>(options: &ArgMatches<'a>) -> Result<CollectWords
         Err(wrong) => return Err(wrong),
     };
     let journal = flag_at(options, "journal").ok_or(Wrong::Journal)?;
+    let told = match told_at(options) {
+        Ok(told) => told,
+        Err(wrong) => return Err(wrong),
+    };
+    if told.is_some() && !journal {
+        return Err(Wrong::Told);
+    }
     Ok(CollectWords {
         file,
         staff,
         existing,
         journal,
+        told,
     })
 }
 

@@ -53,7 +53,7 @@ impl Trial for Journaled {
         };
         let mut source = WatchedReader::new(INSTITUTION.as_bytes());
         let mut sink = WatchedWriter::new(Vec::new(alloc));
-        let _ended = run(alloc, &mut store, &mut source, &mut sink);
+        let _ended = run(alloc, false, &mut store, &mut source, &mut sink);
         let mut tables = store.release();
         let Ok(Found::Whole(journal)) = check_journal(&mut tables) else {
             return Ok(false);

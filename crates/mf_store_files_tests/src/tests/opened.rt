@@ -26,7 +26,7 @@ const FIRST_DAY: &str = "200 {\"day\":\"2024-01-31\"}\n";
 fn told_by<S: Alter>(alloc: Global, store: &mut Store<S>, lines: &[u8]) -> Vec<u8> {
     let mut source = WatchedReader::new(lines);
     let mut sink = WatchedWriter::new(Vec::new(alloc));
-    let _ended = run(alloc, store, &mut source, &mut sink);
+    let _ended = run(alloc, false, store, &mut source, &mut sink);
     sink.into_inner()
 }
 

@@ -27,7 +27,7 @@ fn new_books(alloc: Global) -> Result<Books, Fault> {
 fn replies(alloc: Global, books: &mut Books, stream: &[u8]) -> Result<(u64, Vec<u8>), Fail> {
     let mut source = WatchedReader::new(stream);
     let mut sink = WatchedWriter::new(Vec::new(alloc));
-    match run(alloc, books, &mut source, &mut sink) {
+    match run(alloc, false, books, &mut source, &mut sink) {
         Ok(count) => Ok((count, sink.into_inner())),
         Err(fault) => Err(Fail::from(fault)),
     }
@@ -45,6 +45,28 @@ fn assert_replies(
     let (count, written) = replies(alloc, &mut books, stream)?;
     assert_eq!(rt; count, answered);
     assert_eq!(rt; written.as_slice(), expected.as_bytes());
+    Ok(())
+}
+
+/// Lines whose first words are told of them, and their replies.
+const TOLD: &str =
+    "09:12,10.0.0.7 1/1 GET /offices\n 1/1 GET /offices\nalone\n09:12\t 1/1 GET /offices\n";
+
+const TOLD_REPLIES: &str =
+    "200 {\"offices\":[{\"name\":\"Head Office\",\"number\":1,\"parent\":null}]}\n\
+400 {\"fault\":\"F1\"}\n\
+400 {\"fault\":\"F1\"}\n\
+400 {\"fault\":\"F1\"}\n";
+
+#[test]
+fn first_words_that_are_told(rt: HostRuntime) -> Result<(), Fail> {
+    let alloc = rt.alloc();
+    let mut books = new_books(alloc)?;
+    let mut source = WatchedReader::new(TOLD.as_bytes());
+    let mut sink = WatchedWriter::new(Vec::new(alloc));
+    let answered = run(alloc, true, &mut books, &mut source, &mut sink);
+    assert_eq!(rt; answered.ok(), Some(4));
+    assert_eq!(rt; sink.into_inner().as_slice(), TOLD_REPLIES.as_bytes());
     Ok(())
 }
 
@@ -76,7 +98,7 @@ fn a_reader_that_fails(rt: HostRuntime) -> Result<(), Fail> {
         bytes: torn.as_slice(),
     });
     let mut sink = WatchedWriter::new(Vec::new(alloc));
-    let told = run(alloc, &mut books, &mut source, &mut sink);
+    let told = run(alloc, false, &mut books, &mut source, &mut sink);
     let fault = StreamFault {
         answered: 2,
         cause: Cause::Read,
@@ -100,7 +122,7 @@ fn run_into(
 ) -> (Result<u64, StreamFault>, Vec<u8>) {
     let mut source = WatchedReader::new(FIRST.as_bytes());
     let mut sink = WatchedWriter::new(writer);
-    let told = run(alloc, books, &mut source, &mut sink);
+    let told = run(alloc, false, books, &mut source, &mut sink);
     (told, sink.into_inner().taken)
 }
 

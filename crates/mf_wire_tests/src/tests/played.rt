@@ -70,13 +70,10 @@ fn a_morning_plays(rt: HostRuntime) -> Result<(), Fail> {
     )
 }
 
-/// Each line stops at its place, and nothing is changed: the client who is entered then is the second.
-#[test]
-fn lines_stop(rt: HostRuntime) -> Result<(), Fail> {
-    let alloc = rt.alloc();
-    let line = client_row(CARLA);
+/// Lines that each stop after Amina is a client, and why, of one that would play.
+fn stopping_lines(line: JournalRow<'static>) -> [(JournalRow<'static>, Stop); 8] {
     let path = b"/clients/0001-000001".as_slice();
-    let stopping = [
+    [
         (
             JournalRow {
                 path: b"/client".as_slice(),
@@ -122,7 +119,15 @@ fn lines_stop(rt: HostRuntime) -> Result<(), Fail> {
             },
             Stop::NamesOther,
         ),
-    ];
+    ]
+}
+
+/// Each line stops at its place, and nothing is changed: the client who is entered then is the second.
+#[test]
+fn lines_stop(rt: HostRuntime) -> Result<(), Fail> {
+    let alloc = rt.alloc();
+    let line = client_row(CARLA);
+    let stopping = stopping_lines(line);
     let (routes, mut books) = opened(alloc)?;
     assert_eq!(rt;
         play_line(alloc, &routes, &mut books, client_row(AMINA))?,

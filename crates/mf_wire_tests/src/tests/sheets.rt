@@ -49,7 +49,7 @@ fn results_after(lines: usize) -> &'static str {
 fn tell(alloc: Global, books: &mut Books, lines: &str) -> Option<Vec<u8>> {
     let mut source = WatchedReader::new(lines.as_bytes());
     let mut sink = WatchedWriter::new(Vec::new(alloc));
-    match run(alloc, books, &mut source, &mut sink) {
+    match run(alloc, false, books, &mut source, &mut sink) {
         Ok(_) => Some(sink.into_inner()),
         Err(_) => None,
     }
@@ -95,7 +95,7 @@ fn collect_sheet(alloc: Global, books: &mut Books, staff: &str, sheet: &[u8]) ->
         return None;
     }
     let mut sink = WatchedWriter::new(Vec::new(alloc));
-    match collect(alloc, books, caller, sheet, &mut sink) {
+    match collect(alloc, books, b"".as_slice(), caller, sheet, &mut sink) {
         Ok(()) => Some(sink.into_inner()),
         Err(_) => None,
     }

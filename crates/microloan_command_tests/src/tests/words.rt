@@ -105,6 +105,12 @@ fn reads_a_batch(rt: HostRuntime) -> Result<(), Fail> {
     };
     assert!(rt; !asked.existing);
     assert!(rt; asked.journal);
+    assert!(rt; !asked.told);
+    let words = words_of(alloc, "microloan batch --journal --told --file desk.db")?;
+    let Ok(Command::Batch(asked)) = command(alloc, &words) else {
+        return Err(Fail::from("a batch"));
+    };
+    assert!(rt; asked.told);
     Ok(())
 }
 
@@ -166,6 +172,16 @@ fn reads_who_asks(rt: HostRuntime) -> Result<(), Fail> {
     };
     assert!(rt; !asked.existing);
     assert!(rt; asked.journal);
+    assert!(rt; asked.told.is_none());
+    let words = words_of(
+        alloc,
+        "microloan collect --journal --file desk.db --staff 2/1 --told 09:12,10.0.0.7",
+    )?;
+    let Ok(Command::Collect(asked)) = command(alloc, &words) else {
+        return Err(Fail::from("a collection"));
+    };
+    let told = asked.told.ok_or("what is told")?;
+    assert_eq!(rt; told.as_bytes(), b"09:12,10.0.0.7".as_slice());
     let words = words_of(
         alloc,
         "microloan report --staff 9999/9999 --file desk.db --existing",
@@ -226,7 +242,7 @@ fn reads_which_file_to_upgrade(rt: HostRuntime) -> Result<(), Fail> {
 }
 
 /// Words that are wrong, and what is said of them.
-const WRONG: [(&str, &str); 20] = [
+const WRONG: [(&str, &str); 24] = [
     (
         "microloan",
         "microloan: name a command: batch, serve, collect, report, schedule, why, audit or upgrade; \
@@ -259,6 +275,22 @@ const WRONG: [(&str, &str); 20] = [
     (
         "microloan batch --journal",
         "microloan: --journal wants the --file that holds the institution; see 'microloan batch --help'",
+    ),
+    (
+        "microloan batch --told",
+        "microloan: --told wants --journal; see 'microloan batch --help'",
+    ),
+    (
+        "microloan batch --file f --told",
+        "microloan: --told wants --journal; see 'microloan batch --help'",
+    ),
+    (
+        "microloan collect --file f --staff 1/1 --told 09:12",
+        "microloan: --told wants --journal; see 'microloan collect --help'",
+    ),
+    (
+        "microloan collect --file f --staff 1/1 --journal --told=",
+        "microloan: --told wants 1 to 100 printed characters of ASCII; see 'microloan collect --help'",
     ),
     (
         "microloan batch --journal --existing",
@@ -402,7 +434,7 @@ fn tells_the_version(rt: HostRuntime) -> Result<(), Fail> {
         let Err(Words::Version(text)) = command(alloc, &words) else {
             return Err(Fail::from("a version"));
         };
-        assert_eq!(rt; text.as_str(), "microloan 1.4.0 (schema 2)\n");
+        assert_eq!(rt; text.as_str(), "microloan 1.5.0 (schema 2)\n");
     }
     let said = line_of(&rt, alloc, "microloan report --version")?;
     assert!(rt; said.as_str().find("--version").is_some());

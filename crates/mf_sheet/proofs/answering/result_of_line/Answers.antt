@@ -10,12 +10,13 @@ use Rattle.mf_sheet.proofs.answering.result_of_line.Goals as goal
 pub returns-in_default : goal.returns-in_default
 returns-in_default g c =
     told_given_up g.S.InstitutionStore (λ r. outcome_of (Err F20) ≡ result_of r)
-    (call_of_line c.args.caller c.args.line.now) c.args.store.now (g.met.S.InstitutionStore.more c.args.store.now) refl
+    (call_of_line c.args.told.now c.args.caller c.args.line.now) c.args.store.now
+    (g.met.S.InstitutionStore.more c.args.store.now) refl
 
 pub returns : goal.returns
 returns g c =
     subst (λ (q : Request). Calls g.S.InstitutionStore (λ r. outcome_of c.answer.result ≡ result_of r)
-    (record { caller = Some c.args.caller; request = q; received = received_of_line c.args.line.now })
+    (record { caller = Some c.args.caller; request = q; received = received_of_line c.args.told.now c.args.line.now })
     c.args.store.now c.answer.new.store)
     c.in-Ok.ensures.value
     (subst (λ (x : Received). Calls g.S.InstitutionStore (λ r. outcome_of c.answer.result ≡ result_of r)

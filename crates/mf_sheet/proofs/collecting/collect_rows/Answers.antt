@@ -62,7 +62,7 @@ pub returns-in-Err : goal.returns-in-Err
 returns-in-Err g c = record { ends = λ before first. at before first c.in-Err.cause refl }
   where
     step : g.row.S.Denot → List (List ℕ) → SheetResult → g.row.S.Denot → Type 0
-    step = AnswersFields g.S.InstitutionStore c.args.caller.now
+    step = AnswersFields g.S.InstitutionStore c.args.told.now c.args.caller.now
 
     among : c.args.rows.items ≡ c.loop-row.yielded ++ c.in-Some.row ∷ into_iter_items c.next.new.self
     among = one_taken _ _ _ _ _ c.loop-row.invariant.all c.in-Some.ensures.steps.0

@@ -17,7 +17,7 @@ unknown_refused : (c : Caller) (request : Request) (p : Plan) (staff : Option St
 unknown_refused c request p staff i e = ap (λ s. result_of (reply_in (where_permitted c request p s i))) e
 
 pub returns-clause-bad : goal.returns-clause-bad
-returns-clause-bad c = λ caller i. refl
+returns-clause-bad c = λ told caller i. refl
 
 -- what a repayment looks at
 looked_at : SheetRepayment → Plan
@@ -29,5 +29,5 @@ looked_at r = On_office r.loan.office (λ k catalogue f. in_loan r.loan (on_loan
 
 pub returns-clause-unknown : goal.returns-clause-unknown
 unfolding looked_at
-returns-clause-unknown c = λ caller i r unknown. unknown_refused caller (request_of_line (Repay r)) (looked_at r)
+returns-clause-unknown c = λ told caller i r unknown. unknown_refused caller (request_of_line (Repay r)) (looked_at r)
     (staff_at i caller) i unknown

@@ -12,6 +12,6 @@ returns g c =
       replies = c.isolation.ensures.replies;
       own_replies = c.isolation.ensures.own_replies;
     } in
-    λ i bytes text old new served clean stands.
-    isolated_call s law (λ r. text ≡ shown_response served.to_head r) (call_of_message served.message) old new i
+    λ i told bytes text old new served clean stands.
+    isolated_call s law (λ r. text ≡ shown_response served.to_head r) (call_of_message told served.message) old new i
     (g.met.S.InstitutionStore.sound old i stands).tree served.answered clean stands

@@ -10,5 +10,5 @@ returns g c =
       replies = c.isolation.ensures.replies;
       own_replies = c.isolation.ensures.own_replies;
     } in
-    λ i exchanges old new answered clean stands.
-    serves_on s law old exchanges new i (g.met.S.InstitutionStore.sound old i stands).tree answered clean stands
+    λ i told exchanges old new answered clean stands.
+    serves_on s told law old exchanges new i (g.met.S.InstitutionStore.sound old i stands).tree answered clean stands

@@ -14,11 +14,11 @@ returns g c =
       replies = c.isolation.ensures.replies;
       own_replies = c.isolation.ensures.own_replies;
     } in
-    λ caller i j bytes text other old new before after one two clean stands clean_too stands_too e v m n.
-    let call = call_of_message one.message in
+    λ caller i j told bytes text other old new before after one two clean stands clean_too stands_too e v m n.
+    let call = call_of_message told one.message in
     let first = isolated_call s law (λ r. text ≡ shown_response one.to_head r) call old new i
     (g.met.S.InstitutionStore.sound old i stands).tree one.answered clean stands in
-    let answered = as_message t bytes other before after one.message one.to_head one.is two in
+    let answered = as_message t told bytes other before after one.message one.to_head one.is two in
     let second = isolated_call t law (λ r. other ≡ shown_response one.to_head r) call before after j
     (g.met.T.InstitutionStore.sound before j stands_too).tree answered clean_too stands_too in
     same_response one.to_head first.given_up second.given_up call (view caller.office i) (view caller.office j) text

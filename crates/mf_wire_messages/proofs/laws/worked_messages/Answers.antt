@@ -1,4 +1,4 @@
-use Rattle.std.proofs.Common.{refl, ap, arith, cond, codes, length, length-append, ◌++◌, Some, None}
+use Rattle.std.proofs.Common.{refl, ap, arith, cond, codes, length, length-append, [], ◌++◌, Some, None}
 use Rattle.std.specs.Fmt.{digits}
 use Rattle.httparse.proofs.OnLiterals.{httparse_on_literals}
 use Rattle.std.proofs.lemmas.Bool.{le-leb}
@@ -14,7 +14,7 @@ returns-clause-head c = refl
 pub returns-clause-asked : goal.returns-clause-asked
 unfolding httparse_on_literals
 returns-clause-asked c = λ more.
-    ap (λ t. cond t (Some (made (codes "1/1") (codes "POST") (codes "/clients") request_body)) None)
+    ap (λ t. cond t (Some (made (Some []) (codes "1/1") (codes "POST") (codes "/clients") request_body)) None)
     (le-leb 27 (length (request_body ++ more)) (omega (arith, length-append request_body more)))
 
 pub returns-clause-cut : goal.returns-clause-cut
@@ -28,6 +28,10 @@ returns-clause-refused c = (refl, refl, refl, refl, refl, refl)
 pub returns-clause-taken : goal.returns-clause-taken
 unfolding httparse_on_literals
 returns-clause-taken c = (refl, refl)
+
+pub returns-clause-told : goal.returns-clause-told
+unfolding httparse_on_literals
+returns-clause-told c = (refl, refl, refl)
 
 pub returns-clause-phrases : goal.returns-clause-phrases
 returns-clause-phrases c = (refl, refl, refl, refl, refl, refl, refl, refl, refl)

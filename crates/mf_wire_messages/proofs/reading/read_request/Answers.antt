@@ -2,7 +2,7 @@ use Rattle.std.proofs.Common.{◌≡◌, ◌++◌, ◌∙◌, [], refl, sym, ap,
 use Rattle.std.proofs.lemmas.List.{take_rest}
 use Rattle.std.specs.Option.{IsSome}
 use Rattle.std.proofs.KnownBytes.{Consumes-nil}
-use Rattle.mf_wire_messages.specs.Messages.{frame_of}
+use Rattle.mf_wire_messages.specs.Messages.{frame_of, told_in}
 use Rattle.mf_wire_messages.specs.Framing.{frame_at}
 use Rattle.mf_wire_messages.specs.Arrivals.{bytes_left}
 use Rattle.mf_wire_messages.proofs.MessageLemmas.{head_there, unframed, cut_short, whole_request, same_request, written}
@@ -82,8 +82,9 @@ returns-clause-ok g c =
             c.requires.within at,
         whole_request c.requires.complete.0 begun t.0 c.read_body.new.body left (frame_at c.args.head.items
             c.in-Some.frame) frame size t.2.0 t.2.1
-            ∙ same_request (frame_at c.args.head.items c.in-Some.frame).0 _ _ c.read_body.new.body _ _ _ (sym at.method)
-            (sym at.path) (sym (written c.in-Ok.body.len c.read_body.new.body c.in-Ok.body.items
-            (c.in-Ok-read_body.ensures.kept ∙ c.as_mut_slice.ensures.len))) ∙ ap Some (sym c.new.ensures),
+            ∙ same_request _ _ (frame_at c.args.head.items c.in-Some.frame).0 _ _ c.read_body.new.body _ _ _
+            (ap told_in (sym at.fields) ∙ sym (rw c.deref-4.ensures.value at c.find_told-told.ensures.value))
+            (sym at.method) (sym at.path) (sym (written c.in-Ok.body.len c.read_body.new.body c.in-Ok.body.items
+            (c.in-Ok-read_body.ensures.kept ∙ c.as_mut_slice.ensures.len))) ∙ ap Some (sym c.new-message.ensures),
       ),
     )

@@ -35,7 +35,7 @@ fn assert_no_client(rt: &impl Abort, alloc: Global, books: &mut Books) {
 #[test]
 fn gives_up_before_reading(rt: HostRuntime) -> Result<(), Fail> {
     let alloc = rt.alloc();
-    let desk = Desk::new(alloc)?;
+    let desk = Desk::new(alloc, false)?;
     let mut books = new_books(alloc)?;
     let (answered, written) = serve(alloc, &desk, &mut books, CLIENT.as_bytes())?;
     assert!(rt; answered);
@@ -53,7 +53,7 @@ fn assert_response(
     body: &str,
     is_sent: bool,
 ) -> Result<(), Fail> {
-    let desk = Desk::new(alloc)?;
+    let desk = Desk::new(alloc, false)?;
     let mut books = new_books(alloc)?;
     let (answered, written) = serve(alloc, &desk, &mut books, stream)?;
     assert!(rt; answered);
@@ -226,7 +226,7 @@ fn responses_to_head(rt: HostRuntime) -> Result<(), Fail> {
 #[test]
 fn a_stream_without_a_byte(rt: HostRuntime) -> Result<(), Fail> {
     let alloc = rt.alloc();
-    let desk = Desk::new(alloc)?;
+    let desk = Desk::new(alloc, false)?;
     let mut books = new_books(alloc)?;
     let (answered, written) = serve(alloc, &desk, &mut books, b"")?;
     assert!(rt; !answered);
@@ -235,11 +235,44 @@ fn a_stream_without_a_byte(rt: HostRuntime) -> Result<(), Fail> {
     Ok(())
 }
 
+/// Fields X-Told of a message that makes a client, and whether it is refused where something may be told.
+const TOLD: [(&str, bool); 5] = [
+    ("", false),
+    ("X-Told:\r\n", false),
+    ("x-TOLD: 09:12 10.0.0.7\r\n", false),
+    ("X-Told: 09:12\r\nX-Told: 09:12\r\n", true),
+    ("X-Told: 09:12\t10.0.0.7\r\n", true),
+];
+
+/// Where something may be told, a field that tells nothing that may be is refused; else it is not looked at.
+#[test]
+fn what_messages_tell(rt: HostRuntime) -> Result<(), Fail> {
+    let alloc = rt.alloc();
+    let (hears, deaf) = (Desk::new(alloc, true)?, Desk::new(alloc, false)?);
+    let refused =
+        "HTTP/1.1 400 Bad Request\r\nContent-Type: application/json\r\nContent-Length: 14\r\n\
+         Connection: close\r\n\r\n{\"fault\":\"F1\"}";
+    for (field, is_refused) in TOLD {
+        let message = format!(in alloc;
+            "POST /clients HTTP/1.1\r\nX-Staff: 1/1\r\n{field}Content-Length: 27\r\n\r\n\
+             {{\"office\":1,\"name\":\"Amina\"}}"
+        )?;
+        let mut books = new_books(alloc)?;
+        let (_, written) = serve(alloc, &hears, &mut books, message.as_bytes())?;
+        let expected = if is_refused { refused } else { CREATED };
+        assert_eq!(rt; written.as_slice(), expected.as_bytes());
+        let mut books = new_books(alloc)?;
+        let (_, written) = serve(alloc, &deaf, &mut books, message.as_bytes())?;
+        assert_eq!(rt; written.as_slice(), CREATED.as_bytes());
+    }
+    Ok(())
+}
+
 /// Of two messages on one connection the first is answered, and the second is not run.
 #[test]
 fn one_message_a_connection(rt: HostRuntime) -> Result<(), Fail> {
     let alloc = rt.alloc();
-    let desk = Desk::new(alloc)?;
+    let desk = Desk::new(alloc, false)?;
     let mut books = new_books(alloc)?;
     let both = format!(in alloc; "{CLIENT}{CLIENT}")?;
     let (answered, written) = serve(alloc, &desk, &mut books, both.as_bytes())?;
@@ -261,7 +294,7 @@ fn one_message_a_connection(rt: HostRuntime) -> Result<(), Fail> {
 #[test]
 fn readers_that_fail(rt: HostRuntime) -> Result<(), Fail> {
     let alloc = rt.alloc();
-    let desk = Desk::new(alloc)?;
+    let desk = Desk::new(alloc, false)?;
     let mut books = new_books(alloc)?;
     let fault = StreamFault {
         answered: 0,
@@ -284,7 +317,7 @@ fn readers_that_fail(rt: HostRuntime) -> Result<(), Fail> {
 #[test]
 fn writers_that_fail(rt: HostRuntime) -> Result<(), Fail> {
     let alloc = rt.alloc();
-    let desk = Desk::new(alloc)?;
+    let desk = Desk::new(alloc, false)?;
     let fault = StreamFault {
         answered: 0,
         cause: Cause::Write,
@@ -310,7 +343,7 @@ fn writers_that_fail(rt: HostRuntime) -> Result<(), Fail> {
 #[test]
 fn one_byte_a_call(rt: HostRuntime) -> Result<(), Fail> {
     let alloc = rt.alloc();
-    let desk = Desk::new(alloc)?;
+    let desk = Desk::new(alloc, false)?;
     let mut books = new_books(alloc)?;
     let mut source = WatchedReader::new(Torn {
         bytes: CLIENT.as_bytes(),
@@ -329,7 +362,7 @@ const GIVEN_UP: &str =
 /// Whether a message is answered by F20 where the store gives up after so many calls. If so there is no client, and the
 /// same message is served afterwards.
 fn is_given_up(rt: &impl Abort, alloc: Global, calls: u32) -> Result<bool, Fail> {
-    let desk = Desk::new(alloc)?;
+    let desk = Desk::new(alloc, false)?;
     let mut books = new_books(alloc)?;
     books.refuse_after(calls);
     let (answered, written) = serve(alloc, &desk, &mut books, CLIENT.as_bytes())?;

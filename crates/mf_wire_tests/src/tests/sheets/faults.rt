@@ -19,7 +19,14 @@ fn collected_into(
     room: usize,
 ) -> (Result<(), StreamFault>, Vec<u8>) {
     let mut sink = WatchedWriter::new(Narrow::new(alloc, 7, room));
-    let told = collect(alloc, books, caller, SHEET.as_bytes(), &mut sink);
+    let told = collect(
+        alloc,
+        books,
+        b"".as_slice(),
+        caller,
+        SHEET.as_bytes(),
+        &mut sink,
+    );
     (told, sink.into_inner().taken)
 }
 

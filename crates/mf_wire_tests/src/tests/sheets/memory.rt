@@ -57,7 +57,14 @@ struct Ended {
 
 fn collected_once(alloc: Global, books: &mut Books, caller: Caller) -> Ended {
     let mut sink = WatchedWriter::new(Page::new());
-    let told = collect(alloc, books, caller, SHEET.as_bytes(), &mut sink);
+    let told = collect(
+        alloc,
+        books,
+        b"".as_slice(),
+        caller,
+        SHEET.as_bytes(),
+        &mut sink,
+    );
     Ended {
         told,
         page: sink.into_inner(),

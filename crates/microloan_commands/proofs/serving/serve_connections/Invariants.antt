@@ -3,6 +3,6 @@ use Rattle.microloan_commands.proofs.serving.serve_connections.Given as goal
 
 abbrev pub invariant-loop : goal.invariant-loop
 invariant-loop g l = record {
-  served : ServesConnections g.S.InstitutionStore l.counter l.initial.store l.store
+  served : ServesConnections g.S.InstitutionStore l.told l.counter l.initial.store l.store
       l.answered;
 }

@@ -5,5 +5,5 @@ use Rattle.microloan_commands.proofs.serving.serve_streams.Goals as goal
 
 pub returns : goal.returns
 returns g c =
-    subst (ServesConnections _ 1 c.args.store.now c.serve_one.new.store) (sym c.whole.ensures)
-    (served_one _ c.serve_one.result _ _ _ c.serve_one.ensures.ends)
+    subst (ServesConnections _ c.args.desk.now.told 1 c.args.store.now c.serve_one.new.store) (sym c.whole.ensures)
+    (served_one _ _ c.serve_one.result _ _ _ c.serve_one.ensures.ends)

@@ -14,15 +14,15 @@ returns-clause-premise g c = λ clean.
       stands = StandsFor over_files;
       clean = IsClean over_files;
       leaves = Leaves over_files;
-    })) c.args.store c.run-told.new.store _
+    }) c.args.told) c.args.store c.run-ended.new.store _
     (HasGoodDisk over_files c.args.store.connection) (λ lines texts r. r.premise good)
     (λ same. subst (λ k. HasGoodDisk over_files k.connection) same good)
-    c.run-told.result c.run-told.ensures.ends
+    c.run-ended.result c.run-ended.ensures.ends
 
 pub returns-clause-ends : goal.returns-clause-ends
 returns-clause-ends g c = λ clean i stood leaves.
-    let t = run_so i c.args.store c.run-told.new.store (λ run. LeaveBeginning i run c.hand_back.result)
+    let t = run_so c.args.told i c.args.store c.run-ended.new.store (λ run. LeaveBeginning i run c.hand_back.result)
     (c.hand_back.ensures.premise clean) stood leaves
-    (λ run range stands after. c.hand_back.ensures.beginning clean i run stood.sound range after) _ c.run-told.result
-    c.run-told.ensures.ends in
+    (λ run range stands after. c.hand_back.ensures.beginning clean i run stood.sound range after) _ c.run-ended.result
+    c.run-ended.ensures.ends in
     record { run = t.0; ended = t.1; left = t.2 }

@@ -15,15 +15,16 @@ returns-clause-premise g c = λ well.
       stands = StandsFor over_files;
       clean = IsClean over_files;
       leaves = Leaves over_files;
-    }) c.args.caller) c.args.store c.collect_sheet-told.new.store _
+    }) c.args.told.now c.args.caller) c.args.store c.collect_sheet-ended.new.store _
     (HasGoodDisk over_files c.args.store.connection) (λ rows results r. r.premise good)
     (λ same. subst (λ k. HasGoodDisk over_files k.connection) same good)
-    c.collect_sheet-told.result c.collect_sheet-told.ensures.ends
+    c.collect_sheet-ended.result c.collect_sheet-ended.ensures.ends
 
 pub returns-clause-ends : goal.returns-clause-ends
 returns-clause-ends g c = λ well i stood leaves.
-    let t = source_so c.args.caller i c.args.store c.collect_sheet-told.new.store (CloseAfter i c.close.result)
+    let t = source_so c.args.told.now c.args.caller i c.args.store c.collect_sheet-ended.new.store
+    (CloseAfter i c.close.result)
     (c.close.ensures.premise well) stood leaves
-    (λ run range stands after. close_after c.collect_sheet-told.new.store c.close.result c.close.ensures.left_whole
-    c.close.ensures.kept well i run stands after) _ c.collect_sheet-told.result c.collect_sheet-told.ensures.ends in
+    (λ run range stands after. close_after c.collect_sheet-ended.new.store c.close.result c.close.ensures.left_whole
+    c.close.ensures.kept well i run stands after) _ c.collect_sheet-ended.result c.collect_sheet-ended.ensures.ends in
     record { run = t.0; ended = t.1; left = t.2 }

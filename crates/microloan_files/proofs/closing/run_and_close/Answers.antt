@@ -15,15 +15,16 @@ returns-clause-premise g c = λ well.
       stands = StandsFor over_files;
       clean = IsClean over_files;
       leaves = Leaves over_files;
-    })) c.args.store c.run-told.new.store _
+    }) c.args.told) c.args.store c.run-ended.new.store _
     (HasGoodDisk over_files c.args.store.connection) (λ lines texts r. r.premise good)
     (λ same. subst (λ k. HasGoodDisk over_files k.connection) same good)
-    c.run-told.result c.run-told.ensures.ends
+    c.run-ended.result c.run-ended.ensures.ends
 
 pub returns-clause-ends : goal.returns-clause-ends
 returns-clause-ends g c = λ well i stood leaves.
-    let t = run_so i c.args.store c.run-told.new.store (CloseAfter i c.close.result) (c.close.ensures.premise well)
+    let t = run_so c.args.told i c.args.store c.run-ended.new.store (CloseAfter i c.close.result)
+    (c.close.ensures.premise well)
     stood leaves
-    (λ run range stands after. close_after c.run-told.new.store c.close.result c.close.ensures.left_whole
-    c.close.ensures.kept well i run stands after) _ c.run-told.result c.run-told.ensures.ends in
+    (λ run range stands after. close_after c.run-ended.new.store c.close.result c.close.ensures.left_whole
+    c.close.ensures.kept well i run stands after) _ c.run-ended.result c.run-ended.ensures.ends in
     record { run = t.0; ended = t.1; left = t.2 }

@@ -10,17 +10,19 @@ returns-clause-premise g c = λ well.
       stands = StandsFor over_files;
       clean = IsClean over_files;
       leaves = Leaves over_files;
-    }) c.args.connections c.args.store c.serve_connections-told.new.store
-    c.serve_connections-told.result c.serve_connections-told.ensures.served c.serve_connections-told.ensures.memory
+    }) c.args.told c.args.connections c.args.store c.serve_connections-ended.new.store
+    c.serve_connections-ended.result c.serve_connections-ended.ensures.served c.serve_connections-ended.ensures.memory
     (c.hand_back.ensures.premise well)
 
 pub returns-clause-ends : goal.returns-clause-ends
 returns-clause-ends g c = λ well i stood leaves.
     let good = c.hand_back.ensures.premise well in
-    serves_so i c.args.store c.serve_connections-told.new.store (λ run. LeaveBeginning i run c.hand_back.result) stood
+    serves_so c.args.told i c.args.store c.serve_connections-ended.new.store
+    (λ run. LeaveBeginning i run c.hand_back.result) stood
     leaves
     (λ run range stands after. c.hand_back.ensures.beginning well i run stood.sound range after)
-    c.args.connections c.serve_connections-told.result c.serve_connections-told.ensures.served
-    c.serve_connections-told.ensures.memory
-    (λ es answered. c.served_messages_are_isolated.ensures i es c.args.store c.serve_connections-told.new.store answered
+    c.args.connections c.serve_connections-ended.result c.serve_connections-ended.ensures.served
+    c.serve_connections-ended.ensures.memory
+    (λ es answered. c.served_messages_are_isolated.ensures i c.args.told es c.args.store
+    c.serve_connections-ended.new.store answered
     good stood)

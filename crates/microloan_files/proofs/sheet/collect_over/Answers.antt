@@ -14,15 +14,16 @@ returns-clause-premise g c = λ clean.
       stands = StandsFor over_files;
       clean = IsClean over_files;
       leaves = Leaves over_files;
-    }) c.args.caller) c.args.store c.collect-told.new.store _
+    }) c.args.told.now c.args.caller) c.args.store c.collect-ended.new.store _
     (HasGoodDisk over_files c.args.store.connection) (λ rows results r. r.premise good)
     (λ same. subst (λ k. HasGoodDisk over_files k.connection) same good)
-    c.collect-told.result c.collect-told.ensures.ends
+    c.collect-ended.result c.collect-ended.ensures.ends
 
 pub returns-clause-ends : goal.returns-clause-ends
 returns-clause-ends g c = λ clean i stood leaves.
-    let t = collect_so c.args.caller i c.args.store c.collect-told.new.store (λ run. LeaveBeginning i run
+    let t = collect_so c.args.told.now c.args.caller i c.args.store c.collect-ended.new.store
+    (λ run. LeaveBeginning i run
     c.hand_back.result) (c.hand_back.ensures.premise clean) stood leaves
     (λ run range stands after. c.hand_back.ensures.beginning clean i run stood.sound range after) _
-    c.collect-told.result c.collect-told.ensures.ends in
+    c.collect-ended.result c.collect-ended.ensures.ends in
     record { run = t.0; ended = t.1; left = t.2 }
