@@ -1,0 +1,10 @@
+pub mod Figures
+pub mod Quoted
+pub mod Bodies
+pub mod Walks
+pub mod Paths
+pub mod ReadsBack
+pub mod Received
+pub mod Growing
+pub mod Works
+pub mod Unread
