@@ -1,0 +1,10 @@
+pub mod ArchivedLemmas
+pub mod ArchivingLemmas
+pub mod FilingLemmas
+pub mod FirstLemmas
+pub mod PagingLemmas
+pub mod RemovingLemmas
+pub mod TakesLemmas
+pub mod TakingLemmas
+pub mod TextsLemmas
+pub mod WritingLemmas

@@ -1,0 +1,9 @@
+pub mod Appending
+pub mod Archived
+pub mod Archiving
+pub mod Filing
+pub mod Paging
+pub mod Removing
+pub mod Taking
+pub mod Texts
+pub mod Writing
