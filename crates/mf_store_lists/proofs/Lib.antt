@@ -1,0 +1,7 @@
+pub mod NumberedLemmas
+pub mod ToldLemmas
+pub mod StageLemmas
+pub mod ClientLoanLemmas
+pub mod CountLemmas
+pub mod DueLemmas
+pub mod FindingLemmas

@@ -1,0 +1,4 @@
+pub mod Told
+pub mod Counted
+pub mod Due
+pub mod Finding
