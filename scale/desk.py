@@ -1,8 +1,9 @@
 """The desk of a replica: `microloan batch` over a file, the number of the log's line that it was fed last, and the
 folder that keeps copies of the file.
 
-Of the folder only what this module made is ever deleted: `kept-NUMBER` (a copy), `part` (a copy that was not finished)
-and `run-XXXXXXXX` (the file of a process), and of these only such as hold a desk's files and nothing else.
+Of the folder only what this module made is ever deleted: `kept-NUMBER` (a copy), `part` (a copy that was not finished),
+`run-XXXXXXXX` (the file of a process) and `desk` (the file of a desk that is told numbers, told.py), and of these only
+such as hold a desk's files and nothing else.
 """
 import contextlib
 import fcntl
@@ -20,12 +21,12 @@ from messages import GIVEN_UP
 
 TOP = os.path.dirname(os.path.dirname(os.path.abspath(__file__)))
 PROGRAM = os.environ.get("MICROLOAN", os.path.join(TOP, "microloan"))
-FILE, PLACE = "desk.db", "place.json"
+FILE, PLACE, DESK = "desk.db", "place.json", "desk"
 FILES = {FILE, FILE + "-wal", PLACE, PLACE + ".new"}
 PIPE = 32768  # bytes that are written to the desk before a reply is read: fewer than the pipe takes
 NOTE_EVERY = 1  # seconds between two notes of a run's place
 READING = b"1/1 GET /business-day"
-MADE = re.compile("kept-[0-9]+|part|run-[a-z0-9_]{8}")
+MADE = re.compile("kept-[0-9]+|part|desk|run-[a-z0-9_]{8}")
 
 
 class DeskFailed(Exception):
@@ -44,10 +45,12 @@ def version():
 class Place:
     """Where a copy stands: of which institution it is, how many lines of the log it holds, and the sum of the last of
     them (None at 0). `term` tells the last writer that it followed, by the revision of its key, and `wrote` whether it
-    was that writer's. It lies beside the copy, so that it goes wherever the copy is taken."""
+    was that writer's; `writes` that it may have lines which aren't in the log yet. It lies beside the copy, so that it
+    goes wherever the copy is taken."""
 
-    def __init__(self, institution, number=0, line=None, term=0, wrote=False):
-        self.institution, self.number, self.line, self.term, self.wrote = institution, number, line, term, wrote
+    def __init__(self, institution, number=0, line=None, term=0, wrote=False, writes=False):
+        self.institution, self.number, self.line = institution, number, line
+        self.term, self.wrote, self.writes = term, wrote, writes
 
     @staticmethod
     def beside(folder):
@@ -55,7 +58,7 @@ class Place:
         try:
             with open(os.path.join(folder, PLACE), encoding="utf-8") as file:
                 told = json.load(file)
-            more = [told.get("term", 0), told.get("wrote", False)]
+            more = [told.get("term", 0), told.get("wrote", False), told.get("writes", False)]
             return Place(told["institution"], told["number"], told["line"], *more)
         except FileNotFoundError:
             return None
@@ -108,6 +111,7 @@ class Folder:
         except OSError:
             raise Refused(f"another process uses {path}") from None
         self.kept = max([int(name[5:]) for name in self.made() if name.startswith("kept-")], default=0)
+        self.desk_lock = None
 
     def path_of(self, name):
         return os.path.join(self.path, name)
@@ -131,7 +135,7 @@ class Folder:
     def sweep(self, runs):
         """Deletes what is older than the newest copy, and the files of processes that died before they had followed the
         log to its end: these hold nothing that the log doesn't. Others stay unless they are named."""
-        stay = {f"kept-{self.kept}"} | (set(self.runs()) - runs)
+        stay = {f"kept-{self.kept}", DESK} | (set(self.runs()) - runs)
         for name in self.made():
             if name not in stay:
                 shutil.rmtree(self.path_of(name), ignore_errors=True)
@@ -143,25 +147,68 @@ class Folder:
 
     def take_copy(self, run, place):
         """Makes a copy of a run's file, whose process waits for its next line, the newest copy."""
+        self.copy_as_part(run)
+        self.settle(place)
+
+    def copy_as_part(self, run):
+        """Copies a file into `part`; no file where there is none."""
         part = self.path_of("part")
         if "part" in self.made():
             shutil.rmtree(part)
         os.mkdir(part)
-        files = [os.path.join(run, name) for name in os.listdir(run) if name in (FILE, FILE + "-wal")]
-        subprocess.run(["cp", "--reflink=auto", *files, part], check=True)
-        self.settle(place)
+        names = os.listdir(run) if run else []
+        files = [os.path.join(run, name) for name in names if name in (FILE, FILE + "-wal")]
+        if files:
+            subprocess.run(["cp", "--reflink=auto", *files, part], check=True)
 
     def settle(self, place):
         """Makes what stands in `part` the newest copy, whole or not at all."""
-        part, before = self.path_of("part"), self.copy()
-        place.write(part)
-        for path in [os.path.join(part, name) for name in os.listdir(part)] + [part]:
-            with_file(path, os.fsync)
-        os.rename(part, self.path_of(f"kept-{place.number}"))
-        with_file(self.path, os.fsync)
+        before = self.copy()
+        self.settle_as(f"kept-{place.number}", place)
         self.kept = place.number
         if before:
             shutil.rmtree(before)
+
+    def settle_as(self, name, place):
+        part = self.path_of("part")
+        place.write(part)
+        for path in [os.path.join(part, name) for name in os.listdir(part)] + [part]:
+            with_file(path, os.fsync)
+        os.rename(part, self.path_of(name))
+        with_file(self.path, os.fsync)
+
+    # ---- the file of a desk that is told numbers
+
+    def begin_desk(self, place):
+        """Makes `desk`, where it isn't there: a copy of the newest copy, or empty for a new institution."""
+        if not os.path.isdir(self.path_of(DESK)):
+            self.copy_as_part(self.copy())
+            self.settle_as(DESK, place)
+            self.lock_desk(0)
+
+    def lock_desk(self, seconds):
+        """Whether `desk` is there. Its process inherits the lock, so that nobody looks at the file before that of an
+        earlier run has ended."""
+        path = self.path_of(DESK)
+        if not os.path.isdir(path):
+            return False
+        if DESK not in self.made():
+            raise Refused(f"{path} holds other things than a desk's file")
+        if self.desk_lock is not None:
+            os.close(self.desk_lock)
+        self.desk_lock, end = os.open(path, os.O_RDONLY), time.monotonic() + seconds
+        while True:
+            try:
+                fcntl.flock(self.desk_lock, fcntl.LOCK_EX | fcntl.LOCK_NB)
+                return True
+            except OSError:
+                if time.monotonic() > end:
+                    raise DeskFailed(f"the process of an earlier run still uses {path}") from None
+                time.sleep(0.05)
+
+    def set_aside(self):
+        """Makes `desk` the file of a run, which stays until a newer copy stands."""
+        os.rename(self.path_of(DESK), tempfile.mkdtemp(prefix="run-", dir=self.path))
 
 
 def with_file(path, act):
@@ -180,7 +227,8 @@ class Desk:
         self.earlier = set(folder.runs())  # to be kept until a newer copy stands
         copy = folder.copy()
         place = (copy and Place.beside(copy)) or Place(institution)
-        self.number, self.line, self.term, self.wrote = place.number, place.line, place.term, False
+        self.number, self.line, self.term = place.number, place.line, place.term
+        self.wrote = self.writes = False
         self.busy_since = None  # since when it, or its disk, is waited for
         self.answered_at = time.monotonic()
         folder.sweep(runs=set())
@@ -225,7 +273,18 @@ class Desk:
     def answer(self, line):
         """The reply to a reading, or to a line that is counted by `count` where it changes something."""
         with self.waited_for():
-            return self.exchange(line)
+            return self.exchange(self.fed(line, self.number + 1))
+
+    def fed(self, line, number):
+        """What is fed for a line, which is the log's line of this number where it is one of the log."""
+        return line
+
+    def is_logged(self, line, reply):
+        """Whether a line that was answered so becomes one of the log: not what changed nothing, as a reading."""
+        return reply.startswith(b"2") and line.split(b" ", 2)[1] != b"GET"
+
+    def check(self):
+        """Raises Refused where the file isn't as far as the lines that were counted."""
 
     def follow(self, values):
         """Takes the next values of the log, each with its line, as many at a time as the pipe holds."""
@@ -233,8 +292,9 @@ class Desk:
             size, many = 0, 0
             while many < len(values) and (many == 0 or size + len(values[many][1]) < PIPE):
                 size, many = size + len(values[many][1]) + 1, many + 1
+            fed = [self.fed(line, self.number + place) for place, (_, line) in enumerate(values[:many], 1)]
             with self.waited_for():
-                self.exchange(*[line for _, line in values[:many]])
+                self.exchange(*fed)
             for value, _ in values[:many]:
                 self.count(value)
             values = values[many:]
@@ -249,13 +309,14 @@ class Desk:
         return busy_since is not None and time.monotonic() - busy_since > seconds
 
     def place(self):
-        return Place(self.institution, self.number, self.line, self.term, self.wrote)
+        return Place(self.institution, self.number, self.line, self.term, self.wrote, self.writes)
 
     def note(self, now=False):
         """Notes now and then how far the file is at least. It is called first where the desk has followed the log to
         its end, and from then on the file is worth keeping (`Folder.runs`)."""
         if now or self.noted_at is None or time.monotonic() - self.noted_at > NOTE_EVERY:
             with self.waited_for():
+                self.check()
                 self.place().write(self.run)
             self.noted_at = time.monotonic()
 

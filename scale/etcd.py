@@ -5,9 +5,10 @@ import json
 import ssl
 import time
 
+GROUP = 100  # lines of one transaction: etcd takes 128 puts
 PATIENCE, PASSWORD_PATIENCE = 1, 5  # seconds that one node is waited for; a password takes it longer
 WRITER, LOG, KEPT, LAST = "microloan/writer", "microloan/log/", "microloan/kept/", "~"
-INSTITUTION, ANSWERED_BY = "microloan/institution", "microloan/program"
+INSTITUTION, ANSWERED_BY, HEAD = "microloan/institution", "microloan/program", "microloan/head/"
 
 
 class Lost(Exception):
@@ -122,6 +123,11 @@ class Etcd:
     def found(self, first, last=None, limit=0, within=None):
         """The keys from one to another, with the values and the revisions that made them, as a majority has them."""
         return rows_of(self.call("/kv/range", range_of(first, last, limit), within))
+
+    def last_of(self, first, last, within=None):
+        """The last of the keys from one to another, as `found` gives it; none where there is none."""
+        asked = range_of(first, last, 1) | {"sort_order": "DESCEND", "sort_target": "KEY"}
+        return next(iter(rows_of(self.call("/kv/range", asked, within))), None)
 
     def found_at_once(self, *ranges, within=None):
         """What `found` gives for each of several ranges, as all stood at one moment."""

@@ -4,7 +4,7 @@ import queue
 import threading
 import time
 
-from log import GROUP
+from etcd import GROUP
 from messages import GIVEN_UP
 
 GROUP_BYTES = 1000000  # of the lines of one transaction: etcd takes 1.5 MB
@@ -19,10 +19,6 @@ class Message:
 
     def is_reading(self):
         return self.line.split(b" ", 2)[1] == b"GET"
-
-    def is_changed_by(self, told):
-        """Whether the reply says that the institution was changed: a refused request and a reading change nothing."""
-        return not self.is_reading() and told.startswith(b"2")
 
     def tell(self, number, told):
         """Gives the reply behind a line of the log; None: whether it is carried out isn't known, so there is none."""

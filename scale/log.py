@@ -1,10 +1,11 @@
 """The log of request lines in etcd, and the institution whose log it is."""
 import secrets
 
-from desk import Place, Refused, sum_of, sum_of_rows
-from etcd import ANSWERED_BY, INSTITUTION, LAST, LOG, WRITER, Full, key_of
+from desk import DESK, Place, Refused, sum_of, sum_of_rows
+from etcd import ANSWERED_BY, GROUP, INSTITUTION, LAST, LOG, WRITER, Full, key_of
+from journal import Founding, Useless
+from told import Told
 
-GROUP = 100  # lines of one transaction: etcd takes 128 puts
 NEW = "new"  # what an institution begins with that was brought from nowhere
 
 
@@ -13,18 +14,38 @@ class Log:
 
     def __init__(self, etcd, patience, version):
         self.etcd, self.patience, self.version = etcd, patience, version
-        self.institution = self.beginning = self.revision = self.answered_by = None
+        self.institution = self.beginning = self.named = self.revision = self.answered_by = None
+        self.told = None  # of a log whose desks keep a journal
         self.goes_on = False  # whether there was more than what was read last
 
-    def join(self, folder):
-        """Makes sure that the folder's newest copy is of this log's institution; founds one where neither holds any."""
+    def join(self, folder, with_journal=False):
+        """Makes sure that what a folder has is of this log's institution; founds one where neither holds any. It gives
+        the number of the line up to which the folder's file has followed the log."""
         known = self.etcd.found(INSTITUTION)
         if not known:
-            self.found_institution(folder)
+            self.found_institution(folder, with_journal)
             known = self.etcd.found(INSTITUTION)
-        self.institution, self.beginning = known[0][1].decode().split()
-        self.revision = known[0][2]
-        self.agree_on_program(folder)
+        self.named, self.revision = known[0][1:]
+        self.institution, self.beginning = self.named.decode().split()
+        founding = Founding.of_word(self.beginning)
+        if with_journal and not founding:
+            raise Refused("no journal: the log in etcd was founded without --journal")
+        self.told = founding and Told(self, self.institution, founding)
+        self.agree_on_program()
+        if not self.told:
+            self.join_by_place(folder)
+        number = self.told.join(folder) if self.told else folder.kept
+        behind = self.upgraded_behind()
+        if number < behind:
+            which = f"the newest copy holds {number} lines, and the log was upgraded behind line {behind}"
+            raise Refused(f"{which}: copy a newer kept folder of another replica")
+        if not self.told:
+            copy = folder.copy()
+            self.after(number, copy and Place.beside(copy).line)
+        return number
+
+    def join_by_place(self, folder):
+        """Makes sure of it by what lies beside a copy."""
         copy = folder.copy()
         place = copy and Place.beside(copy)
         if place is None and folder.kept == 0:
@@ -33,13 +54,15 @@ class Log:
             raise Refused(f"{copy} doesn't say that it holds {folder.kept} lines: it was renamed, or made by hand")
         elif place.institution != self.institution:
             raise Refused(f"{copy} is of another institution than the log in etcd")
+        if DESK in folder.made():
+            raise Refused(f"{folder.path_of(DESK)} is of another institution than the log in etcd")
         for name, place in folder.runs().items():
             if place.institution != self.institution:
                 raise Refused(f"{folder.path_of(name)} is of another institution than the log in etcd")
             if place.number > folder.kept:
                 self.after(place.number, place.line)
 
-    def found_institution(self, folder):
+    def found_institution(self, folder, with_journal):
         """Makes a name for the institution that begins here. Where the folder or the log holds something already, it
         began elsewhere, and the name was lost with etcd's data."""
         copy = folder.copy()
@@ -48,23 +71,34 @@ class Log:
             raise Refused(f"etcd is new or lost its data: it knows no institution, and {folder.path} followed its log")
         if self.etcd.found(LOG, LOG + LAST, 1):
             raise Refused("the log in etcd has lines, and no institution: it was begun by an older scale/replica")
-        beginning = sum_of_rows(copy) if copy else NEW
+        beginning = self.beginning_of(copy, with_journal)
         name = f"{secrets.token_hex(16)} {beginning}"
         self.etcd.put_where([(INSTITUTION, 0)], [(INSTITUTION, name), (ANSWERED_BY, f"0 {self.version}")])
 
-    def agree_on_program(self, folder):
-        """Makes sure that this version of the program is the one that answers what comes behind the newest copy."""
+    @staticmethod
+    def beginning_of(copy, with_journal):
+        """What a log begins with: what was brought here, or a new institution."""
+        if not with_journal:
+            return sum_of_rows(copy) if copy else NEW
+        try:
+            return (Founding.of_file(copy) if copy else Founding.of_new()).as_word()
+        except Useless as why:
+            raise Refused(f"no journal: `microloan upgrade --journal` gives {copy} one: {why}") from None
+
+    def agree_on_program(self):
+        """Makes sure that this version of the program is the one that answers what comes next."""
         told = self.etcd.found(ANSWERED_BY)
         if not told:  # an older scale/replica founded it
             self.etcd.put_where([(ANSWERED_BY, 0)], [(ANSWERED_BY, f"0 {self.version}")])
             told = self.etcd.found(ANSWERED_BY)
         self.answered_by = told[0][1]
-        number, version = program_in(self.answered_by)
+        version = program_in(self.answered_by)[1]
         if version != self.version:
             raise Refused(f"the log is answered by {version}, and this program is {self.version}")
-        if folder.kept < number:
-            which = f"the newest copy holds {folder.kept} lines, and the log was upgraded behind line {number}"
-            raise Refused(f"{which}: copy a newer kept folder of another replica")
+
+    def upgraded_behind(self):
+        """The line behind which this version of the program answers."""
+        return program_in(self.answered_by)[0]
 
     def read(self, first, last, limit, within):
         """What etcd has found between two keys, where the log is answered by the same program as when it was joined."""
@@ -103,7 +137,22 @@ class Log:
         keys = [key for key, _, _ in found]
         if keys != [key_of(place) for place in range(first, first + len(keys))]:
             raise Refused(f"the log has no line {first}, or one behind it: copy a newer kept folder of another replica")
-        return [(value, line_in(key, value)) for key, value, _ in found[bool(number) :]]
+        return [(value, self.line_in(key, value)) for key, value, _ in found[bool(number) :]]
+
+    @staticmethod
+    def line_in(key, value):
+        """The request line of a value of the log, which stands behind the lease that it was put under."""
+        lease, _, line = value.partition(b" ")
+        if not lease.isdigit() or not line or b"\n" in line:
+            raise Refused(f"{key} is no line: {value[:60]}")
+        return line
+
+    def sum_at(self, number):
+        """The sum of a line of the log; none at its beginning."""
+        found = self.etcd.found(key_of(number)) if number else [(None, None, 0)]
+        if not found:
+            raise Refused(f"the log has no line {number}: copy a newer kept folder of another replica")
+        return sum_of(found[0][1])
 
     def append(self, revision, first, values):
         """Puts values at the end of the log, which must be that of this institution and this program, end before
@@ -112,9 +161,9 @@ class Log:
         puts = [(key_of(number), value) for number, value in enumerate(values, first)]
         asked = [(WRITER, revision), (INSTITUTION, self.revision), (key_of(first), 0)]
         there = [key_of(first - 1)] if first > 1 else []
-        program, is_full = [(ANSWERED_BY, self.answered_by)], None
+        same, is_full = [(ANSWERED_BY, self.answered_by), (INSTITUTION, self.named)], None
         try:
-            if self.etcd.put_where(asked, puts, there=there, values=program, within=self.patience):
+            if self.etcd.put_where(asked, puts, there=there, values=same, within=self.patience):
                 return True
         except Full as why:
             is_full = why  # of the put that fills it etcd says so too, and carries it out
@@ -129,11 +178,3 @@ def program_in(value):
     """Behind which line of the log a version of the program answers, and which."""
     number, _, version = value.decode().partition(" ")
     return int(number), version
-
-
-def line_in(key, value):
-    """The request line of a value of the log, which stands behind the lease that it was put under."""
-    lease, _, line = value.partition(b" ")
-    if not lease.isdigit() or not line or b"\n" in line:
-        raise Refused(f"{key} is no line: {value[:60]}")
-    return line
