@@ -77,6 +77,16 @@ def sum_of(value):
     return None if value is None else hashlib.sha256(value).hexdigest()
 
 
+def value_of(lease, line, remark):
+    """The value by which a line stands in the log: the lease that it is put under, what a journal notes, the line."""
+    return b"%d%s %s" % (lease, b"," + remark if remark else b"", line)
+
+
+def remark_in(value):
+    """What a journal notes of a line of the log."""
+    return value.partition(b" ")[0].partition(b",")[2]
+
+
 def sum_of_rows(folder):
     """The sum of all rows of a copy's tables, whatever the order in which they were written."""
     with tempfile.TemporaryDirectory() as scratch:
@@ -270,18 +280,21 @@ class Desk:
         finally:
             self.busy_since = None
 
-    def answer(self, line):
+    def answer(self, line, remark=b""):
         """The reply to a reading, or to a line that is counted by `count` where it changes something."""
         with self.waited_for():
-            return self.exchange(self.fed(line, self.number + 1))
+            return self.exchange(self.fed(line, self.number + 1, remark))
 
-    def fed(self, line, number):
+    def fed(self, line, number, remark=b""):
         """What is fed for a line, which is the log's line of this number where it is one of the log."""
         return line
 
     def is_logged(self, line, reply):
         """Whether a line that was answered so becomes one of the log: not what changed nothing, as a reading."""
         return reply.startswith(b"2") and line.split(b" ", 2)[1] != b"GET"
+
+    def confirm(self):
+        """Notes that the lines which were counted stand in the log, before anybody is told so."""
 
     def check(self):
         """Raises Refused where the file isn't as far as the lines that were counted."""
@@ -292,7 +305,8 @@ class Desk:
             size, many = 0, 0
             while many < len(values) and (many == 0 or size + len(values[many][1]) < PIPE):
                 size, many = size + len(values[many][1]) + 1, many + 1
-            fed = [self.fed(line, self.number + place) for place, (_, line) in enumerate(values[:many], 1)]
+            places = enumerate(values[:many], self.number + 1)
+            fed = [self.fed(line, number, remark_in(value)) for number, (value, line) in places]
             with self.waited_for():
                 self.exchange(*fed)
             for value, _ in values[:many]:

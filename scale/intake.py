@@ -11,10 +11,11 @@ GROUP_BYTES = 1000000  # of the lines of one transaction: etcd takes 1.5 MB
 
 
 class Message:
-    """A line, and the number of the log's line that its sender has seen the effect of; None where it doesn't say."""
+    """A line, and who sent it."""
 
-    def __init__(self, line, seen=None):
-        self.line, self.seen, self.came_at = line, seen, time.monotonic()
+    def __init__(self, line, sender):
+        self.line, self.sender, self.came_at = line, sender, time.monotonic()
+        self.seen, self.remark = sender.seen, sender.remark
         self.reply = concurrent.futures.Future()
 
     def is_reading(self):
@@ -28,15 +29,15 @@ class Message:
 
 class Intake:
     """The messages, in the order in which they came. One that has waited for as long as a client does is refused, and
-    not carried out."""
+    not carried out; so is one whose sender has gone away."""
 
     def __init__(self, patience):
         self.patience, self.waiting = patience, queue.Queue()
         self.lock, self.is_open = threading.Lock(), True
 
-    def ask(self, line, seen=None):
+    def ask(self, line, sender):
         """Waits for what a message is told. (Each connection has its thread.)"""
-        message = Message(line, seen)
+        message = Message(line, sender)
         with self.lock:
             if not self.is_open:
                 return GIVEN_UP, []
@@ -44,8 +45,8 @@ class Intake:
         number, told = message.reply.result()
         return told, [("Log-Number", number)]
 
-    def ask_reading(self, line, seen=None):
-        return self.ask(line, seen) if Message(line).is_reading() else (GIVEN_UP, [])
+    def ask_reading(self, line, sender):
+        return self.ask(line, sender) if Message(line, sender).is_reading() else (GIVEN_UP, [])
 
     def take(self, wait, number):
         """The messages that wait, as many as one transaction takes; none where none comes in so many seconds."""
@@ -61,7 +62,7 @@ class Intake:
         return group
 
     def refused_as_late(self, message, number):
-        is_late = time.monotonic() - message.came_at > self.patience
+        is_late = time.monotonic() - message.came_at > self.patience or message.sender.is_gone()
         if is_late:
             message.tell(number, GIVEN_UP)
         return is_late

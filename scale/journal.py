@@ -6,6 +6,7 @@ log at its end, and the process still writes into it.)
 """
 import os
 import re
+import shutil
 import subprocess
 import tempfile
 import typing
@@ -59,7 +60,7 @@ class Founding(typing.NamedTuple):
     @staticmethod
     def of_file(folder):
         """Where the journal of a file stands."""
-        last = Journal(folder).ends()[1]
+        last = Journal(folder).ends()[-1]
         return Founding(int(Journal(folder).ask("select schema from meta")[0]), last.number, last.chain)
 
     @staticmethod
@@ -71,10 +72,10 @@ class Founding(typing.NamedTuple):
             return Founding.of_file(scratch)
 
 
-def word_of(institution, number):
-    """What the program is told of a line of a log. All words are of one length, so that what it answers to a long line
-    doesn't depend on the number."""
-    return b"%s/%012d" % (institution[:16].encode(), number)
+def word_of(institution, number, remark=b""):
+    """What the program is told of a line of a log, and what was remarked on it. All numbers are of one length, so that
+    what it answers to a long line doesn't depend on the number."""
+    return b"%s/%012d%s" % (institution[:16].encode(), number, b"," + remark if remark else b"")
 
 
 class Journal:
@@ -87,6 +88,8 @@ class Journal:
         """The rows that the shell gives to a query, each a text."""
         if not os.path.exists(self.path):
             raise Useless(f"there is no {self.path}")
+        if not shutil.which(SHELL[0]):
+            raise Useless("sqlite3 is missing, which reads journals: apt-get install sqlite3")
         told = subprocess.run([*SHELL, self.path, query], capture_output=True, text=True, check=False)
         said = [line.strip() for line in told.stdout.splitlines()]
         if told.returncode or said[: len(SHELL_SAYS)] != SHELL_SAYS:
@@ -96,13 +99,13 @@ class Journal:
     def rows(self, which):
         return [Row.of_text(text) for text in self.ask(f"select {COLUMNS} from journal {which} order by number")]
 
-    def ends(self):
-        """The first row and the last."""
+    def ends(self, number=0):
+        """The first row and the last, and between them that of a number, or nothing where there is none."""
         ends = "(select min(number) from journal), (select max(number) from journal)"
-        found = self.rows(f"where number in ({ends})")
+        found = self.rows(f"where number in ({ends}, {number})")
         if not found:
             raise Useless(f"the journal in {self.path} has no row")
-        return found[0], found[-1]
+        return found[0], next((row for row in found if row.number == number), None), found[-1]
 
     def between(self, first, last):
         """The rows from one number to another."""

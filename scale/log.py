@@ -141,9 +141,9 @@ class Log:
 
     @staticmethod
     def line_in(key, value):
-        """The request line of a value of the log, which stands behind the lease that it was put under."""
-        lease, _, line = value.partition(b" ")
-        if not lease.isdigit() or not line or b"\n" in line:
+        """The request line of a value of the log (`value_of`)."""
+        before, _, line = value.partition(b" ")
+        if not before.partition(b",")[0].isdigit() or not line or b"\n" in line:
             raise Refused(f"{key} is no line: {value[:60]}")
         return line
 

@@ -2,9 +2,12 @@
 import http.server
 import json
 import re
+import select
+import socket
 import threading
 
 LONGEST_LINE, LONGEST_BODY = 65536, 1048576
+REMARK = "[!-~]{0,70}"  # what X-Told may say: with the number of the line it is one word of at most 100 bytes
 SLOWEST = 10  # seconds that a client is waited for: whatever is in front sends whole messages
 MALFORMED, GIVEN_UP = b'400 {"fault":"F1"}', b'503 {"fault":"F20"}'
 
@@ -18,6 +21,27 @@ def line_of(staff, method, target, body):
         breaks_become = b"\x01\x01"
     body = body.translate(bytes.maketrans(b"\r\n", breaks_become))
     return b" ".join([staff, method, target] + ([body] if body else []))
+
+
+class Sender:
+    """Who sent a message. `seen` is the number of the log's line that it has seen the effect of, None where it doesn't
+    say; `remark` what a journal is to note, None where that is malformed."""
+
+    def __init__(self, connection, fields):
+        self.connection = connection
+        seen, remarks = fields.get("Log-Number", ""), fields.get_all("X-Told", [""])
+        self.seen = int(seen) if re.fullmatch("[0-9]{1,15}", seen) else None
+        is_well = len(remarks) == 1 and re.fullmatch(REMARK, remarks[0])
+        self.remark = remarks[0].encode() if is_well else None
+
+    def is_gone(self):
+        """Whether it has closed the connection, and so waits for no reply: a front does, once it has told 504."""
+        try:
+            is_readable = select.poll()
+            is_readable.register(self.connection, select.POLLIN)
+            return bool(is_readable.poll(0)) and not self.connection.recv(1, socket.MSG_PEEK)
+        except (OSError, ValueError):  # ValueError: the socket was closed here
+            return True
 
 
 class Handler(http.server.BaseHTTPRequestHandler):
@@ -40,17 +64,15 @@ class Handler(http.server.BaseHTTPRequestHandler):
         line = line_of(*[word.encode("latin-1") for word in words], body)
         return line if len(body) == int(lengths[0]) and len(line) <= LONGEST_LINE else None
 
-    def seen(self):
-        """The number of the log's line that the sender has seen the effect of; none where the message doesn't say."""
-        told = self.headers.get("Log-Number", "")
-        return int(told) if re.fullmatch("[0-9]{1,15}", told) else None
-
     def answer(self):
         told = self.server.health and self.server.health(self.path)
         if told:
             return self.tell(told)
-        line = self.message()
-        told, more = self.server.answer(line, self.seen()) if line is not None else (MALFORMED, [])
+        line, sender = self.message(), Sender(self.connection, self.headers)
+        if not self.server.with_remarks:
+            sender.remark = b""
+        is_well = line is not None and sender.remark is not None
+        told, more = self.server.answer(line, sender) if is_well else (MALFORMED, [])
         if told is not None:
             self.tell(told, more)
 
@@ -85,11 +107,11 @@ class Server(http.server.ThreadingHTTPServer):
         """A client that went away is no fault of the server's."""
 
 
-def serve(address, port, answer, health=None):
-    """Listens on an address and a port. `answer` gives a line's reply, or None for no response, and further fields of
-    the response; many threads call it. `health` gives the reply to a path that is no request of the program's, or None
-    where it is one."""
+def serve(address, port, answer, health=None, with_remarks=False):
+    """Listens on an address and a port. `answer` gives the reply to a line and its sender, or None for no response, and
+    further fields of the response; many threads call it. Only `with_remarks` the message's field X-Told counts.
+    `health` gives the reply to a path that is no request of the program's, or None where it is one."""
     server = Server((address, port), Handler)
-    server.answer, server.health = answer, health
+    server.answer, server.health, server.with_remarks = answer, health, with_remarks
     threading.Thread(target=server.serve_forever, args=(0.05,), daemon=True).start()
     return server

@@ -10,7 +10,7 @@ import shutil
 import subprocess
 import tempfile
 
-from desk import DESK, FILE, PROGRAM, READING, Desk, DeskFailed, Place, Refused
+from desk import DESK, FILE, PROGRAM, READING, Desk, DeskFailed, Place, Refused, remark_in
 from etcd import GROUP, HEAD, INSTITUTION, LAST, LOG, key_of
 from journal import WORD, Founding, Journal, Useless, word_of
 
@@ -51,7 +51,7 @@ class Told:
 
     def number_in(self, path, journal):
         """The last line of the log that a file has, by its own rows."""
-        (first, last), began = journal.ends(), journal.at(self.founding.number)
+        first, began, last = journal.ends(self.founding.number)
         is_archived = first.number > self.founding.number
         if not is_archived and (not began or began.chain != self.founding.chain):
             raise Refused(f"{path} is of another institution than the log in etcd")
@@ -79,10 +79,11 @@ class Told:
         for start in range(first, number + 1, GROUP):
             end = min(start + GROUP, number + 1)
             rows = journal.between(self.founding.number + start, self.founding.number + end - 1)
-            lines = {row.number - self.founding.number: row.line for row in rows}
+            lines = {row.number - self.founding.number: (row.told, row.line) for row in rows}
             for key, value, _ in self.log.read(key_of(start), key_of(end), GROUP, None):
                 known = number_of(key)
                 line = self.log.line_in(key, value).removesuffix(b"\r")  # which the program leaves out
+                line = (word_of(self.institution, known, remark_in(value)), line)
                 if lines.get(known, line) != line:
                     raise Parted(path, known, number)
         if known < number:
@@ -238,13 +239,17 @@ class ToldDesk(Desk):
         except Useless as why:
             raise DeskFailed(why) from None
 
-    def fed(self, line, number):
-        return word_of(self.institution, number) + b" " + line
+    def fed(self, line, number, remark=b""):
+        return word_of(self.institution, number, remark) + b" " + line
 
     def is_logged(self, line, reply):
         """A receipt that is sent again leaves no row."""
         is_again = reply.startswith(b"200 ") and line.split(b" ", 3)[2].endswith(b"/repayments")
         return super().is_logged(line, reply) and not is_again
+
+    def confirm(self):
+        with self.waited_for():
+            self.place().write(self.run)
 
     def check(self):
         """Each line that was counted must have left a row."""
