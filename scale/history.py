@@ -3,6 +3,7 @@
     messages    a line of JSON for each message that was sent: who, what line, when, and what was told
     faults      a line of JSON for each fault: what, on which machine, when, until when
     log         the lines of the log, from the first on
+    told        where desks keep journals: what they were told of each of these lines
     begin.db    the file of the institution that the log began with (with begin.db-wal, where there is one)
     a.db ..     the files of the replicas at the end
     a.said ..   what the programs of each machine printed
@@ -27,16 +28,20 @@ UNKNOWN = (0, 502, 504)  # no reply, or one that doesn't say whether the message
 class Message:
     """One sending of a message. `number` is the line of the log behind which it was answered."""
 
-    def __init__(self, who, line, began, ended, status, told, number):
+    def __init__(self, who, line, began, ended, status, told, number, with_journal=False):
         self.who, self.line, self.began, self.ended = who, line, began, ended
-        self.status, self.told, self.number = status, told, number
+        self.status, self.told, self.number, self.with_journal = status, told, number, with_journal
 
     def is_reading(self):
         return self.line.split(" ", 2)[1] == "GET"
 
     def is_entered(self):
-        """Whether it was told that it changed something: then it stands in the log."""
-        return not self.is_reading() and self.status // 100 == 2
+        """Whether it was told that it stands in the log. With a journal a receipt that is sent again doesn't."""
+        return not self.is_reading() and self.status // 100 == 2 and not (self.with_journal and self.is_again())
+
+    def is_again(self):
+        """Whether its receipt stood already."""
+        return self.status == 200 and "/repayments " in self.line
 
     def is_answered(self):
         return self.status // 100 in (2, 4) and self.number is not None
@@ -45,7 +50,7 @@ class Message:
 def empty(folder):
     """Deletes the history that a folder holds, and nothing else."""
     for name in os.listdir(folder):
-        if re.fullmatch(r"messages|faults|log|(begin|[a-z])\.db(-wal)?|[a-z]\.said", name):
+        if re.fullmatch(r"messages|faults|log|told|(begin|[a-z])\.db(-wal)?|[a-z]\.said", name):
             os.remove(os.path.join(folder, name))
 
 
@@ -93,6 +98,7 @@ def standing_otherwise(messages, lines):
             yield f"{line} stands {count} times, and nobody sent it"
     for line, sendings in sent.items():
         entered = sum(it.is_entered() for it in sendings)
+        entered = entered or int(any(it.is_again() for it in sendings))
         unknown = sum(it.status in UNKNOWN for it in sendings)
         if not entered <= stands[line] <= entered + unknown:
             yield f"{line} stands {stands[line]} times: {entered} times it was told so, {unknown} times nothing"
@@ -122,7 +128,13 @@ def single_run(folder, messages, lines, path):
             stream.append(message.line.encode())
     copy_file(folder, "begin.db", path)
     words = [PROGRAM, "batch", "--existing", "--file", path]
-    done = subprocess.run(words, input=b"".join(it + b"\n" for it in stream), stdout=subprocess.PIPE, check=True)
+    fed = stream
+    if os.path.exists(os.path.join(folder, "told")):
+        words += ["--journal", "--told"]
+        with open(os.path.join(folder, "told"), "rb") as file:
+            told = dict(zip(places.values(), file.read().split(b"\n")))
+        fed = [told.get(place, b"-") + b" " + line for place, line in enumerate(stream)]
+    done = subprocess.run(words, input=b"".join(it + b"\n" for it in fed), stdout=subprocess.PIPE, check=True)
     replies = done.stdout.decode().split("\n")[:-1]
     for message in filter(Message.is_answered, messages):
         place = places.get(message.number) if message.is_entered() else getattr(message, "place", None)
@@ -139,7 +151,7 @@ def receipts_otherwise(messages, path):
         entries[receipt].append((f"{office:04}-{loan:06}", number))
     file.close()
     for message in messages:
-        if message.is_entered() and "/repayments " in message.line:
+        if (message.is_entered() or message.is_again()) and "/repayments " in message.line:
             path, body = message.line.split(" ", 3)[2:]
             wanted = [(path.split("/")[2], json.loads(message.told)["entry"])]
             found = entries[json.loads(body)["receipt"]]
