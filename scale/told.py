@@ -143,9 +143,7 @@ class Told:
         """How far the file is that was followed last; -1 where it is set aside. That is where the copy is newer, or
         where the file was the writer's, and has lines that never came into the log."""
         path = folder.path_of(DESK)
-        place = Place.beside(path)
-        if not place:
-            raise Refused(f"{path} doesn't say what it is: it was made by hand")
+        place = self.place_beside(path)
         self.known_to_be_ours(path, place)
         try:
             if self.number_in(path, Journal(path)) >= base:
@@ -159,6 +157,18 @@ class Told:
                 raise Refused(str(parted)) from None
             self.set_aside(folder, f"lines {parted.number} to {parted.last} never came into the log")
         return -1
+
+    def place_beside(self, path):
+        """What is noted beside the file. It isn't synced, so it may be lost with the machine's power: the rows of the
+        file say all else."""
+        try:
+            place = Place.beside(path)
+        except Refused:
+            place = Place(self.institution, writes=True)
+            place.write(path)
+        if not place:
+            raise Refused(f"{path} doesn't say what it is: it was made by hand")
+        return place
 
     def set_aside(self, folder, why):
         self.said.append(f"goes on from an earlier file: {why}")

@@ -133,6 +133,20 @@ class Replica(unittest.TestCase):
         self.root.run(f"systemctl reset-failed {UNIT}; systemctl start {UNIT}")
         self.enter("After the upgrade")
 
+    def test_with_a_journal_it_goes_on_from_its_own_file(self):
+        self.root.run(f"systemctl stop {UNIT} etcd; rm -rf {FOLDER}/* /var/lib/etcd/microloan")
+        self.root.run(f"microloan-replica-setup --again --journal --name a {MACHINES}")
+        self.root.run(f"systemctl start etcd; systemctl start {UNIT}")
+        self.enter("Before the kill")
+        self.root.run(f"systemctl kill --signal=KILL --kill-who=main {UNIT}")
+        self.enter("After the kill")
+        self.root.run(f"systemctl stop {UNIT}")
+        self.assertEqual(self.kept(), ["desk", "lock"])
+        file = f"{FOLDER}/desk/desk.db"
+        self.assertIn("a sound institution with a journal", self.root.run(f"microloan why --file {file}"))
+        told = self.root.run(f"sqlite3 -readonly {file} 'select told from journal order by number'").split()
+        self.assertEqual([word.partition("/")[2] for word in told], ["000000000001", "000000000002"])
+
     def test_it_may_do_little(self):
         told = self.root.run(f"systemd-analyze security --no-pager {UNIT} | tail -n 1")
         self.assertLessEqual(float(told.split(":")[1].split()[0]), MOST_EXPOSED, told)
