@@ -53,7 +53,7 @@ class Overdue(loans.Case):
                         "Days overdue": "31",
                         "Principal overdue": "333.33",
                         "Overdue in all": "343.33",
-                        "Outstanding principal": "1,000.00",
+                        **({"Left to pay": "1,020.00"} if loans.HAS_LISTS else {"Outstanding principal": "1,000.00"}),
                     }
                 ],
             )
