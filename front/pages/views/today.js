@@ -20,7 +20,9 @@ const SOON = 7;
 const FAR = 31;
 
 export async function today(page) {
-    const [list, report] = await Promise.all([offices(true), read("/reports/arrears"), renewDay()]);
+    const [report] = await Promise.all([read("/reports/arrears"), renewDay()]);
+    const known = await offices();
+    const list = known.length === report.offices.length ? known : await offices(true);  // one was opened since
     window.dispatchEvent(new Event("desk-day"));
     const tree = asTree(list);
     const actions = may(HEAD_OFFICE) ? [button(say("day.move"), () => moveDay(page), {class: "btn btn-primary"})] : [];
