@@ -44,8 +44,8 @@ function figuresOf(told) {
     return [
         [say("preview.handed"), element("strong", {}, showMoney(told.handed_over))],
         BigInt(told.kept) > 0n && [say("preview.kept"), showMoney(told.kept)],
-        [say("periods"), showCount(told.instalments.length)], [say("preview.owed"), showMoney(told.owed)],
-        [capital(say("portion.interest")), all("interest")], [capital(say("portion.fees")), all("fees")],
+        [say("periods"), showCount(told.instalments.length)], [capital(say("portion.interest")), all("interest")],
+        [capital(say("portion.fees")), all("fees")], [say("preview.owed"), showMoney(told.owed)],
         [say("preview.rate"), element("strong", {class: "preview-rate"}, rate)]
     ].filter(Boolean);
 }
