@@ -9,7 +9,6 @@ const KEPT_AS = "has-lists";
 const LOANS_OF_A_PAGE = 200;
 export const CLIENTS_OF_A_PAGE = 500;
 export const MOST_FOUND = 50;
-const MOST_PAGES = 2000;  // of clients: an office has at most 999,999
 
 let probing = null;
 
@@ -169,18 +168,4 @@ export function staffWords(staff) {
 // what a loan would be that is submitted, and paid out on a day
 export function preview({product, principal, periods, day}) {
     return listed(read(`/lists/schedule/${product}/${principal}/${periods}/${day}`));
-}
-
-// The highest number of an office's clients, who are numbered without gaps.
-export async function lastClient(office) {
-    let [low, high] = [0, null];  // pages below `low` are full, that at `high` is empty
-    while (low !== high) {
-        const place = high === null ? Math.min(low * 2, MOST_PAGES - 1) : Math.floor((low + high) / 2);
-        const page = await clientsAfter(office, place * CLIENTS_OF_A_PAGE);
-        if (page.length > 0 && page.length < CLIENTS_OF_A_PAGE) {
-            return numberOf(page.at(-1).client);
-        }
-        [low, high] = page.length === 0 ? [low, place] : [place + 1, high];
-    }
-    return low * CLIENTS_OF_A_PAGE;
 }

@@ -3,8 +3,8 @@ import {button, card, element, emptyState, fill, freshId, link, spinner} from ".
 import {change, readIfThere} from "../shared/api.js";
 import {may, OFFICER, session} from "../shared/session.js";
 import {accountOf, asTree, clientsOf, isAccount, numberOf, offices} from "../shared/desk.js";
-import {clientsAfter, CLIENTS_OF_A_PAGE, findClients, hasLists, lastClient, MOST_FOUND} from "../shared/lists.js";
-import {findIn} from "../shared/finding.js";
+import {clientsAfter, CLIENTS_OF_A_PAGE, findClients, hasLists, MOST_FOUND} from "../shared/lists.js";
+import {findIn} from "../shared/find-box.js";
 import {plain, say, showCount} from "../shared/words.js";
 import {countOrDash, officeChoice, pageHead, row, table} from "../shared/tables.js";
 import {ask, note} from "../shared/dialogs.js";
@@ -13,6 +13,7 @@ import {keptWriting, Writing} from "../shared/writing.js";
 import {showRefusal} from "../shared/refusals.js";
 
 const SHOWN_AT_MOST = 100;
+const MOST_PAGES = 2000;  // of 500 clients: an office has at most 999,999
 
 export async function clients(page, office = session.office, after = "0") {
     const number = Number(office);
@@ -164,6 +165,20 @@ export function clientWriting(office, name) {
         send: async () => (await change("POST", "/clients", {office, name})).body,
         find: async (count) => ((await hasLists()) ? findNew(office, name, count) : findAmong(office, name, count)),
     });
+}
+
+// The highest number of an office's clients, who are numbered without gaps.
+async function lastClient(office) {
+    let [low, high] = [0, null];  // pages below `low` are full, that at `high` is empty
+    while (low !== high) {
+        const place = high === null ? Math.min(low * 2, MOST_PAGES - 1) : Math.floor((low + high) / 2);
+        const page = await clientsAfter(office, place * CLIENTS_OF_A_PAGE);
+        if (page.length > 0 && page.length < CLIENTS_OF_A_PAGE) {
+            return numberOf(page.at(-1).client);
+        }
+        [low, high] = page.length === 0 ? [low, place] : [place + 1, high];
+    }
+    return low * CLIENTS_OF_A_PAGE;
 }
 
 async function findNew(office, name, count) {
