@@ -49,16 +49,18 @@ async function readLoans(account) {
     return told.length === 0 ? null : loanTable(told.reverse(), say("client.loans"), false);
 }
 
-// a client's loans as a list tells them, the last one first; none where there is no loan
-export function listedLoans(loans) {
+// A client's loans as a list tells them, the last one first; none where there is no loan. isNarrow: for a dialog, without
+// the days of pay-out.
+export function listedLoans(loans, isNarrow = false) {
+    const paidOut = ({disbursed}) => (isNarrow ? [] : [disbursed === null ? "–" : day(disbursed)]);
     const rows = [...loans].reverse().map(
         (one) => row([
             {head: link(`#/loan/${one.loan}`, one.loan)},
             [statusBadge(one.status), one.overdue > 0 && [" ", overdueBadge(one.overdue)]],
-            one.disbursed === null ? "–" : day(one.disbursed), amount(one.principal), amount(one.left)
+            ...paidOut(one), amount(one.principal), amount(one.left)
         ]));
     const columns = [
-        {words: say("loan")}, {words: say("status")}, {words: say("loan.paid-out")},
+        {words: say("loan")}, {words: say("status")}, ...(isNarrow ? [] : [{words: say("loan.paid-out")}]),
         {words: say("principal"), kind: "number"}, {words: say("left-to-pay"), kind: "number"}
     ];
     return rows.length === 0 ? null : table({caption: say("client.loans"), columns, rows}).node;

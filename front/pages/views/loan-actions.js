@@ -90,7 +90,7 @@ function stepTo(step, status, isGrave = false) {
 function approve(told, again) {
     const text = [
         told.preview && previewNodes(told.preview, session.day),
-        told.others && [element("h2", {class: "h6"}, say("loan.others")), othersOf(told)]
+        told.others && [element("h2", {class: "h6"}, say("loan.others")), othersOf(told, true)]
     ].filter(Boolean);
     const writing = stepWriting(told, "approve", 200);
     const values = {amount: showMoney(told.principal)};

@@ -78,8 +78,8 @@ function planned(told) {
 }
 
 // what a client has of other loans while one of theirs waits
-export function othersOf({loan: account, others}) {
-    return listedLoans(others.filter((one) => one.loan !== account)) ?? emptyState(say("loan.no-others"));
+export function othersOf({loan: account, others}, isNarrow = false) {
+    return listedLoans(others.filter((one) => one.loan !== account), isNarrow) ?? emptyState(say("loan.no-others"));
 }
 
 function head(told, actions) {
