@@ -934,7 +934,8 @@ class Drafts(Case):
         const real = window.fetch;
         window.fetch = async (url, options) => {
             const reply = await real(url, options);
-            return options?.method === "POST" ? new Promise(() => {}) : reply;
+            const isWriting = options?.method === "POST" && !url.endsWith("/lists/find");
+            return isWriting ? new Promise(() => {}) : reply;
         };
     """
 
