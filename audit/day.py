@@ -11,6 +11,7 @@ sys.path.append(os.path.dirname(os.path.dirname(os.path.abspath(__file__))))  # 
 import front_log
 
 READS = ("GET", "HEAD")
+FIND = "/api/lists/find"  # a reading with a body
 DONE = (200, 201)
 CREATED = 201
 PASSED_ON = "/api"
@@ -24,14 +25,18 @@ def is_passed_on(message):
     return bool(message["staff"]) and message["path"].startswith(PASSED_ON + "/")
 
 
+def is_reading(message):
+    return message["method"] in READS or message["path"] == FIND
+
+
 def has_changed(message):
     """Whether the program did what it asks for. What is refused changes nothing."""
-    return is_passed_on(message) and message["method"] not in READS and message["status"] in DONE
+    return is_passed_on(message) and not is_reading(message) and message["status"] in DONE
 
 
 def is_lost(message):
     """Whether the front got no reply of the program's that tells whether it was done."""
-    return is_passed_on(message) and message["method"] not in READS and message["status"] >= 500
+    return is_passed_on(message) and not is_reading(message) and message["status"] >= 500
 
 
 def path_of(message):

@@ -51,6 +51,12 @@ def program():
     return os.environ.get("MICROLOAN") or os.path.join(TOP, "microloan")
 
 
+def has_lists():
+    """Whether the program has lists for the pages: an older one doesn't."""
+    done = subprocess.run([program(), "serve", "--help"], stdout=subprocess.PIPE, check=False)
+    return b"--lists" in done.stdout
+
+
 def free_port():
     """A port below those that the kernel gives to connections: none of these takes it before it is listened on."""
     while True:
@@ -88,13 +94,15 @@ def is_readable_by_workers(path):
 class Serve:
     """`microloan serve` over a file."""
 
-    def __init__(self, path, port):
+    def __init__(self, path, port, lists=None):
         self.path = path
         self.port = port
+        self.lists = has_lists() if lists is None else lists
         self.process = None
 
     def start(self):
         words = [program(), "serve", "--existing", "--file", self.path, "--port", str(self.port)]
+        words += ["--lists"] if self.lists else []
         self.process = start_beside(words, umask=0o077)
         wait_for(self.port, self.process, "microloan serve")
 

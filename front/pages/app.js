@@ -8,6 +8,8 @@ import {institution, learnInstitution, recallInstitution} from "./shared/institu
 import {keptWords, whenKeptChanges} from "./shared/kept.js";
 import {refusalBox, refusalLine, showRefusal} from "./shared/refusals.js";
 import {officeNamed, offices} from "./shared/desk.js";
+import {hasLists} from "./shared/lists.js";
+import {findBox} from "./shared/find-box.js";
 import {leaveForSignIn, ownActs} from "./shared/person.js";
 import {LANGUAGES, chooseLanguage, language, locale, say, showDay} from "./shared/words.js";
 
@@ -131,8 +133,8 @@ function person(officeName) {
         element("div", {class: "person-office"}, `${session.staff} ${officeName}`));
 }
 
-// end: what stands at the bar's end, before the choice of a language
-function topBar(dayWords, end) {
+// end: what stands at the bar's end, before the choice of a language; finder: the box that finds, where there is one
+function topBar(dayWords, end, finder) {
     const ways = WAYS.map(
         ([name]) => element(
             "li", {class: "nav-item"},
@@ -160,7 +162,7 @@ function topBar(dayWords, end) {
         "header", {class: "bar d-print-none"},
         element(
             "nav", {class: "navbar navbar-expand-lg navbar-dark container-xl", "aria-label": say("ways")},
-            link("#/today", institution.name, {class: "navbar-brand"}), day, toggler, inner));
+            link("#/today", institution.name, {class: "navbar-brand"}), day, toggler, finder, inner));
 }
 
 // Each page tells what was typed into rounds and not sent, in this browser and on this phone, and leads there.
@@ -237,10 +239,11 @@ async function begin() {
     const clock = setTimeout(offer, SLOW);
     try {
         await Promise.all([learnInstitution(), beginSession(), load(place().name)]);
-        const name = (await officeNamed(session.office))?.name ?? "";
+        const [office, isListed] = await Promise.all([officeNamed(session.office), hasLists()]);
         if (own === attempt) {
             without = null;
-            await showFrame(topBar(showDay(session.day), [person(name), ownActs(session)]));
+            const end = [person(office?.name ?? ""), ownActs(session)];
+            await showFrame(topBar(showDay(session.day), end, isListed ? findBox() : null));
         }
     } catch (problem) {
         if (own === attempt) {
@@ -268,7 +271,7 @@ async function beginWithout(problem) {
     without = problem;
     endSession();
     recallInstitution();
-    await showFrame(topBar(say(problem.hasNoReply ? "without.network" : "without.desk"), null));
+    await showFrame(topBar(say(problem.hasNoReply ? "without.network" : "without.desk"), null, null));
 }
 
 // The network is back: the desk is begun with, unless something is being typed or asked.

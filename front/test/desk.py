@@ -7,7 +7,8 @@
         browser = it.browser("tom", width=360)    a selenium webdriver, signed in as tom, at the first page
         it.kill_serve(); it.start_serve()
 
-Desk(file=PATH) takes an institution's file that is there, Desk(pages=FOLDER) other pages. People sign in by Basic, and by
+Desk(file=PATH) takes an institution's file that is there, Desk(pages=FOLDER) other pages. The program has lists for the
+pages where it can; with Desk(lists=False) it has none. People sign in by Basic, and by
 sessions with Desk(sessions=True), or where MICROLOAN_SIGN_IN is `sessions`. All ends with the block.
 Screenshots go into the folder that MICROLOAN_SHOTS names, else into out/shots of the checkout.
 """
@@ -59,12 +60,12 @@ def copy_file(path, other):
 class Desk:
     """A front over the program, in a folder of its own, from its start to its end."""
 
-    def __init__(self, lines=None, file=None, pages=None, people=None, sessions=None, minutes=()):
+    def __init__(self, lines=None, file=None, pages=None, people=None, sessions=None, minutes=(), lists=None):
         self.folder = tempfile.mkdtemp(prefix="microloan-test-")
         self.file = os.path.join(self.folder, "desk.db")
         self.drivers = []
         self.replies = []
-        self.serve = running.Serve(self.file, running.free_port())
+        self.serve = running.Serve(self.file, running.free_port(), lists)
         self.cookies = {}
         by_sessions = SESSIONS if sessions is None else sessions
         self.sign_in = running.SignIn(os.path.join(self.folder, "sign-in"), *minutes) if by_sessions else None

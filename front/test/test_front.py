@@ -657,6 +657,9 @@ class People(unittest.TestCase):
         for method in ("PUT", "DELETE", "PATCH", "OPTIONS", "PROPFIND"):
             refused = DESK.send("auditor", method, "/api/business-day", {"day": "2024-01-02"}, **own)
             self.assertEqual(refused, (403, {"front": "reader"}))
+        # a find is a reading: it gets to the program, which has lists or hasn't
+        status, told = DESK.send("auditor", "POST", "/api/lists/find", {"office": 2, "part": "a"}, **own)
+        self.assertIn((status, told.get("fault")), [(200, None), (404, "F5")])
         self.assertEqual(count_clients(), before)
         browser = DESK.browser("auditor", password="password of one")
         desk_wait(lambda: "auditor" in browser.page_source)

@@ -61,13 +61,13 @@ class Amounts(loans.Case):
             tom.fill("Amount", "20")
             self.assertFalse(tom.all(".doubt"))
             tom.press("Enter a repayment", ".modal.show")
-            tom.wait_for_dialog("was entered on this loan since this page was loaded: entry 1, by 2/2.")
+            tom.wait_for_dialog("was entered on this loan since this page was loaded: entry 1, by " + loans.who("2/2"))
             self.assertIn("990.00 → 970.00", tom.text(".doubt"))
             tom.send("Enter 20.00 all the same")
             tom.open_dialog("Enter a repayment")
             tom.fill("Amount", "20")
             tom.press("Enter a repayment", ".modal.show")
-            tom.wait_for_dialog("20.00 of Mar 31, 2024 is entered on this loan already: entry 2, by 2/3.")
+            tom.wait_for_dialog("20.00 of Mar 31, 2024 is entered on this loan already: entry 2, by " + loans.who("2/3"))
             tom.cancel()
             self.assertEqual(repayments(it), [(3000, "2/2"), (2000, "2/3")])
 
@@ -184,7 +184,7 @@ class SharedRounds(loans.Case):
             tom.wait(lambda: len(tom.all("[data-result=entered]")) == 2, "the results")
             self.enter(zoe, 2)
             zoe.wait(lambda: zoe.all("[data-result=repeated]") and zoe.all("[data-result=F15]"), "the results")
-            zoe.wait(lambda: "20.00 entered by 2/3" in zoe.text("main"), "what stands")
+            zoe.wait(lambda: f"20.00 entered by {loans.who('2/3')}" in zoe.text("main"), "what stands")
             self.assertEqual((repayments(it, 1), repayments(it, 2)), ([(10000, "2/3")], [(2000, "2/3")]))
             zoe.press("Enter 30.00 as a further payment")
             zoe.wait(lambda: not zoe.all("[data-result=F15]"), "the further payment")
@@ -206,7 +206,7 @@ class SharedRounds(loans.Case):
             tom.wait(lambda: tom.all("[data-result=entered]"), "the result")
             self.assertEqual(it.send("tom", "GET", "/api/loans/0002-000001")[1]["status"], 600)
             zoe.go(ROUND)
-            zoe.wait(lambda: "1,020.00 entered by 2/3" in zoe.text("main"), "what was entered")
+            zoe.wait(lambda: f"1,020.00 entered by {loans.who('2/3')}" in zoe.text("main"), "what was entered")
             self.assertNotIn("Further payment", zoe.text("main"), "nothing is left to pay")
 
     def test_lines_stay_where_others_cannot_be_read(self):

@@ -292,7 +292,7 @@ class Many(loans.Case):
                 "try { return await real(...words); } finally { window.now--; } }"
             )
             took = zoe.module(
-                "const from = performance.now(); location.hash = '#/loans/2';"
+                "const from = performance.now(); location.hash = '#/loans/2/all';"
                 "while (!document.querySelector('.pager')) await new Promise((go) => setTimeout(go, 5));"
                 "return performance.now() - from"
             )

@@ -113,8 +113,8 @@ function judged({status, text}) {
 }
 
 // Chromium sends no request from a page whose address has a password in it unless the address is given without one.
-function send(method, path, body) {
-    return inTurn(method === "GET", async () => judged(await fetchOnce(method, location.origin + path, body)));
+function send(method, path, body, isReading = method === "GET") {
+    return inTurn(isReading, async () => judged(await fetchOnce(method, location.origin + path, body)));
 }
 
 async function tryAgain(once) {
@@ -134,6 +134,11 @@ async function tryAgain(once) {
 // the body of the reply; a reading may be sent again, since it changes nothing
 export async function read(path) {
     return (await tryAgain(() => send("GET", `/api${path}`))).body;
+}
+
+// the same of a reading that has a body
+export async function look(path, body) {
+    return (await tryAgain(() => send("POST", `/api${path}`, body, true))).body;
 }
 
 // the body of the reply, or null where the thing isn't there or isn't seen

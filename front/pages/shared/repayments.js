@@ -1,6 +1,7 @@
 // Repayments before they are sent: what speaks against one, so that it is asked once more.
 import {element} from "./elements.js";
 import * as desk from "./desk.js";
+import {learnStaff, staffWords} from "./lists.js";
 import {say, showDay, showMoney} from "./words.js";
 import {facts} from "./tables.js";
 
@@ -36,6 +37,7 @@ export async function doubtsOf({loan, amount, day, receipt}, known) {
     const paid = entries.filter(({kind, reversed}) => kind === "repayment" && !reversed);
     const isNew = (entry) => entry.entry > known.entries;
     const isEqual = (entry) => BigInt(entry.amount) === cents && entry.day === day;
+    await learnStaff(paid.map((entry) => entry.staff));
     const doubts = [
         over > 0n && say("doubt.above", {amount: showMoney(cents), owed: showMoney(owed)}),
         ...paid.filter(isNew).map((entry) => say("doubt.since", wordsOf(entry))),
@@ -46,7 +48,7 @@ export async function doubtsOf({loan, amount, day, receipt}, known) {
 }
 
 function wordsOf({amount, day, staff, entry}) {
-    return {amount: showMoney(amount), day: showDay(day), staff, number: entry};
+    return {amount: showMoney(amount), day: showDay(day), staff: staffWords(staff), number: entry};
 }
 
 // the doubts in words, and the figures before and after

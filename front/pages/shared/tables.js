@@ -1,6 +1,6 @@
 // Tables, badges and figures that several pages show.
 import {element, freshId} from "./elements.js";
-import {say, sayCount, showDay, showMoney} from "./words.js";
+import {say, sayCount, showCount, showDay, showMoney} from "./words.js";
 
 // columns: { words, kind, isHidden, isWide }: kind "number" is set right; a wide one has a line of its own on a phone.
 // rows, foot: made by `row`. On a phone each row becomes a block in which every cell stands behind its column's words;
@@ -63,6 +63,12 @@ export function amount(cents) {
 // 0 as a dash, so that what is there stands out
 export function amountOrDash(cents) {
     return BigInt(cents) === 0n ? {number: element("span", {class: "text-muted"}, "–")} : amount(cents);
+}
+
+// how many there are, 0 as a dash; marked where it is one too many
+export function countOrDash(count, isGrave = false) {
+    const words = count === 0 ? element("span", {class: "text-muted"}, "–") : showCount(count);
+    return {number: count > 0 && isGrave ? element("span", {class: "badge status-grave"}, words) : words};
 }
 
 const STATUS_COLOURS = {

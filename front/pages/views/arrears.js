@@ -12,10 +12,12 @@ import {
     offices,
     openSince,
     overdueOf,
-    schedule
+    schedule,
+    total
 } from "../shared/desk.js";
+import {dueBy, hasLists} from "../shared/lists.js";
 import {centsOfText, sum} from "../shared/money.js";
-import {daysBetween} from "../shared/days.js";
+import {dayOfNumber, daysBetween, FIRST_DAY, numberOfDay} from "../shared/days.js";
 import {say, showCount, showDay, showPercent} from "../shared/words.js";
 import {amount, day, pageHead, row, table} from "../shared/tables.js";
 import {classBars, CLASS_COLOURS} from "../shared/graphs.js";
@@ -104,8 +106,33 @@ async function officeArrears(page, office, report) {
                                ],
                            }).node),
         element("div", {class: "mt-3"}, card(say("arrears.loans"), place)));
-    const overdue = await overdueLoans(office.number);
-    fill(place, overdue.length === 0 ? emptyState(say("arrears.none")) : overdueTable(overdue));
+    const isListed = await hasLists();
+    const show = (overdue) =>
+        fill(place, overdue.length === 0 ? emptyState(say("arrears.none")) : overdueTable(overdue, isListed));
+    const more = (overdue) => {
+        show(overdue);
+        place.append(spinner(say("loading")));
+    };
+    show(isListed ? await listedOverdue(office.number, more) : await overdueLoans(office.number));
+}
+
+// The same by the desk's lists, which tell in place of the outstanding principal all that is left to pay. Overdue is
+// what was due before the business day. More than 200 loans come one page after the other.
+export async function listedOverdue(office, whenMore) {
+    if (session.day === FIRST_DAY) {
+        return [];
+    }
+    const before = dayOfNumber(numberOfDay(session.day) - 1);
+    const lines = (list) => list.map(({loan: account, name, client, oldest, due, left}) => ({
+        account,
+        name,
+        client,
+        since: oldest,
+        days: daysBetween(oldest, session.day),
+        overdue: {principal: BigInt(due.principal), all: total(due)},
+        remaining: BigInt(left)
+    })).sort((one, other) => other.days - one.days);
+    return lines(await dueBy(office, before, (list) => whenMore(lines(list))));
 }
 
 // the active loans of an office of which something is overdue, the longest overdue first
@@ -120,7 +147,8 @@ async function overdueLoans(office) {
         }
         const [told, entryList] = await Promise.all([loan(account), entries(account)]);
         const overdue = overdueOf(instalments, entryList, session.day);
-        return {account, since, days, told, overdue, name: await clientName(told.client)};
+        const remaining = BigInt(told.outstanding.principal);
+        return {account, since, days, client: told.client, overdue, remaining, name: await clientName(told.client)};
     }));
     return seen.filter((one) => one !== null).sort((one, other) => other.days - one.days);
 }
@@ -135,23 +163,24 @@ function dot(name) {
     return mark;
 }
 
-function overdueTable(overdue) {
+// overdue: each with what remains of it: all that is left to pay where it was listed, else the outstanding principal
+function overdueTable(overdue, isListed) {
     const rows = overdue.map((one) => row([
                                  {head: link(`#/loan/${one.account}`, one.account)}, one.name, day(one.since),
                                  {number: [dot(classOf(one.days)), showCount(one.days)]}, amount(one.overdue.principal),
-                                 amount(one.overdue.all), amount(one.told.outstanding.principal)
+                                 amount(one.overdue.all), amount(one.remaining)
                              ]));
     const foot = row(
         [
             {head: say("all")}, "", "", "", amount(sum(overdue.map((one) => one.overdue.principal))),
-            amount(sum(overdue.map((one) => one.overdue.all))),
-            amount(sum(overdue.map(({told}) => told.outstanding.principal)))
+            amount(sum(overdue.map((one) => one.overdue.all))), amount(sum(overdue.map(({remaining}) => remaining)))
         ],
         {class: "fw-semibold"});
     const columns = [
         {words: say("loan")}, {words: say("client")}, {words: say("overdue-since")},
         {words: say("overdue.days"), kind: "number"}, {words: say("overdue.principal"), kind: "number"},
-        {words: say("overdue.all"), kind: "number"}, {words: say("outstanding.principal"), kind: "number"}
+        {words: say("overdue.all"), kind: "number"},
+        {words: say(isListed ? "left-to-pay" : "outstanding.principal"), kind: "number"}
     ];
     return table({caption: say("arrears.loans"), columns, rows, foot}).node;
 }

@@ -1,5 +1,5 @@
 // A client with their loans; a new loan.
-import {button, card, element, emptyState, fill, spinner} from "../shared/elements.js";
+import {button, card, element, emptyState, fill, link, spinner} from "../shared/elements.js";
 import {change, Problem} from "../shared/api.js";
 import {may, OFFICER} from "../shared/session.js";
 import {
@@ -14,12 +14,14 @@ import {
     officeOf,
     products
 } from "../shared/desk.js";
+import {hasLists, loansOfListed} from "../shared/lists.js";
 import {say, showPercent, showStep} from "../shared/words.js";
-import {facts, pageHead} from "../shared/tables.js";
+import {amount, day, facts, overdueBadge, pageHead, row, statusBadge, table} from "../shared/tables.js";
 import {ask, note} from "../shared/dialogs.js";
 import {choiceField, moneyField, moneyRange, numberField, numberRange} from "../shared/forms.js";
 import {keptWriting, Writing} from "../shared/writing.js";
 import {loanTable} from "./loans.js";
+import {previewField} from "./preview.js";
 
 export async function client(page, account) {
     if (!isAccount(account ?? "")) {
@@ -38,10 +40,30 @@ export async function client(page, account) {
         }),
         card(null, facts([[say("client.number"), account], [say("office"), officeWords]])),
         element("div", {class: "mt-3"}, card(say("client.loans"), place)));
+    const made = (await hasLists()) ? listedLoans(await loansOfListed(account)) : await readLoans(account);
+    fill(place, made ?? emptyState(say("client.no-loans")));
+}
+
+async function readLoans(account) {
     const told = await Promise.all((await loansOfClient(account)).map(({loan: number}) => loan(number)));
-    fill(
-        place,
-        told.length === 0 ? emptyState(say("client.no-loans")) : loanTable(told.reverse(), say("client.loans"), false));
+    return told.length === 0 ? null : loanTable(told.reverse(), say("client.loans"), false);
+}
+
+// A client's loans as a list tells them, the last one first; none where there is no loan. isNarrow: for a dialog, without
+// the days of pay-out.
+export function listedLoans(loans, isNarrow = false) {
+    const paidOut = ({disbursed}) => (isNarrow ? [] : [disbursed === null ? "–" : day(disbursed)]);
+    const rows = [...loans].reverse().map(
+        (one) => row([
+            {head: link(`#/loan/${one.loan}`, one.loan)},
+            [statusBadge(one.status), one.overdue > 0 && [" ", overdueBadge(one.overdue)]],
+            ...paidOut(one), amount(one.principal), amount(one.left)
+        ]));
+    const columns = [
+        {words: say("loan")}, {words: say("status")}, ...(isNarrow ? [] : [{words: say("loan.paid-out")}]),
+        {words: say("principal"), kind: "number"}, {words: say("left-to-pay"), kind: "number"}
+    ];
+    return rows.length === 0 ? null : table({caption: say("client.loans"), columns, rows}).node;
 }
 
 async function newLoan(account, name) {
@@ -54,7 +76,7 @@ async function newLoan(account, name) {
         title: say("loan.new"),
         text: say("loan.new.what", {client: name}),
         action: say("loan.submit"),
-        ...loanForm(open, account),
+        ...loanForm(open, account, await hasLists()),
     });
     if (made !== null) {
         note(say("loan.submitted", {loan: made.loan}));
@@ -62,11 +84,12 @@ async function newLoan(account, name) {
     }
 }
 
-function loanForm(open, account) {
+function loanForm(open, account, isListed) {
     const send = keptWriting(
         ({product, principal, periods}) =>
             loanWriting({client: account, product: Number(product), principal, periods}));
-    return {fields: loanFields(open), send};
+    const fields = loanFields(open);
+    return {fields: isListed ? {...fields, preview: previewField(fields, open)} : fields, send};
 }
 
 // The ranges of amount and periods are those of the chosen product, and are shown anew where another is chosen.
@@ -90,13 +113,27 @@ export function loanFields(open) {
     return fields;
 }
 
+// The loans of a client with a list, else those of the office: what tells later that a loan was submitted is one past
+// the last of those.
+async function lastLoan(client) {
+    const loans = (await hasLists()) ? await loansOfListed(client) : await loansOf(officeOf(client));
+    return numberOf(loans.at(-1)?.loan ?? "0000-000000");
+}
+
+async function loansSince(client, last) {
+    if (!(await hasLists())) {
+        return loansAfter(officeOf(client), last);
+    }
+    return (await loansOfListed(client)).filter((one) => numberOf(one.loan) > last);
+}
+
 export function loanWriting(asked) {
-    const office = officeOf(asked.client);
     return new Writing({
-        before: async () => numberOf((await loansOf(office)).at(-1)?.loan ?? "0000-000000"),
+        before: () => lastLoan(asked.client),
         send: async () => (await change("POST", "/loans", asked)).body,
         find: async (last) => {
-            const told = await Promise.all((await loansAfter(office, last)).map(({loan: account}) => loan(account)));
+            const since = await loansSince(asked.client, last);
+            const told = await Promise.all(since.map(({loan: account}) => loan(account)));
             const same =
                 (one) => ["client", "product", "principal", "periods"].every((name) => one[name] === asked[name]);
             return told.find(same) ?? null;

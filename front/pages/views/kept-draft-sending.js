@@ -2,6 +2,7 @@
 // for before it is sent again, and not sent again while it may still be on its way.
 import {Problem} from "../shared/api.js";
 import {accountOf, clientsOf, loan as readLoan, loansOfClient} from "../shared/desk.js";
+import {findClients, hasLists, loansOfListed} from "../shared/lists.js";
 import {idOf} from "../shared/kept.js";
 import {Told} from "../shared/refusals.js";
 import {plain, say, showMoment, showMoney} from "../shared/words.js";
@@ -86,17 +87,30 @@ async function sendNow(round, id, writing) {
     await changeDraft(round, id, () => ({account: accountIn(body)}));
 }
 
+async function clientsLike(office, name) {
+    if (await hasLists()) {
+        return findClients(office, name);
+    }
+    return (await clientsOf(office)).map((one, i) => ({name: one, client: accountOf(office, i + 1)}));
+}
+
+// the loans of a client that are asked for or run
+async function loansIn(client) {
+    const isOpen = ({status}) => OPEN.includes(status);
+    if (await hasLists()) {
+        return (await loansOfListed(client)).filter(isOpen);
+    }
+    return Promise.all((await loansOfClient(client)).filter(isOpen).map(({loan}) => readLoan(loan)));
+}
+
 // what stands and is alike: clients of that name in that office; loans of that sum and client that are asked for or run
 async function alikeOf(office, kind, asked) {
     if (kind === "client") {
-        const names = await clientsOf(office);
-        return names.map((name, i) => ({name, account: accountOf(office, i + 1)}))
+        return (await clientsLike(office, asked.name))
             .filter(({name}) => plain(name).trim() === plain(asked.name).trim())
-            .map(({name, account}) => ({account, words: `${account} ${name}`}));
+            .map(({name, client}) => ({account: client, words: `${client} ${name}`}));
     }
-    const loans = (await loansOfClient(asked.client)).filter(({status}) => OPEN.includes(status));
-    const told = await Promise.all(loans.map(({loan}) => readLoan(loan)));
-    return told.filter(({principal}) => BigInt(principal) === BigInt(asked.principal))
+    return (await loansIn(asked.client)).filter(({principal}) => BigInt(principal) === BigInt(asked.principal))
         .map(({loan, principal, status}) => ({
                  account: loan, words: `${loan} · ${showMoney(principal)} · ${say(`status.${status}`)}`
              }));

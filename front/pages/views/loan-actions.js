@@ -2,7 +2,8 @@
 import {change, repay} from "../shared/api.js";
 import {MANAGER, OFFICER, TELLER, may, session} from "../shared/session.js";
 import * as desk from "../shared/desk.js";
-import {daysBetween} from "../shared/days.js";
+import {element} from "../shared/elements.js";
+import {daysBetween, isDay} from "../shared/days.js";
 import {percentageOf, sum} from "../shared/money.js";
 import {isAskedFor, proposed} from "../shared/institution.js";
 import {doubtsOf, doubtWords, knownOf, OLD_DAYS} from "../shared/repayments.js";
@@ -10,6 +11,8 @@ import {say, showDay, showMoney, showPercent} from "../shared/words.js";
 import {ask, note} from "../shared/dialogs.js";
 import {choiceField, dayField, moneyField, reasonField, receiptField} from "../shared/forms.js";
 import {keptWriting, Writing} from "../shared/writing.js";
+import {othersOf} from "./loan.js";
+import {livePreview, previewNodes} from "./preview.js";
 
 const SEALS = ["write-off", "refund"];
 
@@ -21,7 +24,7 @@ export function loanActions(told, again) {
             made.push({words: say(`do.${name}`), run: () => run(told, again), isGrave});
         }
     };
-    offer(MANAGER, 100, "approve", stepTo("approve", 200));
+    offer(MANAGER, 100, "approve", approve);
     offer(MANAGER, 100, "reject", reject, true);
     offer(OFFICER, 100, "withdraw", stepTo("withdraw", 400, true), true);
     offer(MANAGER, 200, "disburse", disburse);
@@ -83,6 +86,17 @@ function stepTo(step, status, isGrave = false) {
     };
 }
 
+// Whoever approves sees what the loan would be, and what else the client has.
+function approve(told, again) {
+    const text = [
+        told.preview && previewNodes(told.preview, session.day),
+        told.others && [element("h2", {class: "h6"}, say("loan.others")), othersOf(told, true)]
+    ].filter(Boolean);
+    const writing = stepWriting(told, "approve", 200);
+    const values = {amount: showMoney(told.principal)};
+    return carryOut({name: "approve", told, again, values, text, send: () => writing.attempt()});
+}
+
 function reject(told, again) {
     const send = keptWriting(({reason}) => stepWriting(told, "reject", 500, {reason}));
     const values = {amount: showMoney(told.principal)};
@@ -104,8 +118,7 @@ async function disburse(told, again) {
         day: dayField(
             {label: say("loan.paid-out"), value: session.day, most: session.day, hint: say("do.disburse.hint")})
     });
-    const charge = told.terms.disbursement_charge;
-    const text = charge === null ? [] : [handedOver(told, await desk.charge(charge))];
+    const text = told.preview === null ? await feeWords(told) : [payOutPreview(told, fields.day.input)];
     const send = keptWriting((values) => stepWriting(told, "disburse", desk.ACTIVE, withoutEmpty(values)));
     const sendAndTell = async (values) => {
         await send(values);
@@ -114,6 +127,17 @@ async function disburse(told, again) {
     };
     const values = {amount: showMoney(told.principal)};
     await carryOut({name: "disburse", told, again, fields, values, text, send: sendAndTell});
+}
+
+// what is paid out on the chosen day, by the desk
+function payOutPreview({product, principal, periods}, input) {
+    const chosen = () => (isDay(input.value) ? {product, principal, periods, day: input.value} : null);
+    return livePreview([input], chosen);
+}
+
+async function feeWords(told) {
+    const charge = told.terms.disbursement_charge;
+    return charge === null ? [] : [handedOver(told, await desk.charge(charge))];
 }
 
 // What is kept as the fee of a pay-out, and what is handed over: known before it only where the fee isn't counted of

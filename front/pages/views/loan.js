@@ -21,7 +21,12 @@ import {
     table
 } from "../shared/tables.js";
 import {balanceSteps} from "../shared/graphs.js";
+import {hasLists, learnStaff, loansOfListed, staffWords} from "../shared/lists.js";
 import {loanActions, mayReverse, reverseEntry} from "./loan-actions.js";
+import {listedLoans} from "./client.js";
+import {previewNodes, previewOf} from "./preview.js";
+
+const WAITING = [100, 200];
 
 export async function loan(page, account) {
     const told = await readLoan(account);
@@ -39,7 +44,8 @@ export async function loan(page, account) {
             "div", {class: "row g-3"}, element("div", {class: "col-12 col-lg-5"}, card(say("loan.terms"), terms(told))),
             element("div", {class: "col-12 col-lg-7"}, card(say("loan.graph"), graph(told)))),
         told.day && element("div", {class: "mt-3"}, card(say("loan.balances"), balances(told))),
-        element("div", {class: "mt-3"}, card(say("loan.schedule"), scheduleTable(told))),
+        element("div", {class: "mt-3"}, planned(told)),
+        told.others && element("div", {class: "mt-3"}, card(say("loan.others"), othersOf(told))),
         element("div", {class: "mt-3"}, card(say("loan.entries"), entryTable(told, again))));
 }
 
@@ -51,13 +57,29 @@ export async function readLoan(account) {
         throw new Problem({fault: "F4"});
     }
     window.dispatchEvent(new Event("desk-day"));
-    const [name, product, office, instalments, entries] = await Promise.all([
+    const isMade = one.day !== null;  // before it is paid out a loan has neither schedule nor entries
+    const isWaiting = WAITING.includes(one.status) && await hasLists();
+    const [name, product, office, instalments, entries, preview, others] = await Promise.all([
         desk.clientName(one.client), desk.product(one.product), desk.officeNamed(desk.officeOf(account)),
-        desk.schedule(account), desk.entries(account)
+        isMade ? desk.schedule(account) : [], isMade ? desk.entries(account) : [], isWaiting ? previewOf(one) : null,
+        isWaiting ? loansOfListed(one.client) : null
     ]);
+    await learnStaff(entries.map((entry) => entry.staff));
     const since = desk.openSince(instalments);
     const overdue = one.status === desk.ACTIVE && since !== null ? Math.max(0, daysBetween(since, session.day)) : 0;
-    return {...one, name, terms: product, office, instalments, entries, since, overdue};
+    return {...one, name, terms: product, office, instalments, entries, since, overdue, preview, others};
+}
+
+// The schedule, or before it is made what it would be.
+function planned(told) {
+    return told.preview === null ?
+        card(say("loan.schedule"), scheduleTable(told)) :
+        card(say("preview.title"), previewNodes(told.preview, session.day, true));
+}
+
+// what a client has of other loans while one of theirs waits
+export function othersOf({loan: account, others}, isNarrow = false) {
+    return listedLoans(others.filter((one) => one.loan !== account), isNarrow) ?? emptyState(say("loan.no-others"));
 }
 
 function head(told, actions) {
@@ -239,7 +261,7 @@ function entryRow(told, entry, again) {
     return row(
         [
             {head: entry.entry}, day(entry.day), kind, amount(entry.amount), shareList(entry), entry.receipt ?? "–",
-            entry.staff, undo
+            staffWords(entry.staff), undo
         ],
         {class: entry.reversed ? "row-reversed" : null});
 }

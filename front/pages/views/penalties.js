@@ -14,6 +14,8 @@ import {
     product as readProduct,
     schedule
 } from "../shared/desk.js";
+import {hasLists} from "../shared/lists.js";
+import {listedOverdue} from "./arrears.js";
 import {daysBetween} from "../shared/days.js";
 import {percentageOf} from "../shared/money.js";
 import {say, showCount} from "../shared/words.js";
@@ -43,9 +45,16 @@ export async function penalties(page, number) {
                                     severalLines({caption: title, columns, lines, action: "penalties.send"}).node);
 }
 
+// The loans to look at: by the desk's lists those that are overdue, else all that are active.
+async function accountsOf(office) {
+    if (await hasLists()) {
+        return (await listedOverdue(office, () => {})).map(({account}) => account).sort();
+    }
+    return (await loansOf(office)).filter(({status}) => status === ACTIVE).map(({loan}) => loan);
+}
+
 async function linesOf(office) {
-    const active = (await loansOf(office)).filter(({status}) => status === ACTIVE);
-    return (await Promise.all(active.map(({loan}) => linesOfLoan(loan)))).flat();
+    return (await Promise.all((await accountsOf(office)).map(linesOfLoan))).flat();
 }
 
 async function linesOfLoan(account) {

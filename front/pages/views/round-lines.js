@@ -2,6 +2,7 @@
 // came of it.
 import {button, element, fill, freshId, link} from "../shared/elements.js";
 import {LEAST, MOST, sum} from "../shared/money.js";
+import {staffWords} from "../shared/lists.js";
 import {proposed} from "../shared/institution.js";
 import {plain, readMoney, say, showMoney} from "../shared/words.js";
 import {amount, day, overdueBadge, row, table} from "../shared/tables.js";
@@ -16,8 +17,9 @@ const ORDERS = {
     overdue: (one, other) => other.days - one.days || one.loan.localeCompare(other.loan),
 };
 
-// desk: { isEarly, keep(line), change(), further(line), receipts(line) }: what the round does where a line was changed
-// or is to be paid again, and the links to its receipts, where it has such.
+// desk: { isEarly, keep(line), change(), further(line), receipts(line), begin(line) }: what the round does where a line
+// was changed or is to be paid again, the links to its receipts, where it has such, and what it does before a line is
+// typed into.
 export function lineTable(lines, desk) {
     const columns = [
         {words: say("loan")}, {words: say("client")}, {words: say("due-since")},
@@ -122,6 +124,7 @@ function lineRow(line, desk) {
         show();
         desk.change();
     };
+    input.addEventListener("focus", () => desk.begin?.(line));
     input.addEventListener("input", () => type(input.value.trim()));
     why.addEventListener("change", () => {
         line.why = why.value;
@@ -159,7 +162,7 @@ function resultNodes(line, desk) {
             "div", {class: "line-paid", "data-result": line.results[one.receipt] ?? "standing"},
             say(line.results[one.receipt] === "entered" ? "round.entered" : "round.entered-by", {
                 amount: showMoney(one.amount),
-                staff: one.staff
+                staff: staffWords(one.staff)
             })));
     const isRefused = line.result !== null && line.result.startsWith("F");
     const words = line.cents !== null && isRefused ? say("round.further-with", {amount: showMoney(line.cents)}) :

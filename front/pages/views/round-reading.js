@@ -10,9 +10,11 @@ import {
     loan as readLoan,
     loansOf,
     openSince,
-    schedule
+    schedule,
+    total
 } from "../shared/desk.js";
-import {daysBetween} from "../shared/days.js";
+import {dueBy, hasLists, learnStaff, ofStatus} from "../shared/lists.js";
+import {daysBetween, LAST_DAY} from "../shared/days.js";
 import {sum} from "../shared/money.js";
 import {draftsOf, endDraft, NO_DRAFT} from "../shared/drafts.js";
 import {isAskedFor} from "../shared/institution.js";
@@ -20,8 +22,57 @@ import {knownOf} from "../shared/repayments.js";
 import {nextReceipt, paymentsOf} from "./round-receipts.js";
 import {accountOf} from "./round-state.js";
 
-// Answers the lines, how many loans have too little due to be asked for, and the loans that have no line.
+const MANY_CLOSED = 200;  // closed loans that are looked at unasked
+
+// Answers the lines, how many loans have too little due to be asked for, and the loans that have no line: null where
+// they are still to be listed.
 export async function readRound(office, day) {
+    return (await hasLists()) ? readListed(office, day) : readOneByOne(office, day);
+}
+
+// By the desk's lists: what is due stands in them, with the last entry. Of a loan that has an entry of the round's day
+// or a later one the entries are read, since the round may have a payment of it; of the others once their line is typed
+// into.
+async function readListed(office, day) {
+    const drafts = draftsOf(office, day);
+    const due = await dueBy(office, day);
+    const small = due.filter((one) => !isAskedFor(total(one.due))).length;
+    const shown = due.filter((one) => isAskedFor(total(one.due)) || drafts.has(one.loan));
+    const listed = shown.map((one) => {
+        const place = {office, day, loan: one.loan};
+        const isTouched = drafts.has(one.loan) || (one.last !== null && one.last.day >= day);
+        return isTouched ? readWhole(place, drafts.get(one.loan)) : lineOf(place, one);
+    });
+    const isShown = (loan) => shown.some((one) => one.loan === loan);
+    const further = [...drafts].filter(([loan]) => !isShown(loan))
+                        .map(([loan, draft]) => readWhole({office, day, loan}, draft));
+    return {lines: await Promise.all([...listed, ...further]), small, others: null};
+}
+
+function lineOf(place, {client, name, oldest, due, left}) {
+    return {
+        ...place,
+        client,
+        name,
+        since: oldest,
+        days: Math.max(0, daysBetween(oldest, place.day)),
+        due: total(due),
+        owed: BigInt(left),
+        known: null,
+        account: null,
+        payments: [],
+        isFurther: false,
+        results: {},
+        ...NO_DRAFT,
+        receipt: nextReceipt(place, [])
+    };
+}
+
+async function readWhole(place, draft) {
+    return readLine(place, (await schedule(place.loan)).filter((one) => isOpen(one) && one.due <= place.day), draft);
+}
+
+async function readOneByOne(office, day) {
     const drafts = draftsOf(office, day);
     const list = await loansOf(office);
     let small = 0;
@@ -44,6 +95,7 @@ async function readLine(place, instalments, draft) {
     const [told, entries] = await Promise.all([readLoan(place.loan), readEntries(place.loan)]);
     const since = openSince(instalments);
     const payments = paymentsOf(place, entries);
+    await learnStaff(payments.map(({staff}) => staff));
     const known = knownOf(told, entries);
     const isEntered = entries.some(
         ({receipt, amount, reversed}) => !reversed && receipt === draft?.receipt && BigInt(amount) === draft.cents);
@@ -71,7 +123,25 @@ async function readLine(place, instalments, draft) {
 
 // Looks for what this round has of the loans that have no line: they were paid in it and are no longer due. Of a closed
 // loan the last day of an entry doesn't change, and is kept, so that it isn't looked at again for a later round.
-export async function readOthers({office, day, others}, found) {
+// Answers those that were not looked at, since there are many: all closed ones of an office that the desk lists.
+export async function readOthers(made, found) {
+    const others = made.others ?? await othersListed(made);
+    const unknown = others.filter(({loan, status}) => status === CLOSED && lastDays(made.office).of(loan) >= made.day);
+    const left = made.others === null && unknown.length > MANY_CLOSED ? unknown : [];
+    await lookAt({...made, others: others.filter((one) => !left.includes(one))}, found);
+    return left;
+}
+
+// The loans without a line that may have a payment of the round: of the active ones those with an entry of its day or a
+// later one, and what is overpaid or closed.
+async function othersListed({office, day, lines}) {
+    const ofEach = async (status) => (await ofStatus(office, status)).map(({loan}) => ({loan, status}));
+    const [active, ...ended] = await Promise.all([dueBy(office, LAST_DAY), ofEach(OVERPAID), ofEach(CLOSED)]);
+    const paid = active.filter(({last}) => last !== null && last.day >= day).map(({loan}) => ({loan, status: ACTIVE}));
+    return [...paid, ...ended.flat()].filter(({loan}) => !lines.some((line) => line.loan === loan));
+}
+
+export async function lookAt({office, day, others}, found) {
     const last = lastDays(office);
     const wanted = others.filter(
         ({loan, status}) => [ACTIVE, OVERPAID].includes(status) || (status === CLOSED && last.of(loan) >= day));

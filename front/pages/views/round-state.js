@@ -1,5 +1,6 @@
 // What a line of a round becomes: once it was entered, as it is read again, and for one payment more.
 import {entries as readEntries, loan as readLoan} from "../shared/desk.js";
+import {learnStaff} from "../shared/lists.js";
 import {knownOf} from "../shared/repayments.js";
 import {session} from "../shared/session.js";
 import {nextReceipt, paymentsOf} from "./round-receipts.js";
@@ -32,10 +33,30 @@ export function withBefore(payments, known) {
     return payments.map((one) => ({...one, before: before.get(one.receipt)}));
 }
 
+// Of a line that a list told, what the list doesn't tell: the entries, and so what this round has of the loan already.
+// It is read before the line is typed into, taken along, or sent. A payment that somebody else entered meanwhile keeps
+// its receipt, so that what was typed is told as a repetition of it or as another amount, and never entered beside it.
+export function completeLine(line) {
+    if (line.account === null) {
+        line.completing ??= complete(line).finally(() => (line.completing = null));
+    }
+    return line.completing;
+}
+
+async function complete(line) {
+    await renewLine(line);
+    const hasStanding = line.payments.some(({reversed}) => !reversed);
+    if (line.text !== "") {
+        line.isFurther = hasStanding;
+        line.receipt = hasStanding ? line.receipt : nextReceipt(line, line.payments);
+    }
+}
+
 // reads again what the round has of a loan
 export async function renewLine(line) {
     const [told, entries] = await Promise.all([readLoan(line.loan), readEntries(line.loan)]);
     line.payments = withBefore(paymentsOf(line, entries), line.payments);
+    await learnStaff(line.payments.map(({staff}) => staff));
     line.known = knownOf(told, entries);
     line.account = accountOf(told, entries);
     const paid = line.owed - line.known.owed;

@@ -6,16 +6,16 @@ import {isDay} from "../shared/days.js";
 import {sum} from "../shared/money.js";
 import {draftsOf, endDraft, keepDraft, NO_DRAFT, throwAway, whenDraftsChange} from "../shared/drafts.js";
 import {idOf, keptRounds} from "../shared/kept.js";
-import {say, sayCount, showDay, showMoney} from "../shared/words.js";
+import {say, sayCount, showCount, showDay, showMoney} from "../shared/words.js";
 import {officeChoice, pageHead} from "../shared/tables.js";
 import {choiceField, dayField, textField} from "../shared/forms.js";
 import {ask} from "../shared/dialogs.js";
 import {refusalBox} from "../shared/refusals.js";
 import {lineTable, sumsByCollector} from "./round-lines.js";
-import {readOthers, readRound} from "./round-reading.js";
+import {lookAt, readOthers, readRound} from "./round-reading.js";
 import {nextReceipt} from "./round-receipts.js";
 import {askBefore, saveSheet, sendLines, sheetCard, tally} from "./round-sheet.js";
-import {beginFurther, renewLine, settleLine} from "./round-state.js";
+import {beginFurther, completeLine, renewLine, settleLine} from "./round-state.js";
 import {canSeal} from "./kept-pin.js";
 import {takeAlong} from "./kept-taking.js";
 
@@ -83,6 +83,15 @@ function takeDrafts(made, loan) {
     showState(made);
 }
 
+// A line that is about to be typed into shows what this round has of it already.
+async function begin(made, line) {
+    if (line.account === null) {
+        await completeLine(line);
+        made.table.show(line);
+        showState(made);
+    }
+}
+
 async function renew(made, line) {
     await renewLine(line);
     made.table.show(line);
@@ -117,6 +126,7 @@ function showRound(made) {
         isEarly,
         keep: (line) => keepTyped(made, line),
         change: () => showState(made),
+        begin: (line) => begin(made, line),
         further: (line) => payFurther(made, line)
     });
     made.collector = textField({label: say("round.collector"), hint: say("round.collector.hint")});
@@ -131,7 +141,7 @@ function showRound(made) {
     fill(
         actions, button(say("print"), () => window.print(), quiet),
         button(say("round.save"), () => saveSheet(lines, `${office}-${day}`), quiet),
-        canSeal() && button(say("kept.take"), () => made.isSending || takeAlong(made), quiet));
+        canSeal() && button(say("kept.take"), () => made.isSending || takeCompleted(made), quiet));
     const {summary, trouble, propose, enter, drop} = made.parts;
     fill(
         place, isEarly && alertBox("info", say("round.early", {day: showDay(session.day)})), arrangement(made),
@@ -141,6 +151,11 @@ function showRound(made) {
             element("div", {class: "page-actions"}, drop, propose, enter)));
     followDrafts(made);
     showState(made);
+}
+
+async function takeCompleted(made) {
+    await Promise.all(made.lines.map(completeLine));
+    await takeAlong(made);
 }
 
 function smallNote({small}) {
@@ -177,12 +192,23 @@ async function addOthers(made) {
         }
     };
     try {
-        await readOthers(made, found);
+        offerClosed(made, await readOthers(made, found), found);
     } catch (problem) {
         if (made.table === undefined) {
             throw problem;
         }
         fill(made.parts.trouble, refusalBox(problem));
+    }
+}
+
+// Many closed loans are looked at where somebody asks for it.
+function offerClosed(made, others, found) {
+    if (others.length > 0) {
+        const look = button(say("round.closed", {count: showCount(others.length)}), () => {
+            look.disabled = true;
+            return lookAt({...made, others}, found).then(() => look.remove());
+        }, {class: "btn btn-sm btn-outline-secondary mt-2 d-print-none"});
+        made.place.append(look);
     }
 }
 
@@ -197,6 +223,7 @@ async function enterLines(made, lines) {
     lock(made, lines, true);
     let problem = null;
     try {
+        await Promise.all(lines.map(completeLine));
         const reason = await askBefore(lines);
         problem = reason === null ? null : await sendLines(lines, reason, (line) => tell(made, line));
     } finally {

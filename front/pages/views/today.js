@@ -3,6 +3,7 @@ import {alertBox, button, card, element, emptyState, fill, link, spinner} from "
 import {change, read} from "../shared/api.js";
 import {HEAD_OFFICE, may, renewDay, session} from "../shared/session.js";
 import {asTree, loansOf, offices} from "../shared/desk.js";
+import {hasLists, ofStatus} from "../shared/lists.js";
 import {centsOfText} from "../shared/money.js";
 import {daysBetween, LAST_DAY, dayOfNumber, numberOfDay} from "../shared/days.js";
 import {say, showCount, showDay, showMoney, showPercent} from "../shared/words.js";
@@ -19,7 +20,9 @@ const SOON = 7;
 const FAR = 31;
 
 export async function today(page) {
-    const [list, report] = await Promise.all([offices(true), read("/reports/arrears"), renewDay()]);
+    const [report] = await Promise.all([read("/reports/arrears"), renewDay()]);
+    const known = await offices();
+    const list = known.length === report.offices.length ? known : await offices(true);  // one was opened since
     window.dispatchEvent(new Event("desk-day"));
     const tree = asTree(list);
     const actions = may(HEAD_OFFICE) ? [button(say("day.move"), () => moveDay(page), {class: "btn btn-primary"})] : [];
@@ -31,7 +34,7 @@ export async function today(page) {
             element("div", {class: "col-12 col-lg-7 order-lg-2"}, card(say("today.bars"), bars(tree, report))),
             element("div", {class: "col-12 col-lg-5"}, card(say("today.waits"), waits))),
         element("div", {class: "mt-3"}, card(say("today.offices"), officeTable(tree, report))));
-    showWaiting(waits, list).catch((problem) => showRefusal(waits, problem, () => today(page)));
+    showWaiting(waits, list, report).catch((problem) => showRefusal(waits, problem, () => today(page)));
 }
 
 function sums(all) {
@@ -80,9 +83,23 @@ const ZERO = {
     over_90: "0"
 };
 
+const WAITING = [100, 200, 700];
+const MANY = 300;  // active loans, from which on three lists are fewer requests than a hundred loans by each
+
 // which loans wait, office by office
-async function showWaiting(place, list) {
-    const found = await Promise.all(list.map(async (office) => ({office, loans: await loansOf(office.number)})));
+async function loansToLookAt(office, report, isListed) {
+    const active = report.offices.find((line) => line.office === office.number)?.loans ?? 0;
+    if (!isListed || active < MANY) {
+        return loansOf(office.number);
+    }
+    const ofEach = async (status) => (await ofStatus(office.number, status)).map(({loan}) => ({loan, status}));
+    return (await Promise.all(WAITING.map(ofEach))).flat();
+}
+
+async function showWaiting(place, list, report) {
+    const isListed = await hasLists();
+    const loansIn = async (office) => ({office, loans: await loansToLookAt(office, report, isListed)});
+    const found = await Promise.all(list.map(loansIn));
     const waiting = (status) =>
         found.map(({office, loans}) => ({office, count: loans.filter((loan) => loan.status === status).length}))
             .filter(({count}) => count > 0);

@@ -1,0 +1,171 @@
+// Lists of the desk: many things by one request. The program has them where it is started with `--lists`; where it
+// hasn't, the pages ask for one thing after another.
+import {Problem, look, read} from "./api.js";
+import {session} from "./session.js";
+import {numberOf} from "./desk.js";
+import {plain} from "./words.js";
+
+const KEPT_AS = "has-lists";
+const LOANS_OF_A_PAGE = 200;
+export const CLIENTS_OF_A_PAGE = 500;
+export const MOST_FOUND = 50;
+
+let probing = null;
+
+// whether the desk has lists: asked once a session
+export function hasLists() {
+    if (session.office === 0) {
+        return Promise.resolve(false);  // nobody is known to be signed in
+    }
+    probing ??= probe().catch((problem) => {
+        probing = null;
+        throw problem;
+    });
+    return probing;
+}
+
+async function probe() {
+    const kept = sessionStorage.getItem(KEPT_AS);
+    if (kept !== null) {
+        return kept === "yes";
+    }
+    try {
+        keepStaff(session.office, (await read(`/lists/staff/${session.office}`)).staff);
+    } catch (problem) {
+        if (problem.fault !== "F5") {
+            throw problem;
+        }
+        sessionStorage.setItem(KEPT_AS, "no");
+        return false;
+    }
+    sessionStorage.setItem(KEPT_AS, "yes");
+    return true;
+}
+
+// A program that was put back to one without lists since is asked without them from the next try on.
+async function listed(asking) {
+    try {
+        return await asking;
+    } catch (problem) {
+        if (problem.fault === "F5") {
+            sessionStorage.setItem(KEPT_AS, "no");
+            probing = null;
+            throw new Problem({front: "down"});
+        }
+        throw problem;
+    }
+}
+
+// clients
+
+// up to 500 clients of an office with numbers above one
+export async function clientsAfter(office, after) {
+    return (await listed(read(`/lists/clients/${office}/${after}`))).clients;
+}
+
+async function find(office, part) {
+    return (await listed(look("/lists/find", {office, part}))).clients;
+}
+
+// Up to 50 clients of an office that have what is wanted in their name, or as their number or a loan's. Where nobody
+// has all of it as it stands, those who have each word of it.
+export async function findClients(office, wanted) {
+    const whole = await find(office, wanted);
+    const words = wanted.split(/\s+/);
+    if (whole.length > 0 || words.length === 1) {
+        return whole;
+    }
+    const longest = words.reduce((one, other) => (other.length > one.length ? other : one));
+    return (await find(office, longest)).filter(({name}) => words.every((word) => plain(name).includes(plain(word))));
+}
+
+export async function loansOfListed(client) {
+    return (await listed(read(`/lists/loans/${client}`))).loans;
+}
+
+// loans, 200 at a time; whenMore is told all that came so far
+
+async function allPages(first, readAfter, whenMore) {
+    const lines = [];
+    for (let after = first;;) {
+        const page = await readAfter(after);
+        lines.push(...page);
+        if (page.length < LOANS_OF_A_PAGE) {
+            return lines;
+        }
+        whenMore(lines);
+        after = numberOf(page.at(-1).loan);
+    }
+}
+
+// all active loans of an office of which something is due by a day and not settled
+export function dueBy(office, day, whenMore = () => {}) {
+    return allPages(0, async (after) => (await listed(read(`/lists/due/${office}/${day}/${after}`))).due, whenMore);
+}
+
+// up to 200 loans of a status
+export async function stageAfter(office, status, after) {
+    return (await listed(read(`/lists/stages/${office}/${status}/${after}`))).loans;
+}
+
+// all loans of a status
+export function ofStatus(office, status, whenMore = () => {}) {
+    return allPages(0, (after) => stageAfter(office, status, after), whenMore);
+}
+
+export function isLastPage(loans) {
+    return loans.length < LOANS_OF_A_PAGE;
+}
+
+// staff: names never change, so they are kept; one who was entered since is looked for once more
+
+const staffLists = new Map();
+
+function keepStaff(office, list) {
+    const names = new Map(list.map(({staff, name}) => [staff, name]));
+    staffLists.set(office, names);
+    return list;
+}
+
+export async function staffOf(office) {
+    return keepStaff(office, (await listed(read(`/lists/staff/${office}`))).staff);
+}
+
+async function namesOf(office, wanted) {
+    const known = staffLists.get(office);
+    if (known === undefined || (known.size > 0 && wanted.some((staff) => !known.has(staff)))) {
+        try {
+            await staffOf(office);
+        } catch (problem) {
+            if (problem.fault !== "F4") {
+                throw problem;
+            }
+            staffLists.set(office, new Map());  // an office above one's own
+        }
+    }
+    return staffLists.get(office);
+}
+
+// Learns the names of members of staff, as far as one sees their offices.
+export async function learnStaff(staff) {
+    if (await hasLists()) {
+        const offices = [...new Set(staff.map(officeOfStaff))];
+        const learn = (office) => namesOf(office, staff.filter((one) => officeOfStaff(one) === office));
+        await Promise.all(offices.map(learn));
+    }
+}
+
+function officeOfStaff(staff) {
+    return Number(staff.split("/")[0]);
+}
+
+// a member of staff with the name, where it was learnt
+export function staffWords(staff) {
+    const name = staffLists.get(officeOfStaff(staff))?.get(staff);
+    return name === undefined ? staff : `${name} (${staff})`;
+}
+
+// what a loan would be that is submitted, and paid out on a day
+export function preview({product, principal, periods, day}) {
+    return listed(read(`/lists/schedule/${product}/${principal}/${periods}/${day}`));
+}
