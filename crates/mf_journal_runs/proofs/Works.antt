@@ -14,8 +14,10 @@ use Rattle.mf_play.proofs.Received.{lines_received}
 use Rattle.mf_wire_lines.specs.Ends as lines
 use Rattle.mf_wire_lines.specs.Streams.{Streams}
 use Rattle.mf_wire.specs.OneCall.{line_of_call}
-use Rattle.mf_wire.specs.Runs.{RunsLines}
-use Rattle.mf_wire.specs.Serving.{AnswersMessage, call_of_message, EndsMessage, EndsMessageBy}
+use Rattle.mf_lists_runs.specs.Choice.{Choice}
+use Rattle.mf_lists_runs.specs.Runs.{ListsRuns}
+use Rattle.mf_lists_runs.specs.Serving.{ListsAnswerMessage}
+use Rattle.mf_wire.specs.Serving.{call_of_message, EndsMessage, EndsMessageBy}
 use Rattle.mf_sheet.specs.Ends as sheets
 use Rattle.mf_sheet.specs.Ends.{SheetStreams}
 use Rattle.mf_sheet.specs.Runs.{RunsRows}
@@ -42,47 +44,47 @@ module _ {S : Type 0} (store : Ghosts S) where
   after_run i run new are stands = (last run i, lines_of_run run i, run_grows run i are, stands)
 
   -- lines that were run
-  ran_lines : (told : Bool) (old new : S) (lines texts : List (List ℕ)) → RunsLines store told old lines texts new
+  ran_lines : (choice : Choice) (told : Bool) (old new : S) (lines texts : List (List ℕ)) → ListsRuns store choice told old lines texts new
       → Grows old new
-  ran_lines told old new lines texts runs = record {
+  ran_lines choice told old new lines texts runs = record {
     premise = runs.premise;
-    grown = λ clean i stands. let ran = runs.ran clean i stands in
+    grown = λ clean i stands. let ran = (runs.ran clean i stands).ran in
         after_run i ran.run new (lines_received told ran.run lines ran.calls) ran.follows;
   }
 
-  run_ended : (told : Bool) (old new : S) (streams : Streams) (result : Result ℕ StreamFault)
-      → lines.Ends (RunsLines store told) old new streams result → Grows old new
-  run_ended told old new streams (Ok count) ends = ran_lines told old new _ ends.answered.texts ends.answered.ran
-  run_ended told old new streams (Err fault) ends = by fault.cause ends
+  run_ended : (choice : Choice) (told : Bool) (old new : S) (streams : Streams) (result : Result ℕ StreamFault)
+      → lines.Ends (ListsRuns store choice told) old new streams result → Grows old new
+  run_ended choice told old new streams (Ok count) ends = ran_lines choice told old new _ ends.answered.texts ends.answered.ran
+  run_ended choice told old new streams (Err fault) ends = by fault.cause ends
     where
-      by : (cause : Cause) → lines.EndsBy (RunsLines store told) old new streams cause fault.answered → Grows old new
-      by Read h = ran_lines told old new _ h.answered.texts h.answered.ran
+      by : (cause : Cause) → lines.EndsBy (ListsRuns store choice told) old new streams cause fault.answered → Grows old new
+      by Read h = ran_lines choice told old new _ h.answered.texts h.answered.ran
       by Write h = elim h.broken [
-        | inl broken ↦ ran_lines told old new _ _ broken.ran
-        | inr broken ↦ ran_lines told old new _ _ broken.1.ran
+        | inl broken ↦ ran_lines choice told old new _ _ broken.ran
+        | inr broken ↦ ran_lines choice told old new _ _ broken.1.ran
       ]
       by Memory h = unchanged old new h.same
 
   -- a message that was answered
-  served : (told : Bool) (bytes text : List ℕ) (old new : S) → AnswersMessage store told bytes old text new
+  served : (choice : Choice) (told : Bool) (bytes text : List ℕ) (old new : S) → ListsAnswerMessage store choice told bytes old text new
       → Grows old new
-  served told bytes text old new a = record {
+  served choice told bytes text old new a = record {
     premise = a.answered.premise;
     grown = λ clean i stands. let answer = a.answered.answered clean i stands in
         after_run i (line_of_call (call_of_message told a.message) answer.0 ∷ []) new
         (message_received told a.message, tt) answer.1.follows;
   }
 
-  message_ended : (told : Bool) (old new : S) (streams : Streams) (result : Result Bool StreamFault)
-      → EndsMessage (AnswersMessage store told) old new streams result → Grows old new
-  message_ended told old new streams (Ok false) ends = unchanged old new ends.untouched.same
-  message_ended told old new streams (Ok true) ends = served told _ ends.text old new ends.answered
-  message_ended told old new streams (Err fault) ends = by fault.cause ends
+  message_ended : (choice : Choice) (told : Bool) (old new : S) (streams : Streams) (result : Result Bool StreamFault)
+      → EndsMessage (ListsAnswerMessage store choice told) old new streams result → Grows old new
+  message_ended choice told old new streams (Ok false) ends = unchanged old new ends.untouched.same
+  message_ended choice told old new streams (Ok true) ends = served choice told _ ends.text old new ends.answered
+  message_ended choice told old new streams (Err fault) ends = by fault.cause ends
     where
-      by : (cause : Cause) → EndsMessageBy (AnswersMessage store told) old new streams cause fault.answered → Grows
+      by : (cause : Cause) → EndsMessageBy (ListsAnswerMessage store choice told) old new streams cause fault.answered → Grows
           old new
       by Read h = unchanged old new h.untouched.same
-      by Write h = served told _ h.text old new h.answered
+      by Write h = served choice told _ h.text old new h.answered
       by Memory h = unchanged old new h.untouched.same
 
   -- a sheet whose lines were answered
@@ -113,8 +115,8 @@ module _ {S : Type 0} (store : Ghosts S) where
         ]
 
   done_grows : (work : Work) (old new : S) → IsDone store work old new → Grows old new
-  done_grows (Run told streams result) old new done = run_ended told old new streams result done
-  done_grows (Message told streams result) old new done = message_ended told old new streams result done
+  done_grows (Run choice told streams result) old new done = run_ended choice told old new streams result done
+  done_grows (Message choice told streams result) old new done = message_ended choice told old new streams result done
   done_grows (Sheet told caller streams result) old new done = sheet_ended told caller done.0 old new streams result
       done.1
 

@@ -7,25 +7,29 @@ use Rattle.mf_model.specs.Institution.{Institution, JournalLine}
 use Rattle.mf_model.specs.declared.store.InstitutionStore.{Ghosts}
 use Rattle.mf_wire_lines.specs.Ends as lines
 use Rattle.mf_wire_lines.specs.Streams.{Streams}
-use Rattle.mf_wire.specs.Runs.{RunsLines}
-use Rattle.mf_wire.specs.Serving.{AnswersMessage, EndsMessage}
+use Rattle.mf_lists_runs.specs.Choice.{Choice}
+use Rattle.mf_lists_runs.specs.Runs.{ListsRuns}
+use Rattle.mf_lists_runs.specs.Serving.{ListsAnswerMessage}
+use Rattle.mf_wire.specs.Serving.{EndsMessage}
 use Rattle.mf_sheet.specs.Ends as sheets
 use Rattle.mf_sheet.specs.Ends.{SheetStreams}
 use Rattle.mf_sheet.specs.Runs.{RunsRows}
 use Rattle.mf_journal_runs.specs.Journals.{GrewBy}
 
 -- A run of request lines, a message that is served, or a sheet that somebody sends; each with its streams and with what
--- the call answers. Lines and messages may have remarks or have none, and a sheet has one for all its lines.
+-- the call answers. By lines and messages lists may be asked for or may not, they may have remarks or have none, and a
+-- sheet has one for all its lines.
 pub data Work : Type 0 where
-  Run : Bool → Streams → Result ℕ StreamFault → Work
-  Message : Bool → Streams → Result Bool StreamFault → Work
+  Run : Choice → Bool → Streams → Result ℕ StreamFault → Work
+  Message : Choice → Bool → Streams → Result Bool StreamFault → Work
   Sheet : List ℕ → Caller → SheetStreams → Result (Unit {0}) StreamFault → Work
 
 module _ {S : Type 0} (store : Ghosts S) where
-  -- what the contract of `mf_wire::run`, `mf_wire::serve_one` or `mf_sheet::collect` says of the call, however it ended
+  -- what the contract of `mf_lists_runs::run`, `mf_lists_runs::serve_one` or `mf_sheet::collect` says of the call, however it ended
   abbrev pub IsDone : Work → S → S → Type 0
-  IsDone (Run told streams result) old new = lines.Ends (RunsLines store told) old new streams result
-  IsDone (Message told streams result) old new = EndsMessage (AnswersMessage store told) old new streams result
+  IsDone (Run choice told streams result) old new = lines.Ends (ListsRuns store choice told) old new streams result
+  IsDone (Message choice told streams result) old new =
+      EndsMessage (ListsAnswerMessage store choice told) old new streams result
   IsDone (Sheet told caller streams result) old new =
       IsCaller caller × sheets.Ends (RunsRows store told caller) old new streams result
 

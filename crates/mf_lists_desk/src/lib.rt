@@ -7,4 +7,4 @@ mod sight;
 mod store;
 
 pub use answering::answer;
-pub use store::ListStore;
+pub use store::Lists;

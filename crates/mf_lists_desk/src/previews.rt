@@ -1,6 +1,6 @@
 //! What a loan would be, by the catalogue of a store.
 
-ghost use Rattle.std.specs.Prelude.{◌≤◌};
+ghost use Rattle.std.specs.Prelude.{◌≤◌, ◌≢◌, IfErr};
 ghost use Rattle.mf_base.specs.DayText.{last_entered_day};
 ghost use Rattle.mf_model.specs.Store.{Reads};
 ghost use Rattle.mf_lists_desk.specs.Readings.{AnswersBy, charge_named_in, terms_told, preview_told};
@@ -33,7 +33,8 @@ fn terms<S: InstitutionStore>(
     principal: u64,
     periods: u32,
 ) -> Result<Terms, Fault>
-    ensures { AnswersBy S.InstitutionStore (terms_told product principal periods) store.old store.new result }
+    ensures told { AnswersBy S.InstitutionStore (terms_told product principal periods) store.old store.new result }
+    ensures refusal { IfErr result (λ f. f ≢ Fault.F19) }
 {
     let found = store.product(alloc, product)?.ok_or(Fault::F4)?;
     check_loan(&found, principal, periods)?;
@@ -53,7 +54,9 @@ pub fn preview<S: InstitutionStore>(
     day: Day,
 ) -> Result<LoanPreview, Fault>
     requires { day ≤ last_entered_day }
-    ensures { AnswersBy S.InstitutionStore (preview_told product principal periods day) store.old store.new result }
+    ensures told { AnswersBy S.InstitutionStore (preview_told product principal periods day) store.old store.new
+        result }
+    ensures refusal { IfErr result (λ f. f ≢ Fault.F19) }
 {
     let terms = terms(alloc, store, product, principal, periods)?;
     preview_on_terms(alloc, &terms, principal, periods, day)

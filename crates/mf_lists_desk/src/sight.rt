@@ -1,5 +1,6 @@
 //! Which offices a caller sees.
 
+ghost use Rattle.std.specs.Prelude.{◌≢◌, IfErr};
 ghost use Rattle.mf_lists_desk.specs.Readings.{AnswersBy, number_seen};
 
 use mf_base::Fault;
@@ -15,7 +16,8 @@ pub fn find_office<S: InstitutionStore>(
     to: OfficeNo,
     office: u32,
 ) -> Result<OfficeNo, Fault>
-    ensures { AnswersBy S.InstitutionStore (number_seen to office) store.old store.new result }
+    ensures told { AnswersBy S.InstitutionStore (number_seen to office) store.old store.new result }
+    ensures refusal { IfErr result (λ f. f ≢ Fault.F19) }
 {
     let Some(office) = OfficeNo::new(office) else {
         return Err(Fault::F4);

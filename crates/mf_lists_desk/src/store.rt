@@ -7,9 +7,11 @@ use mf_office::{Account, OfficeNo};
 use mf_statement::Listing;
 use std::alloc::Global;
 
-/// A store that tells the lists of an office, beside what the desk reads. Each call answers what the institution says,
-/// or gives up with F20, and changes nothing. Of an office that isn't there each tells an empty list.
-pub trait ListStore: InstitutionStore {
+/// What tells the lists of an office from a store of an institution, beside what the desk reads of it. A trait of its
+/// own, and not of the store, so that a crate above both can tell the lists of a store that it doesn't define. Each
+/// call answers what the institution says, or gives up with F20, and changes nothing. Of an office that isn't there
+/// each tells an empty list.
+pub trait Lists<S: InstitutionStore> {
     ghost use Rattle.std.specs.Prelude.{ℕ, List};
     ghost use Rattle.mf_lists.specs.Lists.{clients_after, due_after, find_clients, stages_after, staff_of};
     ghost use Rattle.mf_lists_desk.specs.Readings.{in_rows_of, client_loans_at};
@@ -20,58 +22,68 @@ pub trait ListStore: InstitutionStore {
 
     /// The first 500 clients of an office whose number is above one, by number.
     fn clients_after(
-        &mut self,
+        &self,
         alloc: Global,
+        store: &mut S,
         office: OfficeNo,
         after: u32,
     ) -> Result<Listing<ClientLine>, Fault>
-        ensures { Reads Self.stands Self.clean Self.leaves (in_rows_of office (clients_after after)) self.old self.new
+        ensures { Reads S.stands S.clean S.leaves (in_rows_of office (clients_after after)) store.old store.new
             result };
 
     /// The loans of a client, by number, or None where there is no such client.
     fn loans_of_client(
-        &mut self,
+        &self,
         alloc: Global,
+        store: &mut S,
         client: Account,
     ) -> Result<Option<Listing<ClientLoan>>, Fault>
-        ensures { Reads Self.stands Self.clean Self.leaves (client_loans_at client) self.old self.new result };
+        ensures { Reads S.stands S.clean S.leaves (client_loans_at client) store.old store.new result };
 
     /// The first 200 active loans of an office whose number is above one and of which something is due by a day and
     /// outstanding, by number.
     fn due_after(
-        &mut self,
+        &self,
         alloc: Global,
+        store: &mut S,
         office: OfficeNo,
         day: Day,
         after: u32,
     ) -> Result<Listing<DueLine>, Fault>
-        ensures { Reads Self.stands Self.clean Self.leaves (in_rows_of office (due_after day after)) self.old self.new
+        ensures { Reads S.stands S.clean S.leaves (in_rows_of office (due_after day after)) store.old store.new
             result };
 
     /// The first 200 loans of an office whose number is above one and that have a status, by number.
     fn stages_after(
-        &mut self,
+        &self,
         alloc: Global,
+        store: &mut S,
         office: OfficeNo,
         status: u32,
         after: u32,
     ) -> Result<Listing<StageLine>, Fault>
-        ensures { Reads Self.stands Self.clean Self.leaves (in_rows_of office (stages_after status after)) self.old
-            self.new result };
+        ensures { Reads S.stands S.clean S.leaves (in_rows_of office (stages_after status after)) store.old store.new
+            result };
 
     /// The staff of an office, by number.
-    fn staff_of(&mut self, alloc: Global, office: OfficeNo) -> Result<Listing<StaffLine>, Fault>
-        ensures { Reads Self.stands Self.clean Self.leaves (in_rows_of office (λ k rows. staff_of rows)) self.old
-            self.new result };
+    fn staff_of(
+        &self,
+        alloc: Global,
+        store: &mut S,
+        office: OfficeNo,
+    ) -> Result<Listing<StaffLine>, Fault>
+        ensures { Reads S.stands S.clean S.leaves (in_rows_of office (λ k rows. staff_of rows)) store.old store.new
+            result };
 
     /// The first 50 clients of an office that have a part in their name, or have it as their number or as that of one
     /// of their loans, by number.
     fn find_clients(
-        &mut self,
+        &self,
         alloc: Global,
+        store: &mut S,
         office: OfficeNo,
         part: &Name,
     ) -> Result<Listing<ClientLine>, Fault>
-        ensures { Reads Self.stands Self.clean Self.leaves (in_rows_of office (find_clients folded office part.now))
-            self.old self.new result };
+        ensures { Reads S.stands S.clean S.leaves (in_rows_of office (find_clients folded office part.now)) store.old
+            store.new result };
 }

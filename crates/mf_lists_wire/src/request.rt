@@ -1,6 +1,6 @@
 //! What a request asks of the lists, by its method, its path and its body.
 
-ghost use Rattle.std.specs.Prelude.{◌≡◌, ◌⊎◌, Ok, Err, IfOk, IfErr, IfSome, option_and_then};
+ghost use Rattle.std.specs.Prelude.{◌≡◌, ◌≢◌, ◌⊎◌, Ok, Err, IfOk, IfErr, IfSome, option_and_then};
 ghost use Rattle.mf_wire_requests.specs.Bodies.{Gives, json_of};
 ghost use Rattle.mf_lists.specs.declared.request.ListRequest.TheVariants.{OfOffice};
 ghost use Rattle.mf_lists.specs.Readings.{IsAskedInDays};
@@ -144,6 +144,7 @@ pub fn read_list_request(
     ensures ok { IfOk result (λ r. list_request_of method.now path.now body.now ≡ Ok r) }
     ensures in_days { IfOk result IsAskedInDays }
     ensures err { IfErr result (λ f. (f ≡ Fault.F20) ⊎ (list_request_of method.now path.now body.now ≡ Err f)) }
+    ensures refusal { IfErr result (λ f. f ≢ Fault.F19) }
 {
     let Some((endpoint, params)) = list_route(path) else {
         return Err(Fault::F5);

@@ -9,10 +9,6 @@ mod loans;
 mod parts;
 mod staff;
 mod stages;
+mod store_lists;
 
-pub use client_loans::loans_of_client;
-pub use clients::clients_after;
-pub use due::due_after;
-pub use finding::find_clients;
-pub use staff::staff_of;
-pub use stages::stages_after;
+pub use store_lists::StoreLists;

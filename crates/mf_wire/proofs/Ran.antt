@@ -30,7 +30,7 @@ use Rattle.mf_wire.proofs.Senders.{all_answered_run}
 use Rattle.mf_wire.proofs.Calling.{told_malformed, too_long}
 
 -- what is told of texts is what is told of replies, as texts
-told-map : {A B : Type 0} (f : A → B) (meant : Call → Bool) (ls : List Line) (rs : List A)
+pub told-map : {A B : Type 0} (f : A → B) (meant : Call → Bool) (ls : List Line) (rs : List A)
     → replies_to meant ls (map f rs) ≡ map f (replies_to meant ls rs)
 told-map f meant [] rs = refl
 told-map f meant (l ∷ ls) [] = refl
@@ -66,7 +66,7 @@ module _ (told : Bool) (i : Institution) (run : List Line) (lines texts : List (
   all_texts_play passes meant same rs e none = texts_play passes meant same rs e ∙ ap (map shown_line)
       (all_told meant run i rs (subst NoTextIsF20 (texts_told passes meant same) none))
 
-  isolated : ViewIsPlay i run → RepliesArePlay i run → OwnRepliesArePlay i run
+  pub isolated : ViewIsPlay i run → RepliesArePlay i run → OwnRepliesArePlay i run
       → IsIsolated (record { institution = i; run = run; lines = lines_in told lines; texts = texts })
   isolated views replies own = record {
     views = views;

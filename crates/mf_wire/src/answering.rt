@@ -142,7 +142,8 @@ pub fn answer_text<S: InstitutionStore>(
 /// The desk as it is reached by bytes, with its routes made once: for a run, or for a server.
 #[derive(Drop)]
 pub struct Desk {
-    pub(crate) routes: Routes,
+    /// The routes of the requests.
+    pub routes: Routes,
     /// Whether something is told of each request, for a journal: by the first word of a line, or by the field X-Told of
     /// a message.
     pub told: bool,

@@ -11,4 +11,4 @@ pub use mf_wire_lines::{
     ReadFault, Sink, Source, WatchedReader, WatchedWriter, WriteFault, fault_text,
 };
 pub use running::run;
-pub use serving::serve_one;
+pub use serving::{Response, answer_message, message_parts, put_response, serve_one};

@@ -24,9 +24,10 @@ use std::alloc::Global;
 
 /// A response that is ready to be written: the status and the body of a success, or a refusal.
 #[derive(Drop)]
-struct Response {
-    text: Result<(u16, String), Fault>,
-    to_head: bool,
+pub struct Response {
+    pub text: Result<(u16, String), Fault>,
+    /// Whether it answers HEAD: its body is left off then.
+    pub to_head: bool,
 }
 
 /// The parts of a message, of which this is told.
@@ -57,7 +58,7 @@ fn told_parts_of(message: &Message) -> Option<LineParts<'_>>
 }
 
 /// The parts of a message, of which something may be told or nothing is.
-fn message_parts(told: bool, message: &Message) -> Option<LineParts<'_>>
+pub fn message_parts(told: bool, message: &Message) -> Option<LineParts<'_>>
     ensures { option_map parts_now result ≡ message_parts told message.now }
 {
     if told {
@@ -85,7 +86,7 @@ fn answer_message_text<S: InstitutionStore>(
 }
 
 /// Answers a request that came in a message.
-fn answer_message<S: InstitutionStore>(
+pub fn answer_message<S: InstitutionStore>(
     alloc: Global,
     desk: &Desk,
     store: &mut S,
@@ -132,7 +133,7 @@ fn answer_arrival<S: InstitutionStore>(
 }
 
 /// Writes a response, or a beginning of it. It takes no memory: the response is gathered in the room that is there.
-fn put_response<W: Sink>(
+pub fn put_response<W: Sink>(
     sink: &mut W,
     room: &mut [u8],
     response: &Response,

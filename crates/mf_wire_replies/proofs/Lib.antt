@@ -1,4 +1,4 @@
 pub mod Pieces
 pub mod Whole
-mod Joined
+pub mod Joined
 mod Quoted

@@ -3,4 +3,7 @@
 
 mod showing;
 
-pub use showing::{body_text, line_text, status};
+pub use showing::{
+    Written, array_text, body_text, comma_if, day_text, line_text, list_text, quoted_text, status,
+    sums_text, text_in,
+};

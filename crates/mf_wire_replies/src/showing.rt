@@ -21,7 +21,9 @@ mod texts;
 
 use arrears::arrears_shown;
 use catalogue::{charge_shown, product_shown};
+pub use lists::{Written, array_text, comma_if, list_text};
 use lists::{Shown, array_of};
+pub use loans::{day_text, sums_text};
 use loans::{loan_told, loans_text, told_status};
 use members::Members;
 use mf_base::Fault;
@@ -29,7 +31,7 @@ use mf_model::Reply;
 use mf_office::{Account, Name, Office};
 use serde_json::Value;
 use std::alloc::{AllocError, Global};
-use texts::{quoted_text, text_in};
+pub use texts::{quoted_text, text_in};
 
 /// A body before it is written: a value of JSON, or its text where that is written at once.
 #[derive(Drop)]

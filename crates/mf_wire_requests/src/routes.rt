@@ -1,6 +1,6 @@
 //! Which route a path has, and what its methods ask.
 
-ghost use Rattle.std.specs.Prelude.{◌≡◌, true, [], IfOk, IfErr, IfSome, OnOk, map, option_map};
+ghost use Rattle.std.specs.Prelude.{◌≡◌, true, [], is_some, IfOk, IfErr, IfSome, OnOk, map, option_map};
 ghost use Rattle.matchit.specs.declared.error.InsertError.TheVariants.{OutOfMemory};
 ghost use Rattle.mf_wire_requests.specs.Routes.{with_route, takes_route, takes_table, routes_of, desk_routes};
 ghost use Rattle.mf_wire_requests.specs.Routes.{matched_route, route_at};
@@ -197,5 +197,12 @@ impl Routes {
             Ok(found) => Some(found),
             Err(_) => None,
         }
+    }
+
+    /// Whether a path has a route.
+    pub fn has(&self, path: &[u8]) -> bool
+        ensures { result ≡ is_some (route_at path.now) }
+    {
+        self.find(path).is_some()
     }
 }

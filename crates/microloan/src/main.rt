@@ -22,7 +22,7 @@ use crate::telling::{
     tell_refusal,
 };
 use crate::why::say_why;
-use crate::working::{Work, answer_input_in_memory, work_on};
+use crate::working::{Served, Work, answer_input_in_memory, work_on};
 use mf_base::{Day, Fault};
 use mf_store_files::{Refused, Unjournaled, open, open_existing, open_journaled};
 use microloan_commands::schedule;
@@ -96,7 +96,10 @@ fn batch(rt: &HostRuntime, asked: &BatchWords<'_>) -> u8
             answer_input_in_memory(rt, asked.day)
         }
         Some(file) => {
-            let work = Work::Answer { told: asked.told };
+            let work = Work::Answer {
+                told: asked.told,
+                lists: asked.lists,
+            };
             work_where(rt, file.as_str(), wanted, work, &[])
         }
     }
@@ -108,12 +111,13 @@ fn serve(rt: &HostRuntime, asked: &ServeWords<'_>) -> u8
     requires { IsServeWithinLimits asked.now }
     ensures { IsPrintStatus result }
 {
-    let work = Work::Serve {
+    let work = Work::Serve(Served {
         port: asked.port,
         connections: asked.count,
         patience: asked.patience,
         told: asked.journal,
-    };
+        lists: asked.lists,
+    });
     let wanted = Wanted {
         existing: asked.existing,
         journal: asked.journal,

@@ -13,6 +13,7 @@ use mf_base::{Cause, Day, Fault};
 use mf_office::Caller;
 use mf_store::Store;
 use mf_store_files::close;
+use mf_store_lists::StoreLists;
 use mf_wire_lines::{WatchedReader, WatchedWriter};
 use microloan_commands::{answer_lines, report};
 use microloan_files::{collect_and_close, run_and_close, serve_and_close};
@@ -21,28 +22,33 @@ use sqlite_disk::Disk;
 use std::io;
 use std::net::{Ipv4Addr, TcpListener};
 
+/// How HTTP messages are served.
+#[derive(Clone, Copy)]
+pub struct Served {
+    pub port: u16,
+    pub connections: u64,
+    /// How many seconds a silent client is waited for.
+    pub patience: u32,
+    /// Whether something is told of each message.
+    pub told: bool,
+    /// Whether lists may be asked for.
+    pub lists: bool,
+}
+
 /// What is done over a file.
 #[derive(Drop)]
 pub enum Work {
-    /// Request lines on standard input are answered; the first word of each may be told of it.
-    Answer {
-        told: bool,
-    },
-    /// HTTP messages on a port of this machine are answered, one a connection; something may be told of each.
-    Serve {
-        port: u16,
-        connections: u64,
-        patience: u32,
-        told: bool,
-    },
+    /// Request lines on standard input are answered; the first word of each may be told of it, and lists may be asked
+    /// for.
+    Answer { told: bool, lists: bool },
+    /// HTTP messages on a port of this machine are answered, one a connection.
+    Serve(Served),
     /// The sheet on standard input is collected, for this member of staff.
     Collect(Caller),
     /// The report of arrears is printed, as this member of staff sees it.
     Report(Caller),
     /// It is said what the file holds, once a journal was begun where one is asked for and none kept.
-    Upgrade {
-        journal: bool,
-    },
+    Upgrade { journal: bool },
 }
 
 /// Works over the store of a file, closes it (`mf_store_files::close`), and gives the program's status. Where closing
@@ -57,16 +63,11 @@ pub fn work_on<D: Disk + Drop>(
     ensures { IsPrintStatus result }
 {
     match work {
-        Work::Answer { told: hears } => {
+        Work::Answer { told: hears, lists } => {
             tell_reading(rt);
-            answer_input(rt, store, hears)
+            answer_input(rt, store, hears, lists)
         }
-        Work::Serve {
-            port,
-            connections,
-            patience,
-            told: hears,
-        } => serve_port(rt, file, store, port, connections, patience, hears),
+        Work::Serve(served) => serve_port(rt, file, store, served),
         Work::Collect(staff) => collect_input(rt, store, staff, told),
         Work::Report(staff) => print_report(rt, store, staff),
         Work::Upgrade { journal } => upgrade_store(rt, file, store, journal),
@@ -84,17 +85,20 @@ pub fn answer_input_in_memory<R: Print + Eprint + Input + AllocGlobal>(rt: &R, d
     tell_end(rt, &ended)
 }
 
-/// Answers the request lines on standard input, and gives the program's status.
+/// Answers the request lines on standard input, with lists or without, and gives the program's status.
 fn answer_input<R: Print + Eprint + Input + AllocGlobal, D: Disk + Drop>(
     rt: &R,
     store: Store<FileStore<D>>,
     told: bool,
+    lists: bool,
 ) -> u8
     ensures { IsPrintStatus result }
 {
+    let all = StoreLists;
+    let lists = all.where_asked(lists);
     let mut source = WatchedReader::new(rt.reader());
     let mut sink = WatchedWriter::new(io::writer(rt));
-    let (ended, closed) = run_and_close(rt.alloc(), told, store, &mut source, &mut sink);
+    let (ended, closed) = run_and_close(rt.alloc(), lists, told, store, &mut source, &mut sink);
     let_go(closed);
     tell_end(rt, &ended)
 }
@@ -105,21 +109,28 @@ fn serve_port<D: Disk + Drop>(
     rt: &HostRuntime,
     file: &str,
     store: Store<FileStore<D>>,
-    port: u16,
-    connections: u64,
-    patience: u32,
-    told: bool,
+    served: Served,
 ) -> u8
     ensures { IsPrintStatus result }
 {
+    let Served {
+        port,
+        connections,
+        patience,
+        told,
+        lists,
+    } = served;
     let Ok(listener) = TcpListener::bind(rt, (Ipv4Addr::LOCALHOST, port)) else {
         let_go(close(store));
         return tell_cause(rt, Cause::Read);
     };
     tell_person(rt, format_args!("serving {file} on 127.0.0.1:{port}"));
+    let all = StoreLists;
+    let lists = all.where_asked(lists);
     let (ended, closed) = serve_and_close(
         rt.alloc(),
         rt,
+        lists,
         told,
         store,
         &listener,

@@ -2,14 +2,16 @@
 use Rattle.std.specs.Prelude.{ℕ, ◌≤◌, Bool, true, false, List, length, Result, Ok, Err}
 use Rattle.mf_base.specs.declared.fault.StreamFault.{StreamFault}
 use Rattle.mf_model.specs.declared.store.InstitutionStore.{Ghosts}
-use Rattle.mf_wire.specs.Exchanges.{Exchange, AnswersAll}
+use Rattle.mf_wire.specs.Exchanges.{Exchange}
+use Rattle.mf_lists_runs.specs.Choice.{Choice}
+use Rattle.mf_lists_runs.specs.Exchanges.{ListsAnswerAll}
 
--- The store answered messages one after another, of which something may be told or nothing is, at most one a
--- connection, and nothing else was done to it. The responses of so many were written whole.
-pub record ServesConnections {S : Type 0} (store : Ghosts S) (told : Bool) (connections : ℕ) (old new : S)
-    (count : ℕ) : Type 0 where
+-- The store answered messages one after another, by the desk or by the lists, at most one a connection, and nothing else
+-- was done to it. Something may be told of them or nothing is. The responses of so many were written whole.
+pub record ServesConnections {S : Type 0} (store : Ghosts S) (choice : Choice) (told : Bool) (connections : ℕ)
+    (old new : S) (count : ℕ) : Type 0 where
   pub exchanges : List Exchange
-  pub answered : AnswersAll store told old exchanges new
+  pub answered : ListsAnswerAll store choice told old exchanges new
   pub each : length exchanges ≤ connections
   pub counted : count ≤ length exchanges
 

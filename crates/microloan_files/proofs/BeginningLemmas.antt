@@ -28,7 +28,10 @@ use Rattle.sqlite_store.specs.FileStore.{view, faults, recovers, is_shielded}
 use Rattle.sqlite_store.specs.declared.store.FileStore.{FileStore}
 use Rattle.sqlite_trees.specs.Tree.{Trees}
 use Rattle.sqlite_trees.specs.View.{IsClean, IsQuiet}
+use Rattle.mf_lists_runs.specs.Choice.{Choice}
+use Rattle.mf_lists_runs.specs.Runs.{ListsRuns}
 use Rattle.microloan_files.specs.Beginnings.{LeaveBeginning, IsRunOver}
+use Rattle.microloan_files.specs.Listed.{IsListsRunOver}
 
 -- what each run between two states has, and what is so where these are one
 module _ {S : Type 0} (P : S → List (List ℕ) → List (List ℕ) → S → Type 0) (old new : S) (streams : Streams)
@@ -215,3 +218,35 @@ module _ {D : Type 0} {g : Ghosts D} (told : Bool) (i : Institution) (first fina
       → (run : List Line) × Ends (λ before lines texts after. IsRunOver told i lines texts after) [] run streams result
       × K run
   run_so = told_of_run Runs (IsRunOver told i) K first final ran_so none_so
+
+  -- the same where lists may be asked for
+  abbrev pub ListedRuns : Choice → KnownStore (FileStore D g) → List (List ℕ) → List (List ℕ)
+      → KnownStore (FileStore D g) → Type 0
+  ListedRuns choice = ListsRuns (record {
+    stands = StandsFor over_files;
+    clean = stores.IsClean over_files;
+    leaves = Leaves over_files;
+  }) choice told
+
+  listed_so : (choice : Choice) (lines texts : List (List ℕ)) → ListedRuns choice first lines texts final
+      → (run : List Line) × IsListsRunOver choice told i lines texts run × K run
+  listed_so choice lines texts r =
+      let o = r.ran clean i stood in
+      let w = o.ran in (
+        w.run,
+        record {
+          without = o.without;
+          ran = record { calls = w.calls; replied = w.replied; isolated = w.isolated; with_memory = w.with_memory };
+          replied = o.replied;
+          by_views = o.by_views;
+          texts_by_views = o.texts_by_views;
+          with_memory = o.with_memory;
+        },
+        after_run w.run w.in_range w.follows (w.stop (i ∷ []) leaves),
+      )
+
+  pub listed_run_so : (choice : Choice) (streams : Streams) (result : Result ℕ StreamFault)
+      → Ends (ListedRuns choice) first final streams result → (run : List Line)
+      × Ends (λ before lines texts after. IsListsRunOver choice told i lines texts after) [] run streams result × K run
+  listed_run_so choice =
+      told_of_run (ListedRuns choice) (IsListsRunOver choice told i) K first final (listed_so choice) none_so

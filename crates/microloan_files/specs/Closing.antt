@@ -2,6 +2,7 @@
 use Rattle.std.specs.Prelude.{ℕ, Bool, List, [], Result, Ok, Err}
 use Rattle.mf_base.specs.declared.fault.Fault.{Fault}
 use Rattle.mf_base.specs.declared.fault.StreamFault.{StreamFault}
+use Rattle.mf_lists_runs.specs.Choice.{Choice}
 use Rattle.mf_office.specs.declared.caller.Caller.{Caller}
 use Rattle.mf_model.specs.Institution.{Institution}
 use Rattle.mf_model.specs.Run.{Line, last}
@@ -19,7 +20,7 @@ use Rattle.sqlite_store.specs.declared.store.FileStore.{FileStore}
 use Rattle.sqlite_trees.specs.Tree.{Trees}
 use Rattle.sqlite_wal.specs.Files.{outcomes}
 use Rattle.sqlite_wal.specs.Recovery.{Image}
-use Rattle.microloan_files.specs.Beginnings.{IsRunOver}
+use Rattle.microloan_files.specs.Listed.{IsListsRunOver}
 use Rattle.microloan_files.specs.Sheets.{IsSheetRun}
 
 module _ {D : Type 0} {g : Ghosts D} where
@@ -32,12 +33,12 @@ module _ {D : Type 0} {g : Ghosts D} where
       (left : Trees) → recovers rest.1 left → (j : Institution) × IsLeftBy run i j × HoldsRowsOf left j
 
   -- The lines of a source were answered as the result says, up to its end or to a fault, by one run on the institution,
-  -- which is empty where there was no memory to begin. The files were closed after it.
-  pub record RunsAndCloses (told : Bool) (i : Institution) (closed : Result (Files D) (Fault × FileStore D g))
+  -- with lists or without. It is empty where there was no memory to begin. The files were closed after it.
+  pub record RunsAndCloses (choice : Choice) (told : Bool) (i : Institution) (closed : Result (Files D) (Fault × FileStore D g))
       (streams : Streams)
       (result : Result ℕ StreamFault) : Type 0 where
     pub run : List Line
-    pub ended : Ends (λ before lines texts after. IsRunOver told i lines texts after) [] run streams result
+    pub ended : Ends (λ before lines texts after. IsListsRunOver choice told i lines texts after) [] run streams result
     pub left : CloseAfter i closed run
 
   -- The sheet that a source held was collected as the result says by one run on the institution, which is empty where

@@ -1,6 +1,8 @@
 //! Work over a store of files that is closed after it, as the program does it.
 
-ghost use Rattle.std.specs.Prelude.{[], ◌∷◌};
+ghost use Rattle.std.specs.Prelude.{[], ◌∷◌, is_some};
+ghost use Rattle.mf_folding.specs.Folding.{folded};
+ghost use Rattle.mf_lists_runs.specs.Choice.{choice_if};
 ghost use Rattle.mf_model.specs.Institution.{Institution};
 ghost use Rattle.mf_store.specs.Stands.{StandsFor, Leaves};
 ghost use Rattle.mf_store_noted.specs.Tabled.{HasGoodDisk};
@@ -11,10 +13,12 @@ ghost use Rattle.microloan_files.specs.Closing.{CloseAfter, RunsAndCloses, Colle
 ghost use Rattle.microloan_files.specs.Serving.{ServesSo};
 
 use mf_base::{Fault, StreamFault};
+use mf_lists_runs::{laws, run};
 use mf_office::Caller;
 use mf_store::Store;
 use mf_store_files::close;
-use mf_wire::{Sink, Source, laws, run};
+use mf_store_lists::StoreLists;
+use mf_wire_lines::{Sink, Source};
 use microloan_commands::{SheetFault, collect_sheet, serve_connections};
 use sqlite::{FileStore, Files};
 use sqlite_disk::Disk;
@@ -22,12 +26,14 @@ use std::alloc::Global;
 use std::net::{OpenListener, TcpStream};
 use std::rt::Clock;
 
-/// Answers request lines over a store of files, as `run` does, and closes it (`mf_store_files::close`). Whatever a stop
+/// Answers request lines over a store of files, with its lists or without, as `mf_lists_runs::run` does, and closes it
+/// (`mf_store_files::close`). Whatever a stop
 /// then leaves of the files holds the institution after all lines that were answered, with the log and without it. F20
 /// tells that they could not be closed: a stop leaves what it could before, the tables after a beginning of the lines
 /// that holds every line that was answered.
 pub fn run_and_close<D: Disk + Drop, R: Source, W: Sink>(
     alloc: Global,
+    lists: Option<&StoreLists>,
     told: bool,
     mut store: Store<FileStore<D>>,
     source: &mut R,
@@ -38,11 +44,11 @@ pub fn run_and_close<D: Disk + Drop, R: Source, W: Sink>(
 )
     ensures premise { CloseWell result.1 → HasGoodDisk over_files store.connection }
     ensures ends { CloseWell result.1 → (i : Institution) → StandsFor over_files store i →
-        Leaves over_files store (i ∷ []) → RunsAndCloses told i result.1 (streams_of
+        Leaves over_files store (i ∷ []) → RunsAndCloses (choice_if folded (is_some lists.entry)) told i result.1 (streams_of
         (stream_of R.unread R.faults source.old source.new)
         (stream_of W.written W.faults sink.old sink.new)) result.0 }
 {
-    let ended = run(alloc, told, &mut store, source, sink);
+    let ended = run(alloc, lists, told, &mut store, source, sink);
     (ended, close(store))
 }
 
@@ -74,6 +80,7 @@ pub fn collect_and_close<D: Disk + Drop, R: Source, W: Sink>(
 pub fn serve_and_close<D: Disk + Drop, C: Clock, L: OpenListener<Stream = TcpStream>>(
     alloc: Global,
     clock: &C,
+    lists: Option<&StoreLists>,
     told: bool,
     mut store: Store<FileStore<D>>,
     listener: &L,
@@ -85,12 +92,14 @@ pub fn serve_and_close<D: Disk + Drop, C: Clock, L: OpenListener<Stream = TcpStr
 )
     ensures premise { CloseWell result.1 → HasGoodDisk over_files store.connection }
     ensures ends { CloseWell result.1 → (i : Institution) → StandsFor over_files store i →
-        Leaves over_files store (i ∷ []) → ServesSo told i connections (CloseAfter i result.1) result.0 }
+        Leaves over_files store (i ∷ []) → ServesSo (choice_if folded (is_some lists.entry)) told i connections
+        (CloseAfter i result.1) result.0 }
 {
     laws::served_messages_are_isolated::<Store<FileStore<D>>>();
     let ended = serve_connections(
         alloc,
         clock,
+        lists,
         told,
         &mut store,
         listener,

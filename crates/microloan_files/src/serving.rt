@@ -1,6 +1,8 @@
 //! HTTP messages answered over a file, up to what a stop leaves of it.
 
-ghost use Rattle.std.specs.Prelude.{[], ◌∷◌};
+ghost use Rattle.std.specs.Prelude.{[], ◌∷◌, is_some};
+ghost use Rattle.mf_folding.specs.Folding.{folded};
+ghost use Rattle.mf_lists_runs.specs.Choice.{choice_if};
 ghost use Rattle.mf_model.specs.Institution.{Institution};
 ghost use Rattle.mf_store.specs.Stands.{StandsFor, Leaves};
 ghost use Rattle.mf_store_noted.specs.Tabled.{HasGoodDisk};
@@ -12,8 +14,9 @@ ghost use Rattle.microloan_files.specs.Serving.{ServesSo};
 
 use crate::handing::hand_back;
 use mf_base::StreamFault;
+use mf_lists_runs::laws;
 use mf_store::Store;
-use mf_wire::laws;
+use mf_store_lists::StoreLists;
 use microloan_commands::serve_connections;
 use sqlite::FileStore;
 use sqlite_disk::Disk;
@@ -27,6 +30,7 @@ use std::rt::Clock;
 pub fn serve_over<D: Disk + Drop, C: Clock, L: OpenListener<Stream = TcpStream>>(
     alloc: Global,
     clock: &C,
+    lists: Option<&StoreLists>,
     told: bool,
     mut store: Store<FileStore<D>>,
     listener: &L,
@@ -35,12 +39,14 @@ pub fn serve_over<D: Disk + Drop, C: Clock, L: OpenListener<Stream = TcpStream>>
 ) -> (Result<u64, StreamFault>, FileStore<D>)
     ensures premise { IsClean (view result.1) → HasGoodDisk over_files store.connection }
     ensures ends { IsClean (view result.1) → (i : Institution) → StandsFor over_files store i →
-        Leaves over_files store (i ∷ []) → ServesSo told i connections (λ run. LeaveBeginning i run result.1) result.0 }
+        Leaves over_files store (i ∷ []) → ServesSo (choice_if folded (is_some lists.entry)) told i connections
+        (λ run. LeaveBeginning i run result.1) result.0 }
 {
     laws::served_messages_are_isolated::<Store<FileStore<D>>>();
     let ended = serve_connections(
         alloc,
         clock,
+        lists,
         told,
         &mut store,
         listener,

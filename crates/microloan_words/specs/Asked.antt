@@ -78,8 +78,8 @@ pub record IsToldAt (rows : List Row) (told : Option Text) : Type 0 where
   pub given : first_of (codes "told") rows ≡ told
   pub right : IfSome told IsTold
 
--- the options of `batch`: a file may be named, and must be where no new institution is to be made or a journal is kept;
--- first words are told where a journal is kept
+-- the options of `batch`: a file may be named, and must be where no new institution is to be made, a journal is kept or
+-- lists are answered; first words are told where a journal is kept
 pub record AreBatchWords (rows : List Row) (asked : BatchWords) : Type 0 where
   pub file : first_of (codes "file") rows ≡ asked.file
   pub day : IsDayAt rows (codes "day") asked.day
@@ -89,6 +89,8 @@ pub record AreBatchWords (rows : List Row) (asked : BatchWords) : Type 0 where
   pub journal_named : IsTrue asked.journal → is_some asked.file ≡ true
   pub told : first_of (codes "told") rows ≡ Some (flag_text asked.told)
   pub told_noted : IsTrue asked.told → asked.journal ≡ true
+  pub lists : first_of (codes "lists") rows ≡ Some (flag_text asked.lists)
+  pub lists_named : IsTrue asked.lists → is_some asked.file ≡ true
 
 -- the options of `serve`
 pub record AreServeWords (rows : List Row) (asked : ServeWords) : Type 0 where
@@ -99,6 +101,7 @@ pub record AreServeWords (rows : List Row) (asked : ServeWords) : Type 0 where
   pub day : IsDayAt rows (codes "day") asked.day
   pub existing : first_of (codes "existing") rows ≡ Some (flag_text asked.existing)
   pub journal : first_of (codes "journal") rows ≡ Some (flag_text asked.journal)
+  pub lists : first_of (codes "lists") rows ≡ Some (flag_text asked.lists)
 
 -- the options of `collect`: something may be told of its lines where a journal is kept
 pub record AreCollectWords (rows : List Row) (asked : CollectWords) : Type 0 where

@@ -49,6 +49,7 @@ batch_app = app_with (codes "batch") (
     ∷ flag_rule (codes "existing")
     ∷ flag_rule (codes "journal")
     ∷ flag_rule (codes "told")
+    ∷ flag_rule (codes "lists")
     ∷ [])
 
 -- `serve` with its options
@@ -61,6 +62,7 @@ serve_app = app_with (codes "serve") (
     ∷ default_rule (codes "day") (codes "2024-01-01")
     ∷ flag_rule (codes "existing")
     ∷ flag_rule (codes "journal")
+    ∷ flag_rule (codes "lists")
     ∷ [])
 
 -- `collect` with its options

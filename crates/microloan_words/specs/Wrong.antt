@@ -14,6 +14,7 @@ use Rattle.microloan_words.specs.declared.reading.Wrong.TheVariants.{File, Exist
 use Rattle.microloan_words.specs.declared.reading.Wrong.TheVariants.{Patience, Staff, Method as MethodOption, Principal}
 use Rattle.microloan_words.specs.declared.reading.Wrong.TheVariants.{Rate, Periods, Day, Frequency, Every}
 use Rattle.microloan_words.specs.declared.reading.Wrong.TheVariants.{PrincipalGrace, InterestGrace, Told, ToldOfLines}
+use Rattle.microloan_words.specs.declared.reading.Wrong.TheVariants.{Lists}
 
 -- a flag is given or not
 abbrev pub IsFlag : List Row → Text → Type 0
@@ -34,6 +35,7 @@ IsRight rows Existing = IsFlag rows (codes "existing")
 IsRight rows Journal = IsFlag rows (codes "journal")
 IsRight rows Told = IsFlag rows (codes "told")
 IsRight rows ToldOfLines = IsToldWell rows
+IsRight rows Lists = IsFlag rows (codes "lists")
 IsRight rows All = IsFlag rows (codes "all")
 IsRight rows Port = IsSomeNumber rows (codes "port") 1 65535
 IsRight rows Count = (count : ℕ) × IsCountAt rows (codes "count") count
@@ -58,7 +60,7 @@ IsFirstWrong rows (option ∷ options) wrong =
 
 -- the options of `serve`, in the order in which a wrong one is told
 abbrev pub serve_options : List Wrong
-serve_options = File ∷ Port ∷ Count ∷ Patience ∷ Day ∷ Existing ∷ Journal ∷ []
+serve_options = File ∷ Port ∷ Count ∷ Patience ∷ Day ∷ Existing ∷ Journal ∷ Lists ∷ []
 
 -- of `collect`
 abbrev pub collect_options : List Wrong
@@ -87,7 +89,7 @@ schedule_options = MethodOption ∷ Principal ∷ Rate ∷ Periods ∷ Day ∷ F
 
 -- of `batch`, these; and then the first flag that wants a file, where none is named, or a journal, where none is kept
 abbrev pub batch_options : List Wrong
-batch_options = Day ∷ Existing ∷ Journal ∷ Told ∷ []
+batch_options = Day ∷ Existing ∷ Journal ∷ Told ∷ Lists ∷ []
 
 -- the flag stands there, and no file is named
 abbrev pub WantsFile : List Row → Text → Type 0
@@ -96,13 +98,16 @@ WantsFile rows id = (first_of id rows ≡ Some (codes "true")) × (¬ IsRight ro
 -- the option of `batch` that is told to be wrong
 abbrev pub IsBatchWrong : List Row → Wrong → Type 0
 IsBatchWrong rows wrong = IsFirstWrong rows batch_options wrong
-    ⊎ (IsRight rows Day × IsRight rows Journal × IsRight rows Told × WantsFile rows (codes "existing")
-    × (wrong ≡ Existing))
+    ⊎ (IsRight rows Day × IsRight rows Journal × IsRight rows Told × IsRight rows Lists
+    × WantsFile rows (codes "existing") × (wrong ≡ Existing))
     ⊎ (IsRight rows Day × (first_of (codes "existing") rows ≡ Some (codes "false")) × IsRight rows Told
-    × WantsFile rows (codes "journal") × (wrong ≡ Journal))
+    × IsRight rows Lists × WantsFile rows (codes "journal") × (wrong ≡ Journal))
     ⊎ (IsRight rows Day × IsRight rows Existing × (WantsFile rows (codes "existing") → ⊥)
     × (first_of (codes "journal") rows ≡ Some (codes "false")) × (first_of (codes "told") rows ≡ Some (codes "true"))
-    × (wrong ≡ Told))
+    × IsRight rows Lists × (wrong ≡ Told))
+    ⊎ (IsRight rows Day × (first_of (codes "existing") rows ≡ Some (codes "false"))
+    × (first_of (codes "journal") rows ≡ Some (codes "false")) × (first_of (codes "told") rows ≡ Some (codes "false"))
+    × WantsFile rows (codes "lists") × (wrong ≡ Lists))
 
 -- the option of `collect` that is told to be wrong: the first of these, or what is told where no journal is kept
 abbrev pub IsCollectWrong : List Row → Wrong → Type 0

@@ -105,6 +105,8 @@ pub struct BatchWords<'a> {
     pub journal: bool,
     /// Whether the first word of each line is told of it. Then a journal is kept.
     pub told: bool,
+    /// Whether the readings under `/lists/` are answered too. Then a file is named.
+    pub lists: bool,
 }
 
 /// The options of `serve`.
@@ -125,6 +127,8 @@ pub struct ServeWords<'a> {
     /// Whether the institution keeps a journal: a new one begins one, and a file whose institution keeps none is
     /// refused.
     pub journal: bool,
+    /// Whether the readings under `/lists/` are answered too.
+    pub lists: bool,
 }
 
 /// The options of `collect`.

@@ -12,7 +12,7 @@ use clap::{Arg, ArgAction, Command};
 use std::alloc::{AllocError, Global};
 
 /// This release, and the schema of the files that it writes.
-const VERSION: &str = "1.5.0 (schema 2)";
+const VERSION: &str = "1.6.0 (schema 2)";
 
 /// Whether an option must be given, has a text that stands where it isn't, or is a flag.
 pub(crate) enum Need {
@@ -63,8 +63,16 @@ const JOURNAL: CommandOption = CommandOption {
     need: Need::Flag,
 };
 
+/// That the readings under `/lists/` are answered.
+const LISTS: CommandOption = CommandOption {
+    id: "lists",
+    value_name: "",
+    help: "Answer the readings under /lists/ too",
+    need: Need::Flag,
+};
+
 /// The options of `batch`.
-const BATCH_OPTIONS: [CommandOption; 5] = [
+const BATCH_OPTIONS: [CommandOption; 6] = [
     CommandOption {
         id: "file",
         value_name: "PATH",
@@ -80,10 +88,11 @@ const BATCH_OPTIONS: [CommandOption; 5] = [
         help: "The journal notes the first word of each line",
         need: Need::Flag,
     },
+    LISTS,
 ];
 
 /// The options of `serve`.
-const SERVE_OPTIONS: [CommandOption; 7] = [
+const SERVE_OPTIONS: [CommandOption; 8] = [
     FILE,
     CommandOption {
         id: "port",
@@ -106,6 +115,7 @@ const SERVE_OPTIONS: [CommandOption; 7] = [
     FIRST_DAY,
     EXISTING,
     JOURNAL,
+    LISTS,
 ];
 
 /// The member of staff who asks.

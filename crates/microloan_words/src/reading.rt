@@ -39,6 +39,7 @@ pub(crate) enum Wrong {
     Journal,
     Told,
     ToldOfLines,
+    Lists,
     All,
     Port,
     Count,
@@ -67,6 +68,7 @@ pub(crate) fn batch_words<'a>(options: &ArgMatches<'a>) -> Result<BatchWords<'a>
     let existing = flag_at(options, "existing").ok_or(Wrong::Existing)?;
     let journal = flag_at(options, "journal").ok_or(Wrong::Journal)?;
     let told = flag_at(options, "told").ok_or(Wrong::Told)?;
+    let lists = flag_at(options, "lists").ok_or(Wrong::Lists)?;
     if existing && file.is_none() {
         return Err(Wrong::Existing);
     }
@@ -76,12 +78,16 @@ pub(crate) fn batch_words<'a>(options: &ArgMatches<'a>) -> Result<BatchWords<'a>
     if told && !journal {
         return Err(Wrong::Told);
     }
+    if lists && file.is_none() {
+        return Err(Wrong::Lists);
+    }
     Ok(BatchWords {
         file,
         day,
         existing,
         journal,
         told,
+        lists,
     })
 }
 
@@ -99,6 +105,7 @@ pub(crate) fn serve_words<'a>(options: &ArgMatches<'a>) -> Result<ServeWords<'a>
     let day = day_at(options, "day").ok_or(Wrong::Day)?;
     let existing = flag_at(options, "existing").ok_or(Wrong::Existing)?;
     let journal = flag_at(options, "journal").ok_or(Wrong::Journal)?;
+    let lists = flag_at(options, "lists").ok_or(Wrong::Lists)?;
     Ok(ServeWords {
         file,
         port,
@@ -107,6 +114,7 @@ pub(crate) fn serve_words<'a>(options: &ArgMatches<'a>) -> Result<ServeWords<'a>
         day,
         existing,
         journal,
+        lists,
     })
 }
 

@@ -19,6 +19,7 @@ fn wants(wrong: Wrong) -> &'static str {
         Wrong::Journal => "--journal wants the --file that holds the institution",
         Wrong::Told => "--told wants --journal",
         Wrong::ToldOfLines => "--told wants 1 to 100 printed characters of ASCII",
+        Wrong::Lists => "--lists wants the --file that holds the institution",
         Wrong::All => "--all has no value",
         Wrong::Port => "--port wants a number from 1 to 65535",
         Wrong::Count => "--count wants a number of connections, or 0 for no end",

@@ -47,7 +47,7 @@ pub trait Written {
 }
 
 /// A comma, where something stands before.
-fn comma_if(later: bool) -> &'static str
+pub fn comma_if(later: bool) -> &'static str
     ensures { result.now ≡ comma_if later }
 {
     if later { "," } else { "" }

@@ -51,7 +51,7 @@ pub fn loans_text(alloc: Global, lines: &[LoanLine]) -> Result<String, Fault>
 }
 
 /// Sums by portion as JSON, in whole cents.
-fn sums_text(alloc: Global, sums: &[u64; 4]) -> Result<String, AllocError>
+pub fn sums_text(alloc: Global, sums: &[u64; 4]) -> Result<String, AllocError>
     ensures { IfOk result (λ s. string_bytes s ≡ compact_text (sums_data sums.now)) }
 {
     let fees = sums[Portion::Fee.index()];
@@ -98,7 +98,7 @@ fn loan_rest(alloc: Global, loan: &Statement) -> Result<String, AllocError>
 }
 
 /// A day as JSON, in quotes, or null where there is none.
-fn day_text(alloc: Global, day: Option<Day>) -> Result<String, Fault>
+pub fn day_text(alloc: Global, day: Option<Day>) -> Result<String, Fault>
     ensures ok { IfOk result (λ s. string_bytes s ≡ compact_text (day_or_null day)) }
     ensures err { IfErr result (λ f. f ≡ Fault.F20) }
 {

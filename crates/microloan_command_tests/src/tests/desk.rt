@@ -1,5 +1,6 @@
 //! The commands over an institution in vectors: a sheet from a source, the report's text, connections to a port.
 
+use super::no_lists::WITHOUT;
 use mf_base::{Cause, Day, Fault, StreamFault};
 use mf_desk_books::streams::{CLIENT, CREATED, ENTERED, LENT, SHEET};
 use mf_desk_books::{Books, Torn};
@@ -192,12 +193,16 @@ fn connections_are_served_in_turn(rt: HostRuntime) -> Result<(), Fail> {
     let cut = send_message(&rt, port, "POST /clients HTTP/1.1\r\nX-Sta")?;
     let whole = send_message(&rt, port, CLIENT)?;
     let _late = send_message(&rt, port, CLIENT)?;
-    let served = serve_connections(alloc, &rt, false, &mut books, &listener, 3, PATIENCE)?;
+    let served = serve_connections(
+        alloc, &rt, WITHOUT, false, &mut books, &listener, 3, PATIENCE,
+    )?;
     assert_eq!(rt; served, 2);
     assert_eq!(rt; answer(alloc, &silent)?.as_str(), "");
     assert_eq!(rt; answer(alloc, &cut)?.as_str(), CUT);
     assert_eq!(rt; answer(alloc, &whole)?.as_str(), CREATED);
-    let served = serve_connections(alloc, &rt, false, &mut books, &listener, 0, PATIENCE)?;
+    let served = serve_connections(
+        alloc, &rt, WITHOUT, false, &mut books, &listener, 0, PATIENCE,
+    )?;
     assert_eq!(rt; served, 0);
     Ok(())
 }
@@ -242,7 +247,9 @@ fn connections_that_fail_count(rt: HostRuntime) -> Result<(), Fail> {
         listener: &listener,
         calls: &calls,
     };
-    let served = serve_connections(alloc, &rt, false, &mut books, &unsteady, 3, PATIENCE)?;
+    let served = serve_connections(
+        alloc, &rt, WITHOUT, false, &mut books, &unsteady, 3, PATIENCE,
+    )?;
     assert_eq!(rt; served, 1);
     assert_eq!(rt; answer(alloc, &whole)?.as_str(), CREATED);
     Ok(())
@@ -261,7 +268,9 @@ fn what_follows_a_message_is_thrown_away(rt: HostRuntime) -> Result<(), Fail> {
     let rest = vec![in alloc; b'x'; 60000]?;
     (&client).write_all(rest.as_slice())?;
     client.shutdown(Shutdown::Write)?;
-    let served = serve_connections(alloc, &rt, false, &mut books, &listener, 1, PATIENCE)?;
+    let served = serve_connections(
+        alloc, &rt, WITHOUT, false, &mut books, &listener, 1, PATIENCE,
+    )?;
     assert_eq!(rt; served, 1);
     assert_eq!(rt; answer(alloc, &client)?.as_str(), CREATED);
     Ok(())
@@ -277,7 +286,9 @@ fn a_connection_is_ended(rt: HostRuntime) -> Result<(), Fail> {
     let port = listener.local_addr()?.port();
     let client = TcpStream::connect(&rt, (Ipv4Addr::LOCALHOST, port))?;
     (&client).write_all(CLIENT.as_bytes())?;
-    let served = serve_connections(alloc, &rt, false, &mut books, &listener, 1, PATIENCE)?;
+    let served = serve_connections(
+        alloc, &rt, WITHOUT, false, &mut books, &listener, 1, PATIENCE,
+    )?;
     assert_eq!(rt; served, 1);
     assert_eq!(rt; answer(alloc, &client)?.as_str(), CREATED);
     Ok(())
@@ -292,7 +303,9 @@ fn a_silent_client_is_left(rt: HostRuntime) -> Result<(), Fail> {
     let port = listener.local_addr()?.port();
     let silent = TcpStream::connect(&rt, (Ipv4Addr::LOCALHOST, port))?;
     let whole = send_message(&rt, port, CLIENT)?;
-    let served = serve_connections(alloc, &rt, false, &mut books, &listener, 2, PATIENCE)?;
+    let served = serve_connections(
+        alloc, &rt, WITHOUT, false, &mut books, &listener, 2, PATIENCE,
+    )?;
     assert_eq!(rt; served, 1);
     assert_eq!(rt; answer(alloc, &silent)?.as_str(), "");
     assert_eq!(rt; answer(alloc, &whole)?.as_str(), CREATED);
@@ -339,7 +352,9 @@ fn a_client_that_takes_too_long_is_left(rt: HostRuntime) -> Result<(), Fail> {
             read: &read,
         };
         let client = send_message(&rt, port, CLIENT)?;
-        let served = serve_connections(alloc, &clock, false, &mut books, &listener, 1, PATIENCE)?;
+        let served = serve_connections(
+            alloc, &clock, WITHOUT, false, &mut books, &listener, 1, PATIENCE,
+        )?;
         assert_eq!(rt; served, answered);
         let came = answer(alloc, &client).unwrap_or(String::new(alloc));
         assert_eq!(rt; came.len() > 0, answered > 0);

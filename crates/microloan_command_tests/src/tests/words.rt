@@ -111,6 +111,13 @@ fn reads_a_batch(rt: HostRuntime) -> Result<(), Fail> {
         return Err(Fail::from("a batch"));
     };
     assert!(rt; asked.told);
+    assert!(rt; !asked.lists);
+    let words = words_of(alloc, "microloan batch --lists --file desk.db")?;
+    let Ok(Command::Batch(asked)) = command(alloc, &words) else {
+        return Err(Fail::from("a batch"));
+    };
+    assert!(rt; asked.lists);
+    assert!(rt; !asked.journal);
     Ok(())
 }
 
@@ -147,8 +154,15 @@ fn reads_what_is_served(rt: HostRuntime) -> Result<(), Fail> {
     };
     assert!(rt; asked.existing);
     assert!(rt; asked.journal);
+    assert!(rt; !asked.lists);
     assert_eq!(rt; asked.count, 7);
     assert_eq!(rt; asked.patience, 1);
+    let words = words_of(alloc, "microloan serve --lists --file desk.db --port 80")?;
+    let Ok(Command::Serve(asked)) = command(alloc, &words) else {
+        return Err(Fail::from("a server"));
+    };
+    assert!(rt; asked.lists);
+    assert!(rt; !asked.journal);
     Ok(())
 }
 
@@ -242,7 +256,7 @@ fn reads_which_file_to_upgrade(rt: HostRuntime) -> Result<(), Fail> {
 }
 
 /// Words that are wrong, and what is said of them.
-const WRONG: [(&str, &str); 24] = [
+const WRONG: [(&str, &str); 26] = [
     (
         "microloan",
         "microloan: name a command: batch, serve, collect, report, schedule, why, audit or upgrade; \
@@ -282,6 +296,14 @@ const WRONG: [(&str, &str); 24] = [
     ),
     (
         "microloan batch --file f --told",
+        "microloan: --told wants --journal; see 'microloan batch --help'",
+    ),
+    (
+        "microloan batch --lists",
+        "microloan: --lists wants the --file that holds the institution; see 'microloan batch --help'",
+    ),
+    (
+        "microloan batch --lists --told",
         "microloan: --told wants --journal; see 'microloan batch --help'",
     ),
     (
@@ -352,7 +374,7 @@ fn says_what_is_wanted(rt: HostRuntime) -> Result<(), Fail> {
 }
 
 /// Words that are wrong, a part of what is said of them, and the command whose help it names.
-const UNCLEAR: [(&str, &str, &str); 12] = [
+const UNCLEAR: [(&str, &str, &str); 14] = [
     ("microloan serve --port 80", "--file", "serve "),
     ("microloan serve --file f", "--port", "serve "),
     ("microloan collect --staff 1/1", "--file", "collect "),
@@ -362,6 +384,16 @@ const UNCLEAR: [(&str, &str, &str); 12] = [
         "microloan report --file f --staff 1/1 --journal",
         "'--journal'",
         "report ",
+    ),
+    (
+        "microloan collect --file f --staff 1/1 --lists",
+        "'--lists'",
+        "collect ",
+    ),
+    (
+        "microloan upgrade --file f --lists",
+        "'--lists'",
+        "upgrade ",
     ),
     (
         "microloan schedule --method flat",
@@ -434,7 +466,7 @@ fn tells_the_version(rt: HostRuntime) -> Result<(), Fail> {
         let Err(Words::Version(text)) = command(alloc, &words) else {
             return Err(Fail::from("a version"));
         };
-        assert_eq!(rt; text.as_str(), "microloan 1.5.0 (schema 2)\n");
+        assert_eq!(rt; text.as_str(), "microloan 1.6.0 (schema 2)\n");
     }
     let said = line_of(&rt, alloc, "microloan report --version")?;
     assert!(rt; said.as_str().find("--version").is_some());

@@ -30,8 +30,8 @@ unseen : (b : Bool) (f : Option Office) → f ≡ None → cond b f None ≡ Non
 unseen true f e = e
 unseen false f e = refl
 
-pub returns-in_default : goal.returns-in_default
-returns-in_default g c =
+pub returns-in_default-clause-told : goal.returns-in_default-clause-told
+returns-in_default-clause-told g c =
     let o = c.args.to in
     let x = c.args.office in
     record {
@@ -44,3 +44,6 @@ returns-in_default g c =
           i s).each (sym c.new.ensures ∙ none_there c.new.result c.in_default.not-Some))));
       stop = λ k is l. l;
     }
+
+pub returns-in_default-clause-refusal : goal.returns-in_default-clause-refusal
+returns-in_default-clause-refusal g c = λ e. absurd (cc)

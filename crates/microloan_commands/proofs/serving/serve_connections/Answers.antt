@@ -1,14 +1,19 @@
-use Rattle.std.proofs.Common.{subst}
+use Rattle.std.proofs.Common.{ap, ap₂, subst}
+use Rattle.std.specs.Prelude.{is_some}
+use Rattle.mf_lists_runs.specs.Choice.{choice_if}
 use Rattle.microloan_commands.specs.Served.{ServesConnections}
 use Rattle.microloan_commands.proofs.ServedLemmas.{serves_more}
 use Rattle.microloan_commands.proofs.serving.serve_connections.Goals as goal
 
 pub loop-preserved : goal.loop-preserved
-loop-preserved g c = record {
-  served = serves_more g.S.InstitutionStore c.args.told c.loop.counter c.loop.answered c.serve_next-answered.result
-      c.args.store.now
-      c.loop.store
-      c.serve_next-answered.new.store c.loop.invariant.served
-      (subst (λ told. ServesConnections g.S.InstitutionStore told 1 c.loop.store c.serve_next-answered.new.store
-      c.serve_next-answered.result) c.in-Ok.ensures c.serve_next-answered.ensures);
-}
+loop-preserved g c =
+    let choice = choice_if g.L.Lists.folded (is_some c.args.lists) in record {
+      served = serves_more g.S.InstitutionStore choice c.args.told c.loop.counter c.loop.answered
+          c.serve_next-answered.result c.args.store.now c.loop.store c.serve_next-answered.new.store
+          c.loop.invariant.served
+          (subst (λ told. ServesConnections g.S.InstitutionStore choice told 1 c.loop.store
+          c.serve_next-answered.new.store c.serve_next-answered.result) c.in-Ok.ensures.0
+          (subst (λ lists. ServesConnections g.S.InstitutionStore (choice_if g.L.Lists.folded (is_some lists))
+          c.in-Ok.desk.desk.told 1 c.loop.store c.serve_next-answered.new.store c.serve_next-answered.result)
+          c.in-Ok.ensures.1 c.serve_next-answered.ensures));
+    }

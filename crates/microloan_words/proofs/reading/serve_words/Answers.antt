@@ -1,5 +1,5 @@
 use Rattle.std.proofs.Common.{Err, inl, inr, refl, rules, sym, ◌∙◌, ◌≡◌}
-use Rattle.microloan_words.specs.declared.reading.Wrong.TheVariants.{Count, Day, Existing, File, Journal}
+use Rattle.microloan_words.specs.declared.reading.Wrong.TheVariants.{Count, Day, Existing, File, Journal, Lists}
 use Rattle.microloan_words.specs.declared.reading.Wrong.TheVariants.{Patience, Port}
 use Rattle.microloan_words.proofs.OptionLemmas.{read, right, unread}
 use Rattle.microloan_words.proofs.reading.serve_words.Goals as goal
@@ -126,6 +126,36 @@ returns-in_err-journal-clause-wrong c =
                 right _ c.flag_at.result c.in_ok-existing.existing c.in_ok-existing.ensures.ok_part
                     c.flag_at.ensures.read,
                 inl (refl, unread _ c.flag_at-2.result c.in_err-journal.ensures.variant c.flag_at-2.ensures.every),
+              ),
+            ),
+          ),
+        ),
+      ),
+    ))
+
+pub returns-in_err-lists-clause-wrong : goal.returns-in_err-lists-clause-wrong
+returns-in_err-lists-clause-wrong c =
+    let e : c.from_residual-in_err-lists.result ≡ Err Lists = search rules in
+    rw e (inr (
+      (c.in_ok-file.file, sym c.file_at.ensures ∙ c.in_ok-file.ensures.ok_part),
+      inr (
+        right _ c.port_at.result c.in_ok-port.port c.in_ok-port.ensures.ok_part c.port_at.ensures.read,
+        inr (
+          right _ c.connections_at.result c.in_ok-count.count c.in_ok-count.ensures.ok_part
+              c.connections_at.ensures.read,
+          inr (
+            right _ c.count_at.result c.in_ok-patience.patience
+                c.in_ok-patience.ensures.ok_part c.count_at.ensures.read,
+            inr (
+              right _ c.day_at.result c.in_ok-day.day c.in_ok-day.ensures.ok_part c.day_at.ensures.read,
+              inr (
+                right _ c.flag_at.result c.in_ok-existing.existing c.in_ok-existing.ensures.ok_part
+                    c.flag_at.ensures.read,
+                inr (
+                  right _ c.flag_at-2.result c.in_ok-journal.journal c.in_ok-journal.ensures.ok_part
+                      c.flag_at-2.ensures.read,
+                  inl (refl, unread _ c.flag_at-3.result c.in_err-lists.ensures.variant c.flag_at-3.ensures.every),
+                ),
               ),
             ),
           ),

@@ -1,0 +1,13 @@
+//! What an answer of the lists is replied by: its body in JSON, and its line.
+#![tactic(auto)]
+
+mod clients;
+mod due;
+pub mod laws;
+mod lines;
+mod previews;
+mod replies;
+mod stages;
+mod texts;
+
+pub use replies::{list_line, list_text};

@@ -1,0 +1,5 @@
+pub mod Calling
+pub mod Views
+pub mod Ran
+pub mod Served
+pub mod Responses
