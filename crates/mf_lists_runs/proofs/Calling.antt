@@ -7,14 +7,14 @@ use Rattle.mf_base.specs.declared.fault.Fault.TheVariants.{F5, F20}
 use Rattle.mf_lists.specs.declared.answer.ListAnswer.{ListAnswer}
 use Rattle.mf_lists_desk.specs.Readings.{AnswersBy}
 use Rattle.mf_model.specs.Calls.{Call}
-use Rattle.mf_model.specs.Desk.{Outcome, outcome, change_in}
+use Rattle.mf_model.specs.Desk.{outcome, change_in}
 use Rattle.mf_model.specs.declared.reply.Reply.{Reply}
 use Rattle.mf_model.specs.declared.request.Flaw.TheVariants.{Malformed, NoRoute, NoMethod}
 use Rattle.mf_model.specs.declared.request.Request.{Request}
 use Rattle.mf_model.specs.declared.request.Request.TheVariants.{Unreadable, Catalogue, Office, Loan, SeenOffices}
 use Rattle.mf_model.specs.declared.request.Request.TheVariants.{SeenArrears, NewOffice}
 use Rattle.mf_model.specs.Institution.{Institution, Change, Noted, after_line, after_noted}
-use Rattle.mf_model.specs.Run.{Line, noted_of, change_of_line}
+use Rattle.mf_model.specs.Run.{noted_of}
 use Rattle.mf_model.specs.Store.{left_by}
 use Rattle.mf_model.specs.declared.store.InstitutionStore.{Ghosts}
 use Rattle.mf_office.specs.declared.caller.Caller.{Caller}

@@ -1,15 +1,14 @@
 -- A run line by line, where lists may be asked for, is a run on the institution.
-use Rattle.std.proofs.Common.{◌≡◌, ◌≢◌, inl, inr, ℕ, nat_le, Bool, true, false, cond, List, [], ◌∷◌, length, map, refl}
-use Rattle.std.proofs.Common.{sym, ap, ap₂, ◌∙◌, subst, Some, None, Err}
-use Rattle.std.specs.Prelude.{MatchBool, ◌&&◌, not}
+use Rattle.std.proofs.Common.{◌≡◌, ◌≢◌, ℕ, nat_le, Bool, true, false, List, [], ◌∷◌, length, map, refl}
+use Rattle.std.proofs.Common.{sym, ap, ap₂, ◌∙◌, subst, Some, None}
+use Rattle.std.specs.Prelude.{MatchBool}
 use Rattle.mf_base.specs.declared.fault.Fault.TheVariants.{F1, F20}
 use Rattle.mf_model.specs.Answering.{all_answered}
 use Rattle.mf_model.specs.Calls.{Call}
 use Rattle.mf_model.specs.Desk.{outcome, change_in}
 use Rattle.mf_model.specs.declared.request.Flaw.TheVariants.{Malformed}
-use Rattle.mf_model.specs.declared.request.Request.{Request}
 use Rattle.mf_model.specs.Institution.{Institution}
-use Rattle.mf_model.specs.Run.{Line, answer, next, last, noted_of, from_office, from_caller, replies_to}
+use Rattle.mf_model.specs.Run.{Line, next, last, noted_of, from_office, from_caller, replies_to}
 use Rattle.mf_model.specs.Sound.{IsSound}
 use Rattle.mf_model.specs.Store.{left_by, left_after}
 use Rattle.mf_model.specs.Tree.{IsTree}
@@ -28,9 +27,9 @@ use Rattle.mf_wire.specs.Senders.{is_sent_by, is_sent_from, texts_for, NoTextIsF
 use Rattle.mf_wire.proofs.Calling.{told_malformed, too_long}
 use Rattle.mf_wire.proofs.Ran.{isolated, told-map}
 use Rattle.mf_wire.proofs.Senders.{sent_by_is, sent_from_is, texts_for-in, texts_for-told, all_answered_run}
-use Rattle.mf_lists_runs.specs.Choice.{Choice, Told, all_told, told_by_views, told_line, told_of, with_list}
-use Rattle.mf_lists_runs.specs.Choice.{asks_list, is_no_route}
-use Rattle.mf_lists_runs.specs.Runs.{AreTextsByViews, CallsWith, ListsRuns, ListsRunsOn}
+use Rattle.mf_lists_runs.specs.Choice.{Choice, Told, all_told, told_line, told_of}
+use Rattle.mf_lists_runs.specs.Choice.{is_no_route}
+use Rattle.mf_lists_runs.specs.Runs.{AreTextsByViews, CallsWith, ListsRuns}
 use Rattle.mf_lists_runs.proofs.Calling.{asks, asks_where, other_flaw, plain_calls}
 use Rattle.mf_lists_runs.proofs.Views.{read_by_views}
 

@@ -1,5 +1,5 @@
 -- From a message that arrived to its response, by the desk or by a list.
-use Rattle.std.proofs.Common.{◌≡◌, inl, inr, ℕ, Bool, true, false, List, ◌∷◌, Option, Some, None, refl, sym, subst}
+use Rattle.std.proofs.Common.{◌≡◌, inl, inr, ℕ, Bool, List, ◌∷◌, Some, None, refl, sym, subst}
 use Rattle.mf_base.specs.declared.fault.Fault.TheVariants.{F1, F20}
 use Rattle.mf_model.specs.Institution.{Institution}
 use Rattle.mf_model.specs.declared.store.InstitutionStore.{Ghosts}

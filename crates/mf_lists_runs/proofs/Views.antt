@@ -1,6 +1,6 @@
 -- What a line is told is read off what its sender's office sees.
 use Rattle.std.proofs.Common.{◌≡◌, inl, inr, ℕ, Bool, true, false, cond, List, [], ◌∷◌, Option, Some, None, Result, Ok, Err}
-use Rattle.std.proofs.Common.{refl, sym, ap, ap₂, ◌∙◌, subst, arith}
+use Rattle.std.proofs.Common.{refl, sym, ap, ap₂, subst, arith}
 use Rattle.std.specs.Prelude.{◌==◌, ◌&&◌, not, take}
 use Rattle.std.proofs.lemmas.Bool.Decides.{nat_tests}
 use Rattle.mf_base.specs.declared.fault.Fault.{Fault}
@@ -10,7 +10,7 @@ use Rattle.mf_lists.specs.declared.request.ListRequest.{ListRequest}
 use Rattle.mf_lists.specs.Readings.{list_reply}
 use Rattle.mf_lists.proofs.ListLemmas.{reply-by_view}
 use Rattle.mf_model.specs.Calls.{Call}
-use Rattle.mf_model.specs.Desk.{reply, reply_in}
+use Rattle.mf_model.specs.Desk.{reply_in}
 use Rattle.mf_model.specs.declared.reply.Reply.{Reply}
 use Rattle.mf_model.specs.Institution.{Institution}
 use Rattle.mf_model.specs.Run.{Line, answer, next, from_office, from_caller, is_of, replies_to}
@@ -18,7 +18,7 @@ use Rattle.mf_model.specs.Tree.{IsTree, view}
 use Rattle.mf_model.proofs.Views.{outcome_view}
 use Rattle.mf_model.proofs.Runs.{AreFrom, IsTree_next, isolated_view, office_from, caller_from}
 use Rattle.mf_office.specs.declared.caller.Caller.{Caller}
-use Rattle.mf_lists_runs.specs.Choice.{Choice, Told, IsReadByViews, all_told, asks_list, list_asked, list_told}
+use Rattle.mf_lists_runs.specs.Choice.{Choice, Told, IsReadByViews, all_told, asks_list, list_asked}
 use Rattle.mf_lists_runs.specs.Choice.{list_told_to, told_by_views, told_of}
 
 same_office : (c : Caller) (o : ℕ) → (c.office == o) ≡ true → c.office ≡ o

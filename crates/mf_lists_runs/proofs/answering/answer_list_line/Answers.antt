@@ -1,4 +1,3 @@
-use Rattle.std.proofs.Common.{inl, inr}
 use Rattle.std.specs.Prelude.{◌≡◌}
 use Rattle.mf_lists_runs.specs.Choice.{told_line}
 use Rattle.mf_wire_lines.specs.Replies.{reply_line_of}

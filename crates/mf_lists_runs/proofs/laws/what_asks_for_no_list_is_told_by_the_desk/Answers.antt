@@ -1,12 +1,11 @@
-use Rattle.std.proofs.Common.{◌≡◌, inl, ℕ, zero, suc, Bool, false, List, [], ◌∷◌, map, Some, sym, ap, ◌∙◌}
+use Rattle.std.proofs.Common.{◌≡◌, ℕ, zero, suc, Bool, false, List, [], ◌∷◌, map, Some, sym, ap, ◌∙◌}
 use Rattle.std.specs.Prelude.{slice_get}
-use Rattle.mf_model.specs.Calls.{Call}
 use Rattle.mf_model.specs.Institution.{Institution}
 use Rattle.mf_model.specs.Run.{Line, answer, next}
 use Rattle.mf_wire.specs.Runs.{texts_of}
 use Rattle.mf_wire_requests.specs.Requests.{call_in}
-use Rattle.mf_lists_runs.specs.Choice.{Choice, Told, all_told, asks_list, told_line, told_of}
-use Rattle.mf_lists_runs.proofs.Calling.{asks, asks_where, plain_is}
+use Rattle.mf_lists_runs.specs.Choice.{Choice, Told, all_told, asks_list, told_line}
+use Rattle.mf_lists_runs.proofs.Calling.{asks_where, plain_is}
 use Rattle.mf_lists_runs.proofs.laws.what_asks_for_no_list_is_told_by_the_desk.Goals as goal
 
 at_place : (choice : Choice) (told : Bool) (run : List Line) (lines : List (List ℕ)) (i : Institution) (place : ℕ)

@@ -1,4 +1,4 @@
-use Rattle.std.proofs.Common.{◌≡◌, true, false, Some, None, sym, subst, rules}
+use Rattle.std.proofs.Common.{◌≡◌, true, false, Some, sym, subst, rules}
 use Rattle.std.specs.Prelude.{is_some}
 use Rattle.mf_model.specs.Calls.{Call}
 use Rattle.mf_office.specs.Texts.{caller_of}

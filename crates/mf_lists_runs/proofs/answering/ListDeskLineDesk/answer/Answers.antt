@@ -6,7 +6,6 @@ use Rattle.mf_model.specs.declared.request.Flaw.TheVariants.{Malformed}
 use Rattle.mf_office.specs.Texts.{caller_of}
 use Rattle.mf_wire_lines.specs.Cut.{longest_line}
 use Rattle.mf_wire_lines.specs.Replies.{reply_line_of}
-use Rattle.mf_wire_replies.specs.Shown.{shown_line}
 use Rattle.mf_wire_requests.specs.RequestLine.{parts_now, parts_in}
 use Rattle.mf_wire_requests.specs.Requests.{call_in, call_of_parts}
 use Rattle.mf_wire.proofs.Calling.{line_call, told_malformed, without_parts}
