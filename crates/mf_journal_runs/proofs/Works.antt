@@ -44,7 +44,8 @@ module _ {S : Type 0} (store : Ghosts S) where
   after_run i run new are stands = (last run i, lines_of_run run i, run_grows run i are, stands)
 
   -- lines that were run
-  ran_lines : (choice : Choice) (told : Bool) (old new : S) (lines texts : List (List ℕ)) → ListsRuns store choice told old lines texts new
+  ran_lines : (choice : Choice) (told : Bool) (old new : S) (lines texts : List (List ℕ))
+      → ListsRuns store choice told old lines texts new
       → Grows old new
   ran_lines choice told old new lines texts runs = record {
     premise = runs.premise;
@@ -54,10 +55,12 @@ module _ {S : Type 0} (store : Ghosts S) where
 
   run_ended : (choice : Choice) (told : Bool) (old new : S) (streams : Streams) (result : Result ℕ StreamFault)
       → lines.Ends (ListsRuns store choice told) old new streams result → Grows old new
-  run_ended choice told old new streams (Ok count) ends = ran_lines choice told old new _ ends.answered.texts ends.answered.ran
+  run_ended choice told old new streams (Ok count) ends =
+      ran_lines choice told old new _ ends.answered.texts ends.answered.ran
   run_ended choice told old new streams (Err fault) ends = by fault.cause ends
     where
-      by : (cause : Cause) → lines.EndsBy (ListsRuns store choice told) old new streams cause fault.answered → Grows old new
+      by : (cause : Cause) → lines.EndsBy (ListsRuns store choice told) old new streams cause fault.answered
+          → Grows old new
       by Read h = ran_lines choice told old new _ h.answered.texts h.answered.ran
       by Write h = elim h.broken [
         | inl broken ↦ ran_lines choice told old new _ _ broken.ran
@@ -66,7 +69,8 @@ module _ {S : Type 0} (store : Ghosts S) where
       by Memory h = unchanged old new h.same
 
   -- a message that was answered
-  served : (choice : Choice) (told : Bool) (bytes text : List ℕ) (old new : S) → ListsAnswerMessage store choice told bytes old text new
+  served : (choice : Choice) (told : Bool) (bytes text : List ℕ) (old new : S)
+      → ListsAnswerMessage store choice told bytes old text new
       → Grows old new
   served choice told bytes text old new a = record {
     premise = a.answered.premise;
@@ -81,8 +85,8 @@ module _ {S : Type 0} (store : Ghosts S) where
   message_ended choice told old new streams (Ok true) ends = served choice told _ ends.text old new ends.answered
   message_ended choice told old new streams (Err fault) ends = by fault.cause ends
     where
-      by : (cause : Cause) → EndsMessageBy (ListsAnswerMessage store choice told) old new streams cause fault.answered → Grows
-          old new
+      by : (cause : Cause) → EndsMessageBy (ListsAnswerMessage store choice told) old new streams cause fault.answered
+          → Grows old new
       by Read h = unchanged old new h.untouched.same
       by Write h = served choice told _ h.text old new h.answered
       by Memory h = unchanged old new h.untouched.same

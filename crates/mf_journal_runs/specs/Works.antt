@@ -25,7 +25,8 @@ pub data Work : Type 0 where
   Sheet : List ℕ → Caller → SheetStreams → Result (Unit {0}) StreamFault → Work
 
 module _ {S : Type 0} (store : Ghosts S) where
-  -- what the contract of `mf_lists_runs::run`, `mf_lists_runs::serve_one` or `mf_sheet::collect` says of the call, however it ended
+  -- what the contract of `mf_lists_runs::run`, `mf_lists_runs::serve_one` or `mf_sheet::collect` says of the call,
+  -- however it ended
   abbrev pub IsDone : Work → S → S → Type 0
   IsDone (Run choice told streams result) old new = lines.Ends (ListsRuns store choice told) old new streams result
   IsDone (Message choice told streams result) old new =

@@ -48,17 +48,17 @@ pub fn worked_text_of_a_line()
 {}
 
 /// Take what `mf_wire::run` says of request lines over a store that stands for an institution; what
-/// `mf_lists_runs::run` says has that in it (`ran`), with lists and without. The journal of the institution afterwards is
-/// that of before, and then one line for each accepted request of the run that changed something, in order. These lines
-/// play from the institution before to the one after, and each reads as a request.
+/// `mf_lists_runs::run` says has that in it (`ran`), with lists and without. The journal of the institution afterwards
+/// is that of before, and then one line for each accepted request of the run that changed something, in order. These
+/// lines play from the institution before to the one after, and each reads as a request.
 pub fn a_run_is_journaled<S: InstitutionStore>()
     ensures { (told : Bool) (i : Institution) (lines texts : List (List ℕ)) (old new : S) →
         (ran : RunsOn S.InstitutionStore told i lines old texts new) →
         GrewBy (lines_of_run ran.run i) i (last ran.run i) }
 {}
 
-/// The same of messages that were answered one after another, which what is said of `mf_lists_runs::serve_one` has in it
-/// (`served`).
+/// The same of messages that were answered one after another, which what is said of `mf_lists_runs::serve_one` has in
+/// it (`served`).
 pub fn served_messages_are_journaled<S: InstitutionStore>()
     ensures { (told : Bool) (i : Institution) (exchanges : List Exchange) (old new : S) →
         (served : ServesOn S.InstitutionStore told i exchanges old new) →

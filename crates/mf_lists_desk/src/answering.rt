@@ -22,8 +22,8 @@ fn list_of_office<S: InstitutionStore, L: Lists<S>>(
     office: OfficeNo,
     asked: ListAsked,
 ) -> Result<ListTold, Fault>
-    ensures told { AnswersBy S.InstitutionStore (in_rows_of office (office_list L.folded asked office)) store.old store.new
-        result }
+    ensures told { AnswersBy S.InstitutionStore (in_rows_of office (office_list L.folded asked office)) store.old
+        store.new result }
     ensures refusal { IfErr result (λ f. f ≢ Fault.F19) }
 {
     match asked {

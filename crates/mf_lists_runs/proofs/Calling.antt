@@ -75,8 +75,11 @@ other_flaw call e =
 
 -- so its change is none
 no_change : (call : Call) (i : Institution) → asks_list call ≡ true → outcome call i ≡ Err F5
-no_change call i e = ap (λ (r : Request). outcome (record { caller = call.caller; request = r; received = call.received })
-    i) (asks_no_route call e)
+no_change call i e = ap (λ (r : Request). outcome (record {
+  caller = call.caller;
+  request = r;
+  received = call.received;
+}) i) (asks_no_route call e)
 
 -- where no list is asked for the desk's reply stands
 pub plain_is : (choice : Choice) (call : Call) (g : Bool) (i : Institution) (r : Result Reply Fault)

@@ -107,7 +107,8 @@ module _ {S : Type 0} (store : Ghosts S) (choice : Choice) (told : Bool) where
       at false e h = subst (λ n. Step old line text n) (sym h.1)
           (plain_calls store choice (λ t. text ≡ told_line t) (call_in told line) old old
           (malformed_asks choice (call_in told line) (ap is_no_route (too_long told line e)))
-          (told_malformed store (λ r. text ≡ shown_line r) (call_in told line) old Malformed (too_long told line e) h.0))
+          (told_malformed store (λ r. text ≡ shown_line r) (call_in told line) old Malformed (too_long told line e)
+          h.0))
 
   -- the lines so far
   record RanOn (i : Institution) (lines : List (List ℕ)) (old : S) (texts : List (List ℕ)) (new : S) : Type 0 where

@@ -32,9 +32,9 @@ module _ {S : Type 0} (store : Ghosts S) (choice : Choice) where
         × AnswersLine store (λ r. told (with_list choice (record { call = call; given_up = given_up }) i r))
         (record { call = call; given_up = given_up }) i old new
 
-  -- The lines were answered by a run. Without the lists it is that of `mf_wire`, with other texts where a list was asked
-  -- for: what these other texts are, what it makes of the institution, what is isolated and what a stop leaves is told
-  -- there. With them each text is what its line is told. Where no text is F20's, no line was given up.
+  -- The lines were answered by a run. Without the lists it is that of `mf_wire`, with other texts where a list was
+  -- asked for: what these other texts are, what it makes of the institution, what is isolated and what a stop leaves is
+  -- told there. With them each text is what its line is told. Where no text is F20's, no line was given up.
   pub record ListsRunsOn (told : Bool) (i : Institution) (lines : List (List ℕ)) (old : S) (texts : List (List ℕ))
       (new : S) : Type 0 where
     pub without : List (List ℕ)

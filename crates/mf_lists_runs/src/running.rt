@@ -27,8 +27,8 @@ pub fn run<S: InstitutionStore, L: Lists<S>, R: Source, W: Sink>(
     source: &mut R,
     sink: &mut W,
 ) -> Result<u64, StreamFault>
-    ensures ends { Ends (ListsRuns S.InstitutionStore (choice_if L.folded (is_some lists.entry)) told) store.old store.new
-        (streams_of (stream_of R.unread R.faults source.old source.new)
+    ensures ends { Ends (ListsRuns S.InstitutionStore (choice_if L.folded (is_some lists.entry)) told) store.old
+        store.new (streams_of (stream_of R.unread R.faults source.old source.new)
         (stream_of W.written W.faults sink.old sink.new)) result }
     ensures memory { IfErr result (λ f. f.cause ≡ cause.Memory → (source.new ≡ source.old) × (sink.new ≡ sink.old)) }
 {

@@ -44,8 +44,8 @@ pub fn run_and_close<D: Disk + Drop, R: Source, W: Sink>(
 )
     ensures premise { CloseWell result.1 → HasGoodDisk over_files store.connection }
     ensures ends { CloseWell result.1 → (i : Institution) → StandsFor over_files store i →
-        Leaves over_files store (i ∷ []) → RunsAndCloses (choice_if folded (is_some lists.entry)) told i result.1 (streams_of
-        (stream_of R.unread R.faults source.old source.new)
+        Leaves over_files store (i ∷ []) → RunsAndCloses (choice_if folded (is_some lists.entry)) told i result.1
+        (streams_of (stream_of R.unread R.faults source.old source.new)
         (stream_of W.written W.faults sink.old sink.new)) result.0 }
 {
     let ended = run(alloc, lists, told, &mut store, source, sink);
