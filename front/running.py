@@ -57,6 +57,12 @@ def has_lists():
     return b"--lists" in done.stdout
 
 
+def keeps_journal(path):
+    """Whether the institution of a file keeps a journal."""
+    done = subprocess.run([program(), "why", "--file", path], stdout=subprocess.PIPE, check=False)
+    return b"with a journal" in done.stdout
+
+
 def free_port():
     """A port below those that the kernel gives to connections: none of these takes it before it is listened on."""
     while True:
@@ -92,17 +98,19 @@ def is_readable_by_workers(path):
 
 
 class Serve:
-    """`microloan serve` over a file."""
+    """`microloan serve` over a file. With `journal` the file has to keep one, which notes what the front tells."""
 
-    def __init__(self, path, port, lists=None):
+    def __init__(self, path, port, lists=None, journal=False):
         self.path = path
         self.port = port
         self.lists = has_lists() if lists is None else lists
+        self.journal = journal
         self.process = None
 
     def start(self):
         words = [program(), "serve", "--existing", "--file", self.path, "--port", str(self.port)]
         words += ["--lists"] if self.lists else []
+        words += ["--journal"] if self.journal else []
         self.process = start_beside(words, umask=0o077)
         wait_for(self.port, self.process, "microloan serve")
 

@@ -15,12 +15,13 @@ import {LANGUAGES, chooseLanguage, language, locale, say, showDay} from "./share
 
 // each in a file of views/ of its name, loaded once it is shown
 const PAGES = [
-    "today", "clients", "client", "loans", "loan", "waivers", "statement", "round", "kept", "arrears", "penalties",
-    "catalogue", "people"
+    "today", "clients", "client", "loans", "loan", "waivers", "statement", "round", "kept", "pack", "arrears",
+    "penalties", "catalogue", "people", "journal"
 ];
+const WITHOUT_DESK = ["kept", "pack"];  // what they show is on this phone
 const WAYS = [
-    ["today"], ["clients", "client"], ["loans", "loan", "waivers"], ["round", "kept"], ["arrears", "penalties"],
-    ["catalogue"], ["people"]
+    ["today"], ["clients", "client"], ["loans", "loan", "waivers"], ["round", "kept", "pack"], ["arrears", "penalties"],
+    ["catalogue"], ["people", "journal"]
 ];
 const ROLES = {
     [TELLER]: "teller",
@@ -62,7 +63,7 @@ async function showPage() {
     const isFirst = shown === null;
     shown = page;
     try {
-        if (without !== null && name !== "kept") {
+        if (without !== null && !WITHOUT_DESK.includes(name)) {
             showWithout(page, name);
         } else {
             await (await load(name))(page, ...rest);
@@ -94,6 +95,7 @@ function showWithout(page, name) {
         page, element("h1", {class: "h3", tabindex: "-1"}, say(`way.${way}`)), words,
         element(
             "div", {class: "page-actions"}, link("#/kept", say("kept.title"), {class: "btn btn-primary"}),
+            link("#/pack", say("pack.title"), {class: "btn btn-outline-primary"}),
             button(say(without.hasNoReply ? "without.again" : "again"), begin)));
 }
 
@@ -114,8 +116,17 @@ function markWay(name) {
             way.removeAttribute("aria-current");
         }
     }
-    const menu = bootstrap.Collapse.getInstance(document.getElementById("menu"));
-    menu?.hide();
+    showMenu(false);
+}
+
+// The ways of a phone stand in a menu, which its button opens and closes.
+function showMenu(isShown) {
+    document.getElementById("menu").classList.toggle("show", isShown);
+    document.querySelector(".navbar-toggler").setAttribute("aria-expanded", String(isShown));
+}
+
+function toggleMenu() {
+    showMenu(!document.getElementById("menu").classList.contains("show"));
 }
 
 function languageChoice() {
@@ -143,11 +154,10 @@ function topBar(dayWords, end, finder) {
         "button", {
             class: "navbar-toggler",
             type: "button",
-            "data-bs-toggle": "collapse",
-            "data-bs-target": "#menu",
             "aria-controls": "menu",
             "aria-expanded": "false",
             "aria-label": say("menu"),
+            onclick: toggleMenu,
         },
         element("span", {class: "navbar-toggler-icon"}));
     const day = element(

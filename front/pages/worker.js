@@ -4,10 +4,7 @@
 
 const FILES = "@FILES@";
 const NAMES = "@NAMES@".split(" ");
-const LIBRARIES = [
-    "/lib/bootstrap/css/bootstrap.min.css", "/lib/bootstrap/js/bootstrap.bundle.min.js", "/lib/dsv/d3-dsv.min.js",
-    "/lib/qrcode/qrcode.js"
-];
+const LIBRARIES = ["/lib/bootstrap/css/bootstrap.min.css", "/lib/dsv/d3-dsv.min.js", "/lib/qrcode/qrcode.js"];
 const PAGES = {"/": "index.html", "/sign-in.html": "sign-in.html"};
 const PATIENCE = 4000;  // milliseconds that a page or a library may take, before what is kept is shown
 const VERSIONS = 2;     // kept at once, since a page of the version before may still be open

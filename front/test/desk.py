@@ -8,8 +8,9 @@
         it.kill_serve(); it.start_serve()
 
 Desk(file=PATH) takes an institution's file that is there, Desk(pages=FOLDER) other pages. The program has lists for the
-pages where it can; with Desk(lists=False) it has none. People sign in by Basic, and by
-sessions with Desk(sessions=True), or where MICROLOAN_SIGN_IN is `sessions`. All ends with the block.
+pages where it can; with Desk(lists=False) it has none. Desk(lines=.., journal=True) founds one that keeps a journal.
+People sign in by Basic, and by sessions with Desk(sessions=True), or where MICROLOAN_SIGN_IN is `sessions`. All ends
+with the block.
 Screenshots go into the folder that MICROLOAN_SHOTS names, else into out/shots of the checkout.
 """
 import atexit
@@ -60,12 +61,13 @@ def copy_file(path, other):
 class Desk:
     """A front over the program, in a folder of its own, from its start to its end."""
 
-    def __init__(self, lines=None, file=None, pages=None, people=None, sessions=None, minutes=(), lists=None):
+    def __init__(self, lines=None, file=None, pages=None, people=None, sessions=None, minutes=(), lists=None,
+                 journal=False):
         self.folder = tempfile.mkdtemp(prefix="microloan-test-")
         self.file = os.path.join(self.folder, "desk.db")
         self.drivers = []
         self.replies = []
-        self.serve = running.Serve(self.file, running.free_port(), lists)
+        self.serve = running.Serve(self.file, running.free_port(), lists, journal)
         self.cookies = {}
         by_sessions = SESSIONS if sessions is None else sessions
         self.sign_in = running.SignIn(os.path.join(self.folder, "sign-in"), *minutes) if by_sessions else None
@@ -73,7 +75,8 @@ class Desk:
         self.nginx = running.Nginx(self.folder, running.free_port(), self.serve.port, pages, folder)
         try:
             if lines is not None:
-                self.replies = running.answer_lines(self.file, lines).decode().splitlines()
+                founding = ["--journal"] if journal else []
+                self.replies = running.answer_lines(self.file, lines, *founding).decode().splitlines()
             else:
                 copy_file(file or demonstration_file(), self.file)
             self.nginx.lay_out()

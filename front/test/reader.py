@@ -63,7 +63,7 @@ class Reader:
         self.close()
 
     def wish(self, scheme):
-        """Has the system wish for light or dark colours; and for no motion, so that dialogs don't fade in and out."""
+        """Has the system wish for light or dark colours, and for no motion."""
         wishes = {"prefers-reduced-motion": "reduce", "prefers-color-scheme": scheme}
         features = [{"name": name, "value": value} for name, value in wishes.items()]
         self.driver.execute_cdp_cmd("Emulation.setEmulatedMedia", {"features": features})

@@ -237,10 +237,8 @@ class OtherSites(unittest.TestCase):
 
 class Files(unittest.TestCase):
     def test_libraries_are_there_without_password(self):
-        kinds = {"css/bootstrap.min.css": "text/css", "js/bootstrap.bundle.min.js": "application/javascript"}
-        paths = {f"/lib/bootstrap/{path}": kind for path, kind in kinds.items()}
         scripts = ("/lib/chart/chart.min.js", "/lib/dsv/d3-dsv.min.js", "/lib/qrcode/qrcode.js")
-        paths |= dict.fromkeys(scripts, "application/javascript")
+        paths = {"/lib/bootstrap/css/bootstrap.min.css": "text/css"} | dict.fromkeys(scripts, "application/javascript")
         for path, kind in paths.items():
             with self.subTest(path):
                 status, fields, data = DESK.exchange(None, "GET", path)
@@ -252,12 +250,11 @@ class Files(unittest.TestCase):
         script = """const done = arguments[0]; const add = path => new Promise((ready, failed) => { const script =
             document.createElement("script"); script.src = path; script.onload = ready; script.onerror = failed;
             document.head.append(script) });
-            add("/lib/bootstrap/js/bootstrap.bundle.min.js").then(() => add("/lib/chart/chart.min.js"))
+            add("/lib/chart/chart.min.js")
             .then(() => add("/lib/dsv/d3-dsv.min.js")).then(() => add("/lib/qrcode/qrcode.js"))
-            .then(() => done([typeof bootstrap.Modal, typeof Chart, d3.csvParseRows('1,"2,3"\\n')[0][1],
-            typeof qrcode]))
+            .then(() => done([typeof Chart, d3.csvParseRows('1,"2,3"\\n')[0][1], typeof qrcode]))
             .catch(fault => done(String(fault)))"""
-        self.assertEqual(browser.execute_async_script(script), ["function", "function", "2,3", "function"])
+        self.assertEqual(browser.execute_async_script(script), ["function", "2,3", "function"])
 
     def test_nothing_else_is_served(self):
         paths = ("/lib/", "/lib/dsv../package.json", "/lib/dsv/../package.json", "/lib/chart/../jquery/jquery.min.js")

@@ -61,7 +61,8 @@ class Amounts(loans.Case):
             tom.fill("Amount", "20")
             self.assertFalse(tom.all(".doubt"))
             tom.press("Enter a repayment", ".modal.show")
-            tom.wait_for_dialog("was entered on this loan since this page was loaded: entry 1, by " + loans.who("2/2"))
+            told = "was entered on this loan since these figures were read: entry 1, by "
+            tom.wait_for_dialog(told + loans.who("2/2"))
             self.assertIn("990.00 → 970.00", tom.text(".doubt"))
             tom.send("Enter 20.00 all the same")
             tom.open_dialog("Enter a repayment")

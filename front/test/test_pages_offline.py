@@ -222,7 +222,7 @@ class Opening(Case):
 
     PLACES = (
         "today", "clients/2", "client/0002-000001", "loans/2", "loan/0002-000001", "statement/0002-000001", "round/2",
-        "arrears", "waivers/0002-000001", "penalties/2", "catalogue", "people",
+        "arrears", "waivers/0002-000001", "penalties/2", "catalogue", "journal/2", "people",
     )
 
     def test_installs(self):

@@ -236,6 +236,7 @@ class Sheets(loans.Case):
         head = self.reader(it, "head")
         text = "\ufeffReceipt , LOAN,date,Amount\r\n" + "\r\n".join(bad + good) + "\r\n\r\n"
         read = head.module(
+            "const { loadLibrary } = await load('shared/api.js'); await loadLibrary('/lib/dsv/d3-dsv.min.js');"
             "const { readSheet } = await load('views/round-sheet.js');"
             f"return readSheet({text!r}).map((line) => [line.result, line.isGood ? Number(line.cents) : null])"
         )
@@ -252,6 +253,7 @@ class Sheets(loans.Case):
             lines + '"R-3', "=1,0001-000001,2024-02-29,5\n"
         ]
         read = head.module(
+            "const { loadLibrary } = await load('shared/api.js'); await loadLibrary('/lib/dsv/d3-dsv.min.js');"
             "const { readWholeSheet } = await load('views/round-sheet.js');"
             f"return {texts!r}.map(readWholeSheet).map((read) => read.problem ?? read.lines.map((line) => line.result))"
         )

@@ -605,6 +605,10 @@ class Journals(unittest.TestCase):
         line = '1/1 POST /clients {"office":1,"name":"Amina"}\n'
         self.answer(line * count)
 
+    def archive(self, day):
+        words = [running.program(), "archive", "--existing", "--file", self.file, "--to", day]
+        subprocess.run([*words, "--into", f"{self.file}-{day}"], stdout=subprocess.DEVNULL, check=True)
+
     def forge(self, how):
         words = [sys.executable, os.path.join(HERE, "forge_journal.py"), self.file, self.file + ".forged", str(how)]
         subprocess.run(words, check=True)
@@ -656,6 +660,20 @@ class Journals(unittest.TestCase):
         self.assertEqual(os.stat(self.heads).st_mode & 0o777, 0o600)
         self.assertEqual(self.check_says()[0], 0)
         self.assertIn("journal noted up to line 5", self.check_says()[1])
+
+    def test_a_journal_whose_first_lines_were_archived(self):
+        """It is compared from where it goes on, and told where that is behind all that was noted."""
+        self.back_up()
+        self.answer('1/1 PUT /business-day {"day":"2024-01-02"}\n')
+        self.enter(5)
+        self.back_up()
+        self.archive("2024-01-01")
+        self.assertEqual(self.back_up()[2], "")
+        self.answer('1/1 PUT /business-day {"day":"2024-01-03"}\n')
+        self.enter(5)
+        self.answer('1/1 PUT /business-day {"day":"2024-01-04"}\n')
+        self.archive("2024-01-03")
+        self.assertIn("the journal begins after line 18, and the last that was noted, on ", self.back_up()[2])
 
     def test_a_journal_that_is_not_as_it_was_noted_is_told(self):
         """Made anew from a line on, a line less, none: by each backup and by microloan-check, until it is put right."""

@@ -167,6 +167,14 @@ def verify(path, signature, signer):
         raise Failed(f"{os.path.basename(path)} isn't as it was signed, or wasn't signed by {signer}") from None
 
 
+def newest(folder):
+    """The newest bundle of a folder."""
+    names = sorted(name for name in os.listdir(folder) if re.fullmatch(r"desk-[0-9T-]{17}.*\.tar\.age", name))
+    if not names:
+        raise Failed(f"there is no backup in {folder}")
+    return os.path.join(folder, names[-1])
+
+
 @contextlib.contextmanager
 def opened(path, identity):
     """The members of a bundle, one after the other, and what is told of it."""

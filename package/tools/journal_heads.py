@@ -101,11 +101,19 @@ def standing(notes):
 
 
 def difference(path, notes):
-    """What of the notes a file's journal isn't, as a text; nothing where it is all that was noted."""
+    """What of the notes a file's journal isn't, as a text; nothing where it is all that was noted.
+
+    Where its first lines were archived, the notes from its beginning on are compared, and there must be one.
+    """
     with journal_of(path) as database:
         if database is None and notes:
             return f"no journal is kept any more, and its line {notes[-1].number} was noted on {notes[-1].moment}"
-        for note in notes:
+        begins = database.execute("select coalesce(min(number), 0) from journal").fetchone()[0] if database else 0
+        compared = [note for note in notes if note.number >= begins]
+        if notes and not compared:
+            last = f"the last that was noted, on {notes[-1].moment}, is {notes[-1].number}"
+            return f"the journal begins after line {begins}, and {last}"
+        for note in compared:
             when = f"line {note.number} was noted on {note.moment}"
             row = database.execute("select lower(hex(chain)) from journal where number = ?", [note.number]).fetchone()
             if row is None:

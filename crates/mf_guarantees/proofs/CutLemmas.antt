@@ -53,7 +53,7 @@ module _ (n : ℕ) (order : ℕ → Cell) (place : Cell → ℕ) where
       (λ k from to. amounts-twice n order place rows amount more k line (omega (arith, to, line.size))))
       ∙ sym (rows_paid-by order rows (amount + more))
 
-  line_paid : (rows : List Instalment) (amount : ℕ) → IsLine n order place rows
+  pub line_paid : (rows : List Instalment) (amount : ℕ) → IsLine n order place rows
       → IsLine n order place (rows_paid order rows amount)
   line_paid rows amount line = record {
     size = length-rows_paid order rows amount ∙ line.size;
@@ -63,7 +63,7 @@ module _ (n : ℕ) (order : ℕ → Cell) (place : Cell → ℕ) where
   }
 
   -- what an amount leaves where it is paid together with what is overpaid
-  abbrev paying : ℕ → State → State
+  abbrev pub paying : ℕ → State → State
   paying amount before = record {
     rows = rows_paid order before.rows (amount + before.overpaid);
     overpaid = rest_of order before.rows (amount + before.overpaid);
@@ -78,7 +78,7 @@ module _ (n : ℕ) (order : ℕ → Cell) (place : Cell → ℕ) where
       ap (λ (k : Kind). with_overpaid_paid order (own_effect k order e before)) is
       ∙ (λ t. record { rows = rows t; overpaid = rest t; refunded = before.refunded })
 
-  paid_twice : (first second : ℕ) (before : State) → IsLine n order place before.rows
+  pub paid_twice : (first second : ℕ) (before : State) → IsLine n order place before.rows
       → paying second (paying first before) ≡ paying (first + second) before
   paid_twice first second before line =
       let sum : first + before.overpaid + second ≡ first + second + before.overpaid = omega arith in
@@ -202,13 +202,13 @@ module _ (e a b : Entry) (day_a : a.day ≡ e.day) (day_b : b.day ≡ e.day) whe
 
 -- ---- the account
 
-after_both : (loan : DisbursedLoan) (xs ys : List Entry) (before : State)
+pub after_both : (loan : DisbursedLoan) (xs ys : List Entry) (before : State)
     → after_entries (orders_of loan) (xs ++ ys) before
     ≡ after_entries (orders_of loan) ys (after_entries (orders_of loan) xs before)
 after_both loan [] ys before = refl
 after_both loan (x ∷ xs) ys before = after_both loan xs ys (after_entry (orders_of loan x) x before)
 
-front_all : (P : Entry → Type 0) (xs ys : List Entry) → AllByRecursion P (xs ++ ys) → AllByRecursion P xs
+pub front_all : (P : Entry → Type 0) (xs ys : List Entry) → AllByRecursion P (xs ++ ys) → AllByRecursion P xs
 front_all P [] ys all = tt
 front_all P (x ∷ xs) ys all = (all.0, front_all P xs ys all.1)
 
@@ -220,7 +220,7 @@ there_same Waive n e has = has
 there_same WriteOff n e has = has
 there_same Refund n e has = has
 
-counts_all : (n : ℕ) (xs : List Entry) → AllByRecursion (IsReplayable n) xs
+pub counts_all : (n : ℕ) (xs : List Entry) → AllByRecursion (IsReplayable n) xs
     → AllByRecursion (IsReplayable n) (map what_counts xs)
 counts_all n [] all = tt
 counts_all n (x ∷ xs) all =

@@ -273,7 +273,7 @@ told_same i change x f loan (Ok (told, Some new)) there same h =
     let is : Rows_become x new ≡ change = cc in
     ap (λ (c : Change). entries_held (ledger_at loan (after c i))) (sym is) ∙ rows_same i x new f loan there same
 
-office_same : (i : Institution) (change : Change) (x : ℕ) (asked : OfficeRequest) (loan : Account) (o : Option Office)
+pub office_same : (i : Institution) (change : Change) (x : ℕ) (asked : OfficeRequest) (loan : Account) (o : Option Office)
     → office_at x i.offices ≡ o
     → change_in (in_office x (λ k f. on_office asked x k f.rows) i.catalogue o) ≡ Some change
     → entries_held (ledger_at loan (after change i)) ≡ entries_held (ledger_at loan i)
@@ -287,11 +287,11 @@ new_there : (new : Office) (fs : List Office) → is_there fs new.number ≡ fal
 new_there new [] free = grind (arith, nat_tests)
 new_there new (f ∷ fs) free = grind (arith, nat_tests, new_there new fs)
 
-none_there : (o : Option Office) → is_some o ≡ false → o ≡ None
+pub none_there : (o : Option Office) → is_some o ≡ false → o ≡ None
 none_there None h = refl
 none_there (Some f) h = absurd (cc)
 
-new_office_same : (i : Institution) (number parent : ℕ) (name : List ℕ) (loan : Account)
+pub new_office_same : (i : Institution) (number parent : ℕ) (name : List ℕ) (loan : Account)
     → Fits (Office_added number parent name) i.offices
     → entries_held (ledger_at loan (after (Office_added number parent name) i)) ≡ entries_held (ledger_at loan i)
 new_office_same i number parent name loan fit =
@@ -307,12 +307,12 @@ new_office_same i number parent name loan fit =
     ]
 
 -- a request on a loan leaves all other loans
-record LedgersAfter (loan : Account) (l m : Ledger) (i j : Institution) : Type 0 where
-  before : ledger_at loan i ≡ Some l
-  now : ledger_at loan j ≡ Some m
-  others : (other : Account) → other ≢ loan → ledger_at other j ≡ ledger_at other i
+pub record LedgersAfter (loan : Account) (l m : Ledger) (i j : Institution) : Type 0 where
+  pub before : ledger_at loan i ≡ Some l
+  pub now : ledger_at loan j ≡ Some m
+  pub others : (other : Account) → other ≢ loan → ledger_at other j ≡ ledger_at other i
 
-ledgers_after : (loan : Account) (i : Institution) (f : Office) (l : Ledger) (becomes : LedgerChange)
+pub ledgers_after : (loan : Account) (i : Institution) (f : Office) (l : Ledger) (becomes : LedgerChange)
     → office_at loan.office i.offices ≡ Some f → item_numbered f.rows.loans loan.number ≡ Some l
     → LedgersAfter loan l (becomes l) i (after (Rows_become loan.office (loan_changed loan.number becomes f.rows)) i)
 ledgers_after loan i f l becomes there found =
@@ -340,7 +340,7 @@ ledgers_after loan i f l becomes there found =
       ];
     }
 
-same_account : (a b : Account) → (a ≡ b) ⊎ (a ≢ b)
+pub same_account : (a b : Account) → (a ≡ b) ⊎ (a ≢ b)
 same_account a b = elim (cases_eq a.office b.office) [
   | inl office ↦ elim (cases_eq a.number b.number) [
     | inl number ↦ inl (λ t. record { office = office t; number = number t })

@@ -13,3 +13,9 @@ pub mod EnteredLemmas
 pub mod ReorderLemmas
 pub mod CutLemmas
 pub mod MoreLemmas
+pub mod PartLemmas
+pub mod LoanLines
+pub mod OnePenaltyLemmas
+pub mod AgreedLemmas
+pub mod ShareLemmas
+pub mod ReshuffleLemmas

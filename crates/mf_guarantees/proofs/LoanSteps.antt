@@ -157,7 +157,7 @@ loan_changes call i change loan asked is h =
 pub some_same : {A : Type 0} (x y : A) → Some x ≡ Some y → x ≡ y
 some_same x y h = cc
 
-unless : (fault : Option Fault) (told : LoanReply) (change becomes : LedgerChange)
+pub unless : (fault : Option Fault) (told : LoanReply) (change becomes : LedgerChange)
     → change_told (unless_fault fault told change) ≡ Some becomes → (fault ≡ None) × (change ≡ becomes)
 unless (Some fault) told change becomes h = absurd (cc)
 unless None told change becomes h = (refl, some_same change becomes h)

@@ -25,7 +25,7 @@ accounted loan sound = record {
 }
 
 -- a loan that a run leaves is sound
-sound_after : (lines : List Line) (i : Institution) (loan : Account) (account : DisbursedLoan) → IsSound i
+pub sound_after : (lines : List Line) (i : Institution) (loan : Account) (account : DisbursedLoan) → IsSound i
     → AreInRange lines → account_of (last lines i).catalogue (ledger_at loan (last lines i)) ≡ Some account
     → IsSoundDisbursed account
 sound_after lines i loan account s r there =

@@ -61,11 +61,11 @@ below_placed k e (x ∷ xs) less all =
     cond_both (is_before e x) (e ∷ x ∷ xs) (x ∷ order_with e xs) (Below k)
     (λ _. (less, all)) (λ _. (all.0, below_placed k e xs less all.1))
 
-abbrev Numbered : ℕ → List Entry → Type 0
+abbrev pub Numbered : ℕ → List Entry → Type 0
 Numbered k [] = Unit {0}
 Numbered k (x ∷ xs) = (x.seq ≡ k) × Numbered (k + 1) xs
 
-numbered_from : (k : ℕ) (entries : List Entry)
+pub numbered_from : (k : ℕ) (entries : List Entry)
     → ((i : ℕ) → i < length entries → (entry_at entries i).seq ≡ k + i) → Numbered k entries
 numbered_from k [] numbers = tt
 numbered_from k (x ∷ xs) numbers = (
@@ -113,7 +113,7 @@ placed_either_way : (a b : Entry) (order : List Entry) → a.day ≢ b.day
 placed_either_way a b [] apart = grind (arith, nat_tests)
 placed_either_way a b (x ∷ xs) apart = grind (arith, nat_tests, placed_either_way a b xs apart)
 
-dated_either_way : (a b : Entry) (order : List Entry) → a.day ≢ b.day
+pub dated_either_way : (a b : Entry) (order : List Entry) → a.day ≢ b.day
     → with_dated (with_dated order a) b ≡ with_dated (with_dated order b) a
 dated_either_way a b order apart = go a.reversed b.reversed
   where

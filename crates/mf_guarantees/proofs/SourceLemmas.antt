@@ -31,11 +31,11 @@ use Rattle.mf_account.proofs.SoundLemmas.{lawful-of, each-standing, first-good}
 use Rattle.mf_guarantees.specs.Sources.{fee_in, penalty_in, HasSources}
 
 -- what a row owes of the portion at a place
-abbrev owed : ℕ → Instalment → ℕ
+abbrev pub owed : ℕ → Instalment → ℕ
 owed q row = get_or row.owed q 0
 
 -- what an entry of a kind charges of the portion at a place
-abbrev charge_at : ℕ → Kind → ℕ → ℕ
+abbrev pub charge_at : ℕ → Kind → ℕ → ℕ
 charge_at zero kind amount = penalty_in kind amount
 charge_at (suc zero) kind amount = fee_in kind amount
 charge_at (suc (suc q)) kind amount = 0
@@ -103,7 +103,7 @@ charged Refund entry n rows zero whole size has = omega arith
 charged Refund entry n rows (suc zero) whole size has = omega arith
 charged Refund entry n rows (suc (suc q)) whole size has = omega arith
 
-entered : (q n used : ℕ) (order : ℕ → Cell) (entry : Entry) (before : State) → HasInstalment entry.kind entry n
+pub entered : (q n used : ℕ) (order : ℕ → Cell) (entry : Entry) (before : State) → HasInstalment entry.kind entry n
     → IsBounded n used before → sum_by (owed q) (after_entry order entry before).rows
     ≡ sum_by (owed q) before.rows + charge_at q entry.kind entry.amount
 entered q n used order entry before has good =

@@ -10,3 +10,7 @@ pub mod Moves
 pub mod Entered
 pub mod Reorder
 pub mod More
+pub mod Parts
+pub mod Penalties
+pub mod Agreed
+pub mod Shares

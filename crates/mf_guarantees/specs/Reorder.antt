@@ -1,8 +1,7 @@
 -- The same entries, entered in another order, or a repayment in two.
-use Rattle.std.specs.Prelude.{◌≡◌, ◌≢◌, ℕ, ◌+◌, ◌<◌, List, ◌∷◌, ◌++◌, length, map, None}
+use Rattle.std.specs.Prelude.{◌≡◌, ◌≢◌, ◌⊎◌, ℕ, ◌+◌, List, ◌∷◌, ◌++◌, map, None}
 use Rattle.mf_account.specs.declared.entry.Entry.{Entry}
 use Rattle.mf_account.specs.declared.entry.Kind.TheVariants.{Repay}
-use Rattle.mf_account.specs.Standing.{entry_at}
 
 -- what of an entry counts in its account: all but its number, its receipt and who made it
 abbrev pub what_counts : Entry → Entry
@@ -32,3 +31,18 @@ pub record IsCutInTwo (entries others : List Entry) : Type 0 where
   pub entries_are : entries ≡ before ++ payment ∷ behind
   pub others_are : map what_counts others
       ≡ map what_counts (before ++ record payment { amount = first } ∷ record payment { amount = second } ∷ behind)
+
+-- two entries that may change places: they are of different days, or both are repayments
+abbrev pub MayChangePlaces : Entry → Entry → Type 0
+MayChangePlaces a b = (a.day ≢ b.day) ⊎ ((a.kind ≡ Repay) × (b.kind ≡ Repay))
+
+-- the same entries in another order, where repayments of one day may change places too
+pub data AreReshuffled : List Entry → List Entry → Type 0 where
+  as_they_were : (entries : List Entry) → AreReshuffled entries entries
+  exchanged : (before : List Entry) (a b : Entry) (behind : List Entry) → MayChangePlaces a b
+      → AreReshuffled (before ++ a ∷ b ∷ behind) (before ++ b ∷ a ∷ behind)
+  further : (xs ys zs : List Entry) → AreReshuffled xs ys → AreReshuffled ys zs → AreReshuffled xs zs
+
+-- the entries of two loans are so, in what counts of each
+abbrev pub AreInAnyOrder : List Entry → List Entry → Type 0
+AreInAnyOrder xs ys = AreReshuffled (map what_counts xs) (map what_counts ys)

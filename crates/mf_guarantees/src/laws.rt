@@ -1,11 +1,11 @@
 //! Guarantees in plain words. Each function does nothing: its contract is the law that the sentence above it tells.
 
 ghost use Rattle.std.specs.Prelude.{◌≡◌, ◌≢◌, ◌≤◌, ◌<◌, ◌+◌, ◌-◌, ◌++◌, ℕ, List, [], ◌∷◌, Some, None, true, false, pos};
-ghost use Rattle.std.specs.Prelude.{length, map, sum};
+ghost use Rattle.std.specs.Prelude.{length, map, slice_get, sum};
 ghost use Rattle.std.specs.List.{AllZip, flat_map};
 ghost use Rattle.mf_office.specs.declared.account.Account.{Account};
 ghost use Rattle.mf_account.specs.Balance.{balances_of};
-ghost use Rattle.mf_account.specs.Loan.{DisbursedLoan, IsSoundDisbursed, state_of_loan};
+ghost use Rattle.mf_account.specs.Loan.{DisbursedLoan, IsSoundDisbursed, schedule_of, state_of_loan};
 ghost use Rattle.mf_account.specs.Kinds.{money_in};
 ghost use Rattle.mf_account.specs.Standing.{entry_at, with_mark};
 ghost use Rattle.mf_account.specs.declared.entry.Entry.{Entry};
@@ -15,18 +15,27 @@ ghost use Rattle.mf_office.specs.declared.caller.Caller.{Caller};
 ghost use Rattle.mf_office.specs.declared.staff.Role.TheVariants.{Teller, Manager};
 ghost use Rattle.mf_catalog.specs.declared.terms.Terms.{Terms};
 ghost use Rattle.mf_catalog.specs.Limits.{AreTermsWithinLimits};
-ghost use Rattle.mf_schedule.specs.Fresh.{IsLoanWithinLimits, due_day_of, fresh_schedule, total_principal};
+ghost use Rattle.mf_catalog.specs.declared.terms.Method.TheVariants.{Flat, Fixed};
+ghost use Rattle.mf_schedule.specs.Fresh.{IsLoanWithinLimits, due_day_of, fresh_schedule, instalment_of};
+ghost use Rattle.mf_schedule.specs.Fresh.{total_principal};
+ghost use Rattle.mf_schedule.specs.Plan.{fixed_amount_of};
 ghost use Rattle.mf_alloc.specs.declared.row.Cell.{Cell};
+ghost use Rattle.mf_alloc.specs.Payment.{amount_of_shares};
 ghost use Rattle.mf_alloc.specs.Rows.{IsCell, outstanding};
 ghost use Rattle.mf_alloc.specs.Sums.{Instalment, AreWithin};
+ghost use Rattle.mf_statement.specs.Lines.{entries_of};
+ghost use Rattle.mf_statement.specs.declared.lines.EntryLine.{EntryLine};
+ghost use Rattle.mf_statement.specs.WorkedRows.{january, little, overpayment, loan as worked_loan};
+ghost use Rattle.mf_statement.specs.WorkedRows.{penalty as worked_penalty};
 ghost use Rattle.mf_arrears.specs.Ageing.{days_overdue};
 ghost use Rattle.mf_arrears.specs.Line.{AgedLoan, class_of, line_of_loans, par30_of};
 ghost use Rattle.mf_model.specs.Calls.{Call};
 ghost use Rattle.mf_arrears.specs.Report.{total_of};
 ghost use Rattle.mf_model.specs.Arrears.{active_in, arrears_line};
 ghost use Rattle.mf_model.specs.Institution.{Institution, Catalogue, Change, Catalogue_becomes, Office, Staff};
-ghost use Rattle.mf_model.specs.Institution.{Ledger, after, office_at};
+ghost use Rattle.mf_model.specs.Institution.{Ledger, after, newly_made, office_at};
 ghost use Rattle.mf_model.specs.Tree.{IsTree, is_there, parent_of, seen_by};
+ghost use Rattle.mf_guarantees.specs.Agreed.{agreed_by, agreed_in};
 ghost use Rattle.mf_guarantees.specs.Branch.{children, line_of_all, worked_offices};
 ghost use Rattle.mf_guarantees.specs.Reach.{AreFrom};
 ghost use Rattle.mf_guarantees.specs.Kept.{AllRemains};
@@ -39,7 +48,11 @@ ghost use Rattle.mf_guarantees.specs.Entered.{AtSomeLine, IsEntered, IsTakenBack
 ghost use Rattle.mf_guarantees.specs.Moves.{Rises, repaid, paid_out};
 ghost use Rattle.mf_guarantees.specs.More.{PaysNoLess};
 ghost use Rattle.mf_account.specs.Told.{AreNumbered};
-ghost use Rattle.mf_guarantees.specs.Reorder.{AreReordered, IsCutInTwo};
+ghost use Rattle.mf_guarantees.specs.Parts.{BearsItsOwnInterest, ComesAfter, DifferByACentAtMost};
+ghost use Rattle.mf_guarantees.specs.Parts.{principal_and_interest};
+ghost use Rattle.mf_guarantees.specs.Penalties.{NoneBearsTwo, standing_penalties};
+ghost use Rattle.mf_guarantees.specs.Reorder.{AreInAnyOrder, AreReordered, IsCutInTwo};
+ghost use Rattle.mf_guarantees.specs.Shares.{SettlesAtMostItsAmount};
 ghost use Rattle.mf_guarantees.specs.Sources.{HasSources};
 ghost use Rattle.mf_guarantees.specs.Sums.{paid_out_in, all_paid_out, AreAccountedFor};
 ghost use Rattle.mf_guarantees.specs.Roles.{is_repayment, is_concession};
@@ -176,6 +189,34 @@ pub fn every_cent_owed_has_a_source()
         HasSources account }
 {}
 
+/// Whatever requests come, no entry settles more than its amount: the shares that are told of an entry come to at most
+/// the amount that is told of it.
+pub fn no_entry_settles_more_than_its_amount()
+    ensures { (i : Institution) (lines : List Line) (loan : Account) (account : DisbursedLoan) (place : ℕ)
+        (told : EntryLine) → IsSound i → AreInRange lines →
+        account_of (last lines i).catalogue (ledger_at loan (last lines i)) ≡ Some account →
+        slice_get (entries_of account) place ≡ Some told → SettlesAtMostItsAmount told }
+{}
+
+/// Once a loan is paid out, no request changes what was agreed: each instalment falls due when it did, and owes the
+/// interest and the principal that the schedule gives it.
+pub fn what_was_agreed_stands()
+    ensures schedule { (loan : DisbursedLoan) →
+        map agreed_in (state_of_loan loan).rows ≡ map agreed_by (schedule_of loan) }
+    ensures kept { (i : Institution) (lines : List Line) (loan : Account) (account : DisbursedLoan) →
+        IsSound i → AreInRange lines → account_of i.catalogue (ledger_at loan i) ≡ Some account →
+        (later : DisbursedLoan) × (account_of (last lines i).catalogue (ledger_at loan (last lines i)) ≡ Some later)
+        × (map agreed_in (state_of_loan later).rows ≡ map agreed_in (state_of_loan account).rows) }
+{}
+
+/// Whatever requests come, at most one penalty stands on an instalment: so it is from the founding on, and so it stays
+/// wherever it is so.
+pub fn no_instalment_bears_two_penalties()
+    ensures founded { (day : ℕ) (lines : List Line) → NoneBearsTwo (last lines (newly_made day)) }
+    ensures kept { (i : Institution) (lines : List Line) → IsTree i.offices → NoneBearsTwo i →
+        NoneBearsTwo (last lines i) }
+{}
+
 /// An entry that is entered and then reversed leaves the sums of a loan as if it had never been entered.
 pub fn a_reversal_is_as_never_entered()
     ensures { (loan : DisbursedLoan) (entry : Entry) →
@@ -186,14 +227,21 @@ pub fn a_reversal_is_as_never_entered()
 {}
 
 /// Entries of different days may be entered in any order, by anybody and with any receipts: the instalments and the
-/// sums of the loan are the same, since it is the days that count. And a repayment comes to the same as two of the same
-/// day that follow each other and come to its amount.
+/// sums of the loan are the same, since it is the days that count. Repayments of one day may change places too, where no
+/// other entry of that day stands between them. And a repayment comes to the same as two of the same day that follow
+/// each other and come to its amount.
 pub fn the_order_of_entering_counts_nothing()
     ensures instalments { (loan : DisbursedLoan) (entries : List Entry) → AreNumbered loan.entries →
         AreNumbered entries → AreReordered loan.entries entries →
         (state_of_loan (record loan { entries = entries })).rows ≡ (state_of_loan loan).rows }
     ensures sums { (loan : DisbursedLoan) (entries : List Entry) → AreNumbered loan.entries →
         AreNumbered entries → AreReordered loan.entries entries →
+        balances_of (record loan { entries = entries }) ≡ balances_of loan }
+    ensures repayments_instalments { (loan : DisbursedLoan) (entries : List Entry) → IsSoundDisbursed loan →
+        AreNumbered entries → AreInAnyOrder loan.entries entries →
+        (state_of_loan (record loan { entries = entries })).rows ≡ (state_of_loan loan).rows }
+    ensures repayments_sums { (loan : DisbursedLoan) (entries : List Entry) → IsSoundDisbursed loan →
+        AreNumbered entries → AreInAnyOrder loan.entries entries →
         balances_of (record loan { entries = entries }) ≡ balances_of loan }
     ensures cut_instalments { (loan : DisbursedLoan) (entries : List Entry) → IsSoundDisbursed loan →
         AreNumbered entries → IsCutInTwo loan.entries entries →
@@ -249,18 +297,64 @@ pub fn schedules_come_to_what_was_lent()
         due_day_of terms day earlier < due_day_of terms day later }
 {}
 
+/// Where a loan is repaid in equal parts, no two parts of its principal after the grace differ by more than a cent; nor
+/// do the parts of a flat interest, but for those of a grace of interest, which the first instalment after it bears.
+pub fn equal_parts_differ_by_at_most_a_cent()
+    ensures principal { (terms : Terms) (principal n day i j : ℕ) → terms.method ≢ Fixed →
+        ComesAfter terms.principal_grace n i → ComesAfter terms.principal_grace n j →
+        DifferByACentAtMost (instalment_of terms principal n day i).principal
+        (instalment_of terms principal n day j).principal }
+    ensures flat_interest { (terms : Terms) (principal n day i j : ℕ) → terms.method ≡ Flat →
+        ComesAfter 0 n i → ComesAfter 0 n j → BearsItsOwnInterest terms i → BearsItsOwnInterest terms j →
+        DifferByACentAtMost (instalment_of terms principal n day i).interest
+        (instalment_of terms principal n day j).interest }
+{}
+
+/// Where a loan is repaid in fixed instalments, each after the graces is of the fixed amount, but for the last that
+/// repays something; and none is of more. Left out is the first after a grace of interest, which bears that of the grace
+/// too.
+pub fn all_but_the_last_instalment_are_the_fixed_one()
+    ensures fixed { (terms : Terms) (principal n day i j : ℕ) → IsLoanWithinLimits terms principal n →
+        terms.method ≡ Fixed → ComesAfter terms.principal_grace n i → BearsItsOwnInterest terms i →
+        i < j → j ≤ n → 0 < (instalment_of terms principal n day j).principal →
+        principal_and_interest terms principal n day i ≡ fixed_amount_of terms principal n }
+    ensures no_more { (terms : Terms) (principal n day i : ℕ) → IsLoanWithinLimits terms principal n →
+        terms.method ≡ Fixed → ComesAfter terms.principal_grace n i → BearsItsOwnInterest terms i →
+        principal_and_interest terms principal n day i ≤ fixed_amount_of terms principal n }
+{}
+
 /// Worked out: of 100.00 that is 31 days overdue and 200.00 that is on time a third is at risk; a repayment is no
 /// concession, and a write-off is one; offices 2 and 20 are right below office 1, and office 5 is not. Two entries of
-/// different days may be entered the other way round, and 1.00 that is repaid may be cut into 0.60 and 0.40.
+/// different days may be entered the other way round, so may two repayments, and 1.00 that is repaid may be cut into 0.60
+/// and 0.40.
+///
+/// 1000.00 over three months is repaid in parts of 333.33, 333.33 and 333.34, or at 12 per cent in instalments of
+/// 340.03, 340.03 and 340.01. Of 0.04 at no interest the second instalment is the last that repays something. Of two
+/// penalties on an instalment, one of them reversed, one stands; a penalty and a repayment leave what was agreed; and of
+/// 1100.00 that is repaid where 1020.00 is owed, the shares come to 1020.00.
 pub fn worked_rows()
     ensures at_risk { par30_of (line_of_loans 1 worked_loans) ≡ 3333 }
     ensures on_time { on_time worked_loans ≡ 20000 }
     ensures children { map (λ (office : Office). office.number) (children 1 worked_offices) ≡ 2 ∷ 20 ∷ [] }
     ensures reordered { (a b : Entry) → a.day ≢ b.day →
         AreReordered (a ∷ b ∷ []) (record b { seq = a.seq } ∷ record a { seq = b.seq } ∷ []) }
+    ensures any_order { (a b : Entry) → a.kind ≡ kind.Repay → b.kind ≡ kind.Repay →
+        AreInAnyOrder (a ∷ b ∷ []) (record b { seq = a.seq } ∷ record a { seq = b.seq } ∷ []) }
     ensures cut { (payment : Entry) → payment.kind ≡ kind.Repay → payment.amount ≡ 100 →
         IsCutInTwo (payment ∷ []) (record payment { amount = 60 }
         ∷ record payment { seq = payment.seq + 1; amount = 40; receipt = None } ∷ []) }
+    ensures equal_parts { map (λ i. (instalment_of (worked_loan []).terms 100000 3 january i).principal) (1 ∷ 2 ∷ 3 ∷ [])
+        ≡ 33333 ∷ 33333 ∷ 33334 ∷ [] }
+    ensures fixed { let terms : Terms = record (worked_loan []).terms { method = Fixed } in
+        map (principal_and_interest terms 100000 3 january) (1 ∷ 2 ∷ 3 ∷ []) ≡ 34003 ∷ 34003 ∷ 34001 ∷ [] }
+    ensures few_cents { let terms : Terms = record (worked_loan []).terms { method = Fixed; rate = 0 } in
+        map (principal_and_interest terms 4 3 january) (1 ∷ 2 ∷ 3 ∷ []) ≡ 2 ∷ 2 ∷ 0 ∷ [] }
+    ensures penalties { standing_penalties 1 (worked_penalty ∷ record worked_penalty { reversed = true }
+        ∷ record worked_penalty { instalment = 2 } ∷ []) ≡ 1 }
+    ensures agreed { map agreed_in (state_of_loan (worked_loan (worked_penalty ∷ little ∷ []))).rows
+        ≡ map agreed_by (schedule_of (worked_loan [])) }
+    ensures shares { map (λ told. amount_of_shares told.shares) (entries_of (worked_loan (overpayment ∷ [])))
+        ≡ 102000 ∷ [] }
     ensures repayment { (loan : Account) (asked : Repayment) →
         (is_repayment (Loan loan (Repay asked)) ≡ true) × (is_concession (Loan loan (Repay asked)) ≡ false) }
     ensures write_off { (loan : Account) →

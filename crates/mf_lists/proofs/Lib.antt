@@ -1,4 +1,5 @@
 pub mod RateLemmas
 pub mod PreviewLemmas
+pub mod ChangeLemmas
 pub mod ListLemmas
 pub mod WorkedLemmas

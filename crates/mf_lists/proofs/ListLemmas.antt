@@ -25,9 +25,11 @@ use Rattle.mf_model.specs.Desk.{staff_at}
 use Rattle.mf_model.specs.Institution.{Catalogue, Institution, Ledger, Office, Rows, Staff, item_numbered, office_at}
 use Rattle.mf_model.specs.Outcomes.{where_found, with_value}
 use Rattle.mf_model.specs.Sound.{IsSoundLoan, IsSoundRows}
-use Rattle.mf_model.specs.Tree.{parent_of, view}
+use Rattle.mf_model.specs.Tree.{parent_of}
 use Rattle.mf_model.proofs.Growing.{numbered_suc}
-use Rattle.mf_model.proofs.Views.{seen_office_view, staff_at_view}
+use Rattle.mf_model.proofs.Views.{staff_at_view}
+use Rattle.mf_lists.specs.Changes.{view_with_lines}
+use Rattle.mf_lists.proofs.ChangeLemmas.{by_view}
 use Rattle.mf_lists.specs.declared.lines.ClientLine.{ClientLine}
 use Rattle.mf_lists.specs.Lists.{begins_with, counted_client, clients_of, has_part, is_of_client, lines_where}
 use Rattle.mf_lists.specs.Lists.{loans_that, page}
@@ -406,29 +408,23 @@ part-found (y ∷ before) part rest =
 
 -- ---- what is seen
 
-pub by_view : (folded : List ℕ → List ℕ) (asked : ListAsked) (o x : ℕ) (i : Institution)
-    → list_seen folded asked o x (view o i) ≡ list_seen folded asked o x i
-by_view folded asked o x i =
-    ap (λ (f : Option Office). where_found f (λ f. office_list folded asked x i.catalogue f.rows))
-    (seen_office_view o x i)
-
 pub unseen : (folded : List ℕ → List ℕ) (asked : ListAsked) (o x : ℕ) (i : Institution)
     → is_at_or_below (parent_of i.offices) x o ≡ false → list_seen folded asked o x i ≡ Err F4
 unseen folded asked o x i h =
-    ap (λ (f : Option Office). where_found f (λ f. office_list folded asked x i.catalogue f.rows))
+    ap (λ (f : Option Office). where_found f (λ f. office_list folded asked x i.journal i.catalogue f.rows))
     (cond-false (is_at_or_below (parent_of i.offices) x o) (office_at x i.offices) None h)
 
 for_view : (folded : List ℕ → List ℕ) (request : ListRequest) (o : ℕ) (i : Institution)
-    → list_for folded request o (view o i) ≡ list_for folded request o i
+    → list_for folded request o (view_with_lines o i) ≡ list_for folded request o i
 for_view folded (OfOffice x asked) o i =
     ap (λ (r : Result ListTold Fault). with_value r (λ told. Listed x told)) (by_view folded asked o x i)
 for_view folded (Preview product principal periods day) o i = refl
 
 -- what a caller is told is read off the view
 pub reply-by_view : (folded : List ℕ → List ℕ) (c : Caller) (request : ListRequest) (i : Institution)
-    → list_reply folded c request (view c.office i) ≡ list_reply folded c request i
+    → list_reply folded c request (view_with_lines c.office i) ≡ list_reply folded c request i
 reply-by_view folded c request i =
-    ap (λ (s : Option Staff). cond (is_some s) (list_for folded request c.office (view c.office i)) (Err F2))
+    ap (λ (s : Option Staff). cond (is_some s) (list_for folded request c.office (view_with_lines c.office i)) (Err F2))
     (staff_at_view c.office i c refl)
     ∙ ap (λ (r : Result ListAnswer Fault). cond (is_some (staff_at i c)) r (Err F2))
     (for_view folded request c.office i)

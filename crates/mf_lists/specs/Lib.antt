@@ -3,5 +3,7 @@ pub mod WorkedRates
 pub mod Preview
 pub mod WorkedPreview
 pub mod Lists
+pub mod Changes
 pub mod Readings
 pub mod WorkedLists
+pub mod WorkedChanges

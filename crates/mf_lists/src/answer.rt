@@ -1,6 +1,6 @@
 //! What a request for a list is told where it succeeds.
 
-use crate::lines::{ClientLine, ClientLoan, DueLine, StaffLine, StageLine};
+use crate::lines::{ChangeLine, ClientLine, ClientLoan, DueLine, StaffLine, StageLine};
 use crate::preview::LoanPreview;
 use mf_office::OfficeNo;
 use mf_statement::Listing;
@@ -18,6 +18,8 @@ pub enum ListTold {
     StageLines(Listing<StageLine>),
     /// Staff.
     StaffLines(Listing<StaffLine>),
+    /// Changes.
+    ChangeLines(Listing<ChangeLine>),
 }
 
 /// What is told.

@@ -23,7 +23,8 @@ ghost use Rattle.mf_model.specs.Loans.{make_loan, submit};
 ghost use Rattle.mf_schedule.specs.Fresh.{total_owed};
 ghost use Rattle.mf_schedule.specs.declared.instalment.FreshInstalment.{FreshInstalment};
 ghost use Rattle.mf_model.specs.Sound.{IsSoundRows};
-ghost use Rattle.mf_model.specs.Tree.{parent_of, view};
+ghost use Rattle.mf_model.specs.Tree.{parent_of};
+ghost use Rattle.mf_lists.specs.Changes.{view_with_lines};
 ghost use Rattle.mf_lists.specs.declared.lines.ClientLine.{ClientLine};
 ghost use Rattle.mf_lists.specs.declared.lines.DueLine.{DueLine};
 ghost use Rattle.mf_lists.specs.declared.lines.StageLine.{StageLine};
@@ -32,10 +33,11 @@ ghost use Rattle.mf_lists.specs.Lists.{clients_of, clients_after, due_lines, due
 ghost use Rattle.mf_lists.specs.Lists.{is_waiting, is_active, is_overdue, has_part};
 ghost use Rattle.mf_lists.specs.declared.answer.ListAnswer.TheVariants.{Listed, Previewed};
 ghost use Rattle.mf_lists.specs.declared.answer.ListTold.TheVariants.{ClientLines, ClientLoans, DueLines, StageLines};
-ghost use Rattle.mf_lists.specs.declared.answer.ListTold.TheVariants.{StaffLines};
+ghost use Rattle.mf_lists.specs.declared.answer.ListTold.TheVariants.{StaffLines, ChangeLines};
 ghost use Rattle.mf_lists.specs.declared.request.ListAsked.{ListAsked};
 ghost use Rattle.mf_lists.specs.declared.request.ListAsked.TheVariants.{Clients, LoansOf, DueBy, AtStatus, StaffOf};
-ghost use Rattle.mf_lists.specs.declared.request.ListAsked.TheVariants.{Find};
+ghost use Rattle.mf_lists.specs.declared.request.ListAsked.TheVariants.{Find, ChangesOf, Changes};
+ghost use Rattle.mf_lists.specs.WorkedChanges.{approved_at, entered, noted, submitted};
 ghost use Rattle.mf_lists.specs.declared.request.ListRequest.{ListRequest};
 ghost use Rattle.mf_lists.specs.declared.request.ListRequest.TheVariants.{OfOffice, Preview};
 ghost use Rattle.mf_lists.specs.Readings.{list_seen, list_reply, pages};
@@ -134,24 +136,25 @@ pub fn worked_preview()
     ensures long { preview_in worked_catalogue 1 100000 25 pay_out_day ≡ Err F8 }
 {}
 
-/// A list is read off what the office of whoever asks sees: what lies elsewhere changes nothing, and an office that
-/// isn't seen is missing.
+/// A list is read off what the office of whoever asks sees, and the lines of the journal that name an office there:
+/// what lies elsewhere changes nothing, and an office that isn't seen is missing.
 pub fn lists_are_read_off_the_view()
     ensures view { (folded : List ℕ → List ℕ) (asked : ListAsked) (o x : ℕ) (i : Institution) →
-        list_seen folded asked o x (view o i) ≡ list_seen folded asked o x i }
-    ensures alike { (folded : List ℕ → List ℕ) (asked : ListAsked) (o x : ℕ) (i j : Institution) → view o i ≡ view o j →
-        list_seen folded asked o x i ≡ list_seen folded asked o x j }
+        list_seen folded asked o x (view_with_lines o i) ≡ list_seen folded asked o x i }
+    ensures alike { (folded : List ℕ → List ℕ) (asked : ListAsked) (o x : ℕ) (i j : Institution) →
+        view_with_lines o i ≡ view_with_lines o j → list_seen folded asked o x i ≡ list_seen folded asked o x j }
     ensures unseen { (folded : List ℕ → List ℕ) (asked : ListAsked) (o x : ℕ) (i : Institution) →
         is_at_or_below (parent_of i.offices) x o ≡ false → list_seen folded asked o x i ≡ Err F4 }
 {}
 
-/// What a caller is told is read off what their office sees. A caller who isn't there is F2. To one who is, an office
-/// that isn't seen is F4, whether it is there or not.
+/// What a caller is told is read off what their office sees, and the lines that name what it sees. A caller who isn't
+/// there is F2. To one who is, an office that isn't seen is F4, whether it is there or not.
 pub fn an_answer_is_read_off_the_view()
     ensures view { (folded : List ℕ → List ℕ) (c : Caller) (request : ListRequest) (i : Institution) →
-        list_reply folded c request (view c.office i) ≡ list_reply folded c request i }
+        list_reply folded c request (view_with_lines c.office i) ≡ list_reply folded c request i }
     ensures alike { (folded : List ℕ → List ℕ) (c : Caller) (request : ListRequest) (i j : Institution) →
-        view c.office i ≡ view c.office j → list_reply folded c request i ≡ list_reply folded c request j }
+        view_with_lines c.office i ≡ view_with_lines c.office j →
+        list_reply folded c request i ≡ list_reply folded c request j }
     ensures nobody { (folded : List ℕ → List ℕ) (c : Caller) (request : ListRequest) (i : Institution) →
         staff_at i c ≡ None → list_reply folded c request i ≡ Err F2 }
     ensures unseen { (folded : List ℕ → List ℕ) (c : Caller) (s : Staff) (x : ℕ) (asked : ListAsked)
@@ -236,4 +239,19 @@ pub fn worked_lists()
         ≡ Ok (ClientLines (binta ∷ chidi ∷ [])) }
     ensures find_loan { list_seen (λ text. text) (Find (codes "0002-000005")) 1 2 small
         ≡ Ok (ClientLines (chidi ∷ [])) }
+{}
+
+/// What the small institution's journal tells, worked out by hand: of Amina's loan and of office 2, to somebody there
+/// and to the head, after a place, and of an office that it doesn't name. F4 to somebody beside, of a loan that isn't
+/// there, and where no journal is kept.
+pub fn worked_changes()
+    ensures loan { list_seen (λ text. text) (ChangesOf 1) 2 2 noted
+        ≡ Ok (ChangeLines (submitted ∷ approved_at 2 ∷ [])) }
+    ensures office { list_seen (λ text. text) (Changes 0) 1 2 noted
+        ≡ Ok (ChangeLines (submitted ∷ entered ∷ approved_at 3 ∷ [])) }
+    ensures after { list_seen (λ text. text) (Changes 2) 2 2 noted ≡ Ok (ChangeLines (approved_at 3 ∷ [])) }
+    ensures none { list_seen (λ text. text) (Changes 0) 1 1 noted ≡ Ok (ChangeLines []) }
+    ensures beside { list_seen (λ text. text) (Changes 0) 3 2 noted ≡ Err F4 }
+    ensures missing { list_seen (λ text. text) (ChangesOf 6) 2 2 noted ≡ Err F4 }
+    ensures no_journal { list_seen (λ text. text) (Changes 0) 2 2 small ≡ Err F4 }
 {}

@@ -9,7 +9,7 @@ mod rate;
 mod request;
 
 pub use answer::{ListAnswer, ListTold};
-pub use lines::{ClientLine, ClientLoan, DueLine, LastEntry, StaffLine, StageLine};
+pub use lines::{ChangeLine, ClientLine, ClientLoan, DueLine, LastEntry, StaffLine, StageLine};
 pub use preview::{LoanPreview, is_loan_within_limits, preview_loan, preview_on_terms};
 pub use rate::yearly_rate;
 pub use request::{ListAsked, ListRequest};

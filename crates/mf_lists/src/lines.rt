@@ -1,7 +1,8 @@
 //! The lines of the lists. Amounts are whole cents.
 
 use mf_base::{Day, Name};
-use mf_office::{AccountNo, Role, StaffNo};
+use mf_office::{AccountNo, Caller, Role, StaffNo};
+use mf_statement::Listing;
 
 /// A client of an office, with how many of their loans wait, are active, and are overdue.
 #[derive(Drop)]
@@ -83,4 +84,22 @@ pub struct StaffLine {
     pub number: StaffNo,
     pub name: Name,
     pub role: Role,
+}
+
+/// A change that the journal tells of an office or of a loan: an accepted request, as it was received.
+#[derive(Drop)]
+pub struct ChangeLine {
+    /// Its place among the changes that are told, from 1.
+    pub number: u32,
+    /// The business day on which it was accepted.
+    pub day: Day,
+    /// Who sent it.
+    pub caller: Caller,
+    /// The number of the loan that it names within the office, where it names one.
+    pub loan: Option<AccountNo>,
+    /// What was told of it beside its text.
+    pub told: Listing<u8>,
+    pub method: Listing<u8>,
+    pub path: Listing<u8>,
+    pub body: Listing<u8>,
 }

@@ -18,6 +18,10 @@ pub enum ListAsked {
     StaffOf,
     /// The clients that have a part in their name, or have it as their number or as that of one of their loans.
     Find { part: Name },
+    /// What the journal tells of a loan.
+    ChangesOf { loan: AccountNo },
+    /// What the journal tells of the office.
+    Changes { after: u32 },
 }
 
 /// What is asked. Each reading is one variant, here or among the lists of an office.

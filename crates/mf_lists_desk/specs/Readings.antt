@@ -7,19 +7,39 @@ use Rattle.mf_catalog.specs.declared.charge.ChargeDef.{ChargeDef}
 use Rattle.mf_catalog.specs.declared.product.Product.{Product}
 use Rattle.mf_catalog.specs.declared.terms.Terms.{Terms}
 use Rattle.mf_catalog.specs.Product.{charge_of, lending, terms_of}
-use Rattle.mf_model.specs.Institution.{Catalogue, Institution, Rows, charge_in, product_in}
+use Rattle.mf_model.specs.Institution.{Catalogue, Institution, JournalLine, Rows, charge_in, product_in}
 use Rattle.mf_model.specs.Outcomes.{unless_refused, where_found}
 use Rattle.mf_model.specs.Store.{client_at, rows_at}
 use Rattle.mf_model.specs.Tree.{seen_office}
 use Rattle.mf_model.specs.declared.store.InstitutionStore.{Ghosts}
+use Rattle.mf_lists.specs.Changes.{changes_after, changes_of_loan}
+use Rattle.mf_lists.specs.declared.lines.ChangeLine.{ChangeLine}
 use Rattle.mf_lists.specs.declared.lines.ClientLoan.{ClientLoan}
+use Rattle.mf_lists.specs.declared.answer.ListTold.{ListTold}
 use Rattle.mf_lists.specs.declared.preview.LoanPreview.{LoanPreview}
 use Rattle.mf_lists.specs.Lists.{loans_of_client}
+use Rattle.mf_lists.specs.Readings.{loan_changes}
 use Rattle.mf_lists.specs.Preview.{preview_in}
 
 -- what is read of the catalogue and the rows of office x, which has none where it isn't there
 abbrev pub in_rows_of : {A : Type 0} → ℕ → (Catalogue → Rows → A) → Institution → A
 in_rows_of x read i = read i.catalogue (rows_at x i)
+
+-- what is read of the journal, the catalogue and the rows of office x
+abbrev pub in_office : {A : Type 0} → ℕ → (Option (List JournalLine) → Catalogue → Rows → A) → Institution → A
+in_office x read i = read i.journal i.catalogue (rows_at x i)
+
+-- what the journal tells of a loan, where one is kept
+abbrev pub loan_changes_at : Account → Institution → Option (List ChangeLine)
+loan_changes_at loan i = option_map (changes_of_loan loan.office loan.number) i.journal
+
+-- the same as an answer; F4 where the loan isn't there, or no journal is kept
+abbrev pub changes_of_loan_told : Account → Institution → Result ListTold Fault
+changes_of_loan_told loan i = where_found i.journal (loan_changes loan.office loan.number (rows_at loan.office i))
+
+-- what the journal tells of an office after a place, where one is kept
+abbrev pub changes_at : ℕ → ℕ → Institution → Option (List ChangeLine)
+changes_at office after i = option_map (changes_after office after) i.journal
 
 -- the loans of a client of an office, where there is one
 abbrev pub client_loans_at : Account → Institution → Option (List ClientLoan)

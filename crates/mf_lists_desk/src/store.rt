@@ -1,7 +1,7 @@
 //! The trait between a store and the desk of the lists: the lists of an office that is there.
 
 use mf_base::{Day, Fault, Name};
-use mf_lists::{ClientLine, ClientLoan, DueLine, StaffLine, StageLine};
+use mf_lists::{ChangeLine, ClientLine, ClientLoan, DueLine, StaffLine, StageLine};
 use mf_model::InstitutionStore;
 use mf_office::{Account, OfficeNo};
 use mf_statement::Listing;
@@ -14,7 +14,7 @@ use std::alloc::Global;
 pub trait Lists<S: InstitutionStore> {
     ghost use Rattle.std.specs.Prelude.{ℕ, List};
     ghost use Rattle.mf_lists.specs.Lists.{clients_after, due_after, find_clients, stages_after, staff_of};
-    ghost use Rattle.mf_lists_desk.specs.Readings.{in_rows_of, client_loans_at};
+    ghost use Rattle.mf_lists_desk.specs.Readings.{changes_at, client_loans_at, in_rows_of, loan_changes_at};
     ghost use Rattle.mf_model.specs.Store.{Reads};
 
     /// How names are folded before they are compared.
@@ -86,4 +86,24 @@ pub trait Lists<S: InstitutionStore> {
     ) -> Result<Listing<ClientLine>, Fault>
         ensures { Reads S.stands S.clean S.leaves (in_rows_of office (find_clients folded office part.now)) store.old
             store.new result };
+
+    /// What the journal tells of a loan, in the order in which it was accepted, or None where no journal is kept.
+    fn changes_of_loan(
+        &self,
+        alloc: Global,
+        store: &mut S,
+        loan: Account,
+    ) -> Result<Option<Listing<ChangeLine>>, Fault>
+        ensures { Reads S.stands S.clean S.leaves (loan_changes_at loan) store.old store.new result };
+
+    /// The first 200 changes that the journal tells of an office and whose place among them is above one, or None where
+    /// no journal is kept.
+    fn changes_after(
+        &self,
+        alloc: Global,
+        store: &mut S,
+        office: OfficeNo,
+        after: u32,
+    ) -> Result<Option<Listing<ChangeLine>>, Fault>
+        ensures { Reads S.stands S.clean S.leaves (changes_at office after) store.old store.new result };
 }

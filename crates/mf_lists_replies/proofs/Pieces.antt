@@ -49,6 +49,18 @@ abbrev pub stage_by : (client day loan end : List ℕ) → List ℕ
 stage_by client day loan end = codes "{\"client\":"
     ++ (client ++ (codes ",\"day\":" ++ (day ++ (codes ",\"loan\":" ++ (loan ++ end)))))
 
+-- a change from number on, by how its members are written
+abbrev pub change_end_by : (number path staff told : List ℕ) → List ℕ
+change_end_by number path staff told = codes ",\"number\":"
+    ++ (number ++ (codes ",\"path\":" ++ (path ++ (codes ",\"staff\":" ++ (staff ++ (codes ",\"told\":"
+    ++ (told ++ codes "}")))))))
+
+-- the whole of it, by how its body, its day, its loan and its method are written, and by the rest
+abbrev pub change_by : (body day loan method end : List ℕ) → List ℕ
+change_by body day loan method end = codes "{\"body\":"
+    ++ (body ++ (codes ",\"day\":" ++ (day ++ (codes ",\"loan\":" ++ (loan ++ (codes ",\"method\":"
+    ++ (method ++ end)))))))
+
 -- an instalment, by how its day and its amounts are written
 abbrev pub instalment_by : (due fees interest principal : List ℕ) → List ℕ
 instalment_by due fees interest principal = codes "{\"due\":"

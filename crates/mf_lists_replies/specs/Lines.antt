@@ -1,5 +1,6 @@
 -- How lists and previews are shown: the members of each line, by name.
-use Rattle.std.specs.Prelude.{ℕ, codes, List, map, Option, Some, None}
+use Rattle.std.specs.Prelude.{ℕ, codes, cond, List, map, Option, Some, None}
+use Rattle.std.specs.Str.{is_utf8}
 use Rattle.serde_json.specs.Data.{Data, null, string, array, object, Members, member, no_members}
 use Rattle.serde_json.specs.View.{items_of}
 use Rattle.mf_base.specs.DayText.{day_text}
@@ -8,7 +9,8 @@ use Rattle.mf_office.specs.Written.{account_text, caller_text}
 use Rattle.mf_schedule.specs.declared.instalment.FreshInstalment.{FreshInstalment}
 use Rattle.mf_lists.specs.declared.answer.ListTold.{ListTold}
 use Rattle.mf_lists.specs.declared.answer.ListTold.TheVariants.{ClientLines, ClientLoans, DueLines, StageLines}
-use Rattle.mf_lists.specs.declared.answer.ListTold.TheVariants.{StaffLines}
+use Rattle.mf_lists.specs.declared.answer.ListTold.TheVariants.{StaffLines, ChangeLines}
+use Rattle.mf_lists.specs.declared.lines.ChangeLine.{ChangeLine}
 use Rattle.mf_lists.specs.declared.lines.ClientLine.{ClientLine}
 use Rattle.mf_lists.specs.declared.lines.ClientLoan.{ClientLoan}
 use Rattle.mf_lists.specs.declared.lines.DueLine.{DueLine}
@@ -123,6 +125,37 @@ staff_data office line = object
 abbrev pub staff_list_data : ℕ → List StaffLine → Data
 staff_list_data office lines = list_named (codes "staff") (staff_data office) lines
 
+-- ---- what the journal tells
+
+-- a loan of an office by its account, or null where there is none
+abbrev pub account_or_null : ℕ → Option ℕ → Data
+account_or_null office None = null
+account_or_null office (Some number) = account_in office number
+
+-- bytes as a text, or null where they are no UTF-8
+abbrev pub text_or_null : List ℕ → Data
+text_or_null bytes = cond (is_utf8 bytes) (string bytes) null
+
+-- a change from number on
+abbrev pub change_end : ChangeLine → Members
+change_end line =
+    member (codes "number") (whole line.number)
+    (member (codes "path") (text_or_null line.path)
+    (member (codes "staff") (string (caller_text line.caller.office line.caller.staff))
+    (member (codes "told") (text_or_null line.told) no_members)))
+
+-- a change: the request as it was received, when, by whom, and of which loan
+abbrev pub change_data : ℕ → ChangeLine → Data
+change_data office line = object
+    (member (codes "body") (text_or_null line.body)
+    (member (codes "day") (string (day_text line.day))
+    (member (codes "loan") (account_or_null office line.loan)
+    (member (codes "method") (text_or_null line.method) (change_end line)))))
+
+-- changes
+abbrev pub changes_data : ℕ → List ChangeLine → Data
+changes_data office lines = list_named (codes "changes") (change_data office) lines
+
 -- the list that is told of an office
 abbrev pub told_data : ℕ → ListTold → Data
 told_data office (ClientLines lines) = clients_data office lines
@@ -130,6 +163,7 @@ told_data office (ClientLoans lines) = client_loans_data office lines
 told_data office (DueLines lines) = due_list_data office lines
 told_data office (StageLines lines) = stages_data office lines
 told_data office (StaffLines lines) = staff_list_data office lines
+told_data office (ChangeLines lines) = changes_data office lines
 
 -- ---- what a loan would be
 

@@ -1,6 +1,7 @@
 //! What an answer of the lists is replied by: its body in JSON, and its line.
 #![tactic(auto)]
 
+mod changes;
 mod clients;
 mod due;
 pub mod laws;

@@ -6,6 +6,7 @@ ghost use Rattle.mf_wire_lines.specs.Replies.{reply_line};
 ghost use Rattle.mf_lists_replies.specs.Lines.{told_data};
 ghost use Rattle.mf_lists_replies.specs.Shown.{list_body};
 
+use crate::changes::changes_text;
 use crate::clients::{client_loans_text, clients_text, staff_text};
 use crate::due::due_text;
 use crate::previews::preview_text;
@@ -27,6 +28,7 @@ fn told_text(alloc: Global, office: OfficeNo, told: &ListTold) -> Result<String,
         ListTold::DueLines(lines) => due_text(alloc, office, lines.as_slice()),
         ListTold::StageLines(lines) => stages_text(alloc, office, lines.as_slice()),
         ListTold::StaffLines(lines) => staff_text(alloc, office, lines.as_slice()),
+        ListTold::ChangeLines(lines) => changes_text(alloc, office, lines.as_slice()),
     }
 }
 

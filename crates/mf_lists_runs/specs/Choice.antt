@@ -1,13 +1,15 @@
 -- What is replied to a request where lists may be asked for, or where they may not.
 use Rattle.std.proofs.Common.{inl, inr}
-use Rattle.std.specs.Prelude.{◌≡◌, ◌⊎◌, ℕ, Bool, true, false, ◌&&◌, not, cond, is_some, List, [], ◌∷◌, take}
+use Rattle.std.specs.Prelude.{◌≡◌, ◌⊎◌, ℕ, Bool, true, false, ◌&&◌, not, cond, is_some, List, [], ◌∷◌, map, take}
 use Rattle.std.specs.Prelude.{Option, Some, None, Result, Ok, Err}
 use Rattle.mf_base.specs.declared.fault.Fault.{Fault}
 use Rattle.mf_base.specs.declared.fault.Fault.TheVariants.{F2}
 use Rattle.mf_office.specs.declared.caller.Caller.{Caller}
 use Rattle.mf_lists.specs.declared.answer.ListAnswer.{ListAnswer}
 use Rattle.mf_lists.specs.declared.request.ListRequest.{ListRequest}
+use Rattle.mf_lists.specs.Changes.{lines_seen_in, view_with_lines}
 use Rattle.mf_lists.specs.Readings.{list_reply}
+use Rattle.mf_journal.specs.Journal.{line_of_write, with_lines, writes_of}
 use Rattle.mf_lists_replies.specs.Shown.{list_body, shown_list}
 use Rattle.mf_lists_wire.specs.ListRequests.{list_request_of}
 use Rattle.mf_lists_wire.specs.Paths.{behind_lists}
@@ -16,7 +18,7 @@ use Rattle.mf_model.specs.declared.reply.Reply.{Reply}
 use Rattle.mf_model.specs.declared.request.Flaw.TheVariants.{NoRoute}
 use Rattle.mf_model.specs.declared.request.Request.{Request}
 use Rattle.mf_model.specs.declared.request.Request.TheVariants.{Unreadable}
-use Rattle.mf_model.specs.Institution.{Institution}
+use Rattle.mf_model.specs.Institution.{Institution, JournalLine}
 use Rattle.mf_model.specs.Run.{Line, answer, next, last, from_office, from_caller, replies_to, touching_list, play}
 use Rattle.mf_model.specs.Tree.{view}
 use Rattle.mf_wire_lines.specs.Replies.{fault_status, fault_body}
@@ -81,17 +83,25 @@ abbrev pub all_told : Choice → List Line → Institution → List Told
 all_told choice [] i = []
 all_told choice (l ∷ ls) i = told_of choice l i ∷ all_told choice ls (next l i)
 
--- what office o sees, before each of the lines that are meant, answers to them
+-- What office o sees, the lines of the journal that name it too, before each of the lines that are meant, answers to
+-- them.
 abbrev pub told_by_views : Choice → (Call → Bool) → ℕ → List Line → Institution → List Told
 told_by_views choice meant o [] i = []
 told_by_views choice meant o (l ∷ ls) i =
-    cond (meant l.call) (told_of choice l (view o i) ∷ told_by_views choice meant o ls (next l i))
+    cond (meant l.call) (told_of choice l (view_with_lines o i) ∷ told_by_views choice meant o ls (next l i))
     (told_by_views choice meant o ls (next l i))
 
--- What each office sees before each line is its touching list so far, played on its first view. What its callers are
--- told, and one of them, is what these views answer, lists too; F20 stands where a line was given up.
+-- the lines of the journal that name what office o sees, with those that a run adds
+abbrev pub lines_seen_after : ℕ → List Line → Institution → Option (List JournalLine)
+lines_seen_after o run i =
+    lines_seen_in o (last run i) (with_lines (map line_of_write (writes_of run i)) i.journal)
+
+-- What each office sees before each line is its touching list so far, played on its first view; of the journal it sees
+-- the lines that name what it sees, those of before and one for each accepted request. What its callers are told, and
+-- one of them, is what these views answer, lists too; F20 stands where a line was given up.
 pub record IsReadByViews (choice : Choice) (i : Institution) (run : List Line) : Type 0 where
   pub views : (o n : ℕ) → view o (last (take n run) i) ≡ play (touching_list o (take n run) i) (view o i)
+  pub lines : (o n : ℕ) → (view_with_lines o (last (take n run) i)).journal ≡ lines_seen_after o (take n run) i
   pub office : (o : ℕ) → replies_to (from_office o) run (all_told choice run i)
       ≡ told_by_views choice (from_office o) o run i
   pub own : (c : Caller) → replies_to (from_caller c) run (all_told choice run i)

@@ -4,7 +4,8 @@ ghost use Rattle.std.specs.Prelude.{◌≡◌, ℕ, Bool, true, false, List, Non
 ghost use Rattle.std.proofs.Common.{inl};
 ghost use Rattle.mf_model.specs.Institution.{Institution};
 ghost use Rattle.mf_model.specs.Run.{Line, answers, from_office};
-ghost use Rattle.mf_model.specs.Tree.{IsTree, view};
+ghost use Rattle.mf_model.specs.Tree.{IsTree};
+ghost use Rattle.mf_lists.specs.Changes.{view_with_lines};
 ghost use Rattle.mf_wire.specs.Exchanges.{Exchange};
 ghost use Rattle.mf_wire_requests.specs.Requests.{call_in};
 ghost use Rattle.mf_lists_runs.specs.Choice.{Choice, all_told, asks_list, told_of};
@@ -28,10 +29,11 @@ pub fn what_asks_for_no_list_is_told_by_the_desk<S: InstitutionStore>()
         slice_get texts place ≡ slice_get ran.without place }
 {}
 
-/// What a line is told, by the desk or by the lists, is read off what its sender's office sees.
+/// What a line is told, by the desk or by the lists, is read off what its sender's office sees, and the lines of the
+/// journal that name that.
 pub fn what_is_told_is_read_off_the_view()
     ensures { (choice : Choice) (o : ℕ) (l : Line) (i : Institution) → IsTree i.offices
-        → from_office o l.call ≡ true → told_of choice l (view o i) ≡ told_of choice l i }
+        → from_office o l.call ≡ true → told_of choice l (view_with_lines o i) ≡ told_of choice l i }
 {}
 
 /// Messages that are answered one after another, as a server answers them, are a run: what each office sees in the end

@@ -12,7 +12,7 @@ use Rattle.mf_lists.specs.declared.request.ListRequest.{ListRequest}
 use Rattle.mf_lists.specs.declared.request.ListRequest.TheVariants as request
 use Rattle.mf_lists_wire.specs.declared.routes.ListEndpoint.{ListEndpoint}
 use Rattle.mf_lists_wire.specs.declared.routes.ListEndpoint.TheVariants.{Clients, LoansOf, DueBy, AtStatus, StaffOf}
-use Rattle.mf_lists_wire.specs.declared.routes.ListEndpoint.TheVariants.{Preview, Find}
+use Rattle.mf_lists_wire.specs.declared.routes.ListEndpoint.TheVariants.{Preview, ChangesOf, Changes, Find}
 use Rattle.mf_lists_wire.specs.ListRoutes.{has_method, list_route}
 use Rattle.mf_lists_wire.specs.Paths.{principal_written, number_between, two_parts, three_parts, four_parts}
 
@@ -73,6 +73,24 @@ preview_request params =
     (number_of_digits p.0.0))
     (four_parts params)
 
+-- what the journal tells of a loan
+abbrev pub loan_changes_request : List ℕ → Option ListRequest
+loan_changes_request params =
+    option_map (λ loan. request.OfOffice loan.office (asked.ChangesOf loan.number)) (account_of params)
+
+-- a place in the journal of an office, of up to 9 digits
+abbrev pub after_place : List ℕ → Option ℕ
+after_place text = number_between 0 999999999 text
+
+-- what the journal tells of an office, after a place
+abbrev pub changes_request : List ℕ → Option ListRequest
+changes_request params =
+    option_and_then (λ p.
+    option_and_then (λ office.
+    option_map (λ after. request.OfOffice office (asked.Changes after)) (after_place p.1))
+    (number_of_digits p.0))
+    (two_parts params)
+
 -- clients that are found, by the members office and part
 abbrev pub find_request : Data → Option ListRequest
 find_request d =
@@ -88,6 +106,8 @@ request_in_path DueBy params = due_request params
 request_in_path AtStatus params = stages_request params
 request_in_path StaffOf params = staff_request params
 request_in_path Preview params = preview_request params
+request_in_path ChangesOf params = loan_changes_request params
+request_in_path Changes params = changes_request params
 request_in_path Find params = None
 
 -- what is asked on a route, by the parameters of the path, or by the body where it is find

@@ -6,6 +6,7 @@ ghost use Rattle.mf_lists.specs.declared.request.ListRequest.TheVariants.{OfOffi
 ghost use Rattle.mf_lists.specs.Readings.{IsAskedInDays};
 ghost use Rattle.mf_lists_wire.specs.ListRequests.{clients_request, client_loans_request, due_request, stages_request};
 ghost use Rattle.mf_lists_wire.specs.ListRequests.{staff_request, preview_request, find_request, request_in_path};
+ghost use Rattle.mf_lists_wire.specs.ListRequests.{loan_changes_request, changes_request};
 ghost use Rattle.mf_lists_wire.specs.ListRequests.{list_request_at, list_request_of};
 
 use crate::body::{json, name, office};
@@ -16,6 +17,9 @@ use mf_catalog::MOST_PERIODS;
 use mf_lists::{ListAsked, ListRequest};
 use mf_office::{Account, AccountNo};
 use std::alloc::Global;
+
+/// The greatest place in a journal after which a list of changes goes on.
+const GREATEST_PLACE: u32 = 999_999_999;
 
 /// A request for a list of an office.
 fn of_office(office: u32, asked: ListAsked) -> ListRequest
@@ -91,6 +95,25 @@ fn preview(params: &[u8]) -> Option<ListRequest>
     })
 }
 
+fn loan_changes(params: &[u8]) -> Option<ListRequest>
+    ensures value { result ≡ loan_changes_request params.now }
+    ensures in_days { IfSome result IsAskedInDays }
+{
+    let Account { office, number } = Account::parse(params)?;
+    let loan = number;
+    Some(of_office(office.get(), ListAsked::ChangesOf { loan }))
+}
+
+fn changes(params: &[u8]) -> Option<ListRequest>
+    ensures value { result ≡ changes_request params.now }
+    ensures in_days { IfSome result IsAskedInDays }
+{
+    let (office, after) = two_parts(params)?;
+    let office = parse_digits(office)?;
+    let after = number_between(after, 0, GREATEST_PLACE)?;
+    Some(of_office(office, ListAsked::Changes { after }))
+}
+
 fn find(alloc: Global, body: &[u8]) -> Result<ListRequest, Fault>
     ensures value { Gives (option_and_then find_request (json_of body.now)) result }
     ensures in_days { IfOk result IsAskedInDays }
@@ -113,6 +136,8 @@ fn request_in_path(endpoint: ListEndpoint, params: &[u8]) -> Option<ListRequest>
         ListEndpoint::AtStatus => stages(params),
         ListEndpoint::StaffOf => staff(params),
         ListEndpoint::Preview => preview(params),
+        ListEndpoint::ChangesOf => loan_changes(params),
+        ListEndpoint::Changes => changes(params),
         ListEndpoint::Find => None,
     }
 }

@@ -17,6 +17,8 @@ pub enum ListEndpoint {
     AtStatus,
     StaffOf,
     Preview,
+    ChangesOf,
+    Changes,
     Find,
 }
 
@@ -69,6 +71,12 @@ fn endpoint_of_word(word: &[u8]) -> Option<ListEndpoint>
     if is_word(word, "schedule") {
         return Some(ListEndpoint::Preview);
     }
+    if is_word(word, "history") {
+        return Some(ListEndpoint::ChangesOf);
+    }
+    if is_word(word, "journal") {
+        return Some(ListEndpoint::Changes);
+    }
     None
 }
 
@@ -78,8 +86,10 @@ fn has_parts(endpoint: ListEndpoint, params: &[u8]) -> bool
 {
     match endpoint {
         ListEndpoint::Find => false,
-        ListEndpoint::LoansOf | ListEndpoint::StaffOf => last_part(params).is_some(),
-        ListEndpoint::Clients => two_parts(params).is_some(),
+        ListEndpoint::LoansOf | ListEndpoint::StaffOf | ListEndpoint::ChangesOf => {
+            last_part(params).is_some()
+        }
+        ListEndpoint::Clients | ListEndpoint::Changes => two_parts(params).is_some(),
         ListEndpoint::DueBy | ListEndpoint::AtStatus => three_parts(params).is_some(),
         ListEndpoint::Preview => four_parts(params).is_some(),
     }

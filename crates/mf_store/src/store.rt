@@ -31,6 +31,7 @@ use crate::known::{Known, News};
 use mf_account::LoanAccount;
 use mf_base::{Day, Fault};
 use mf_catalog::Product;
+use mf_journal::Head as JournalHead;
 use mf_model::{Note, laws};
 use mf_office::{Account, Caller, Key, Role};
 use mf_store_commits::{entry_writes, first_writes, reversal_writes};
@@ -305,6 +306,14 @@ impl<S: Alter> Store<S> {
         ensures { IsTrue result ↔ IsSome self.now.journal }
     {
         self.journal.is_some()
+    }
+
+    /// Where the journal begins, if one is kept.
+    pub fn journal_begins(&self) -> Option<JournalHead>
+        ensures { result ≡ begins_of self.now.journal }
+    {
+        let journal = self.journal?;
+        Some(journal.begins)
     }
 
     /// Gives the institution a journal, where the store keeps none.

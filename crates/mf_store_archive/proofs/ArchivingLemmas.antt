@@ -49,7 +49,7 @@ module _ {S : Type 0} (f : Ghosts S) (journal : Journal) (i : Institution) (line
 
 module _ {S : Type 0} (f : Ghosts S) (journal : Journal) (was mid : Held S)
     (kept : IsUnchangedUnder IsThird (state f was) (state f mid)) where
-  still_tabled : HasGoodDisk f mid → (i : Institution) → IsTabled f (Some journal) was i
+  pub still_tabled : HasGoodDisk f mid → (i : Institution) → IsTabled f (Some journal) was i
       → IsTabled f (Some journal) mid i
   still_tabled clean i t = record {
     kept = record {
@@ -62,7 +62,7 @@ module _ {S : Type 0} (f : Ghosts S) (journal : Journal) (was mid : Held S)
     keeps = t.keeps;
   }
 
-  still_leaves : (i : Institution) → IsTabled f (Some journal) was i → (left : List Institution)
+  pub still_leaves : (i : Institution) → IsTabled f (Some journal) was i → (left : List Institution)
       → LeavesTables f was left → LeavesTables f mid left
   still_leaves i t left l = record {
     ours = λ clean live.

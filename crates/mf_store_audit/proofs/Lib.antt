@@ -12,5 +12,4 @@ pub mod TableLemmas
 mod WorkedRows
 pub mod AuditLemmas
 pub mod KeptLemmas
-pub mod FileLemmas
 pub mod UnreadLemmas

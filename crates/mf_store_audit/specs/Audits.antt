@@ -1,11 +1,7 @@
 -- What an audit says of rows, and of a database.
 use Rattle.std.specs.Prelude.{◌≡◌, ◌≢◌, ◌⊎◌, List, map, Option, IfSome}
 use Rattle.sqlite.specs.Effect.{Database}
-use Rattle.sqlite.specs.Files.{HoldsDatabase}
-use Rattle.sqlite.specs.Schema.{Schema}
 use Rattle.sqlite.specs.Tree.{Trees}
-use Rattle.sqlite_catalog.specs.Listing.{IsSound as IsSoundDatabase}
-use Rattle.sqlite_wal.specs.Recovery.{Image}
 use Rattle.mf_model.specs.Institution.{Institution, JournalLine}
 use Rattle.mf_model.specs.Sound.{IsSound}
 use Rattle.mf_store_sql.specs.Tables.{no_schema}
@@ -104,8 +100,3 @@ abbrev pub IsWithJournal : Trees → Audit → Audit → Type 0
 IsWithJournal trees others whole = ((whole ≡ others) × (FindsSound others → KeepsSomeJournal trees))
     ⊎ ((broken : BrokenJournal) × (whole ≡ audit.BrokenJournal broken) × (¬ KeepsSomeJournal trees)
     × IsBroken trees broken)
-
--- the same of the database that a file held
-pub record IsAuditOfFile (image : Image) (audit : Audit) : Type 0 where
-  pub tables : (trees : Trees) (k : Schema) → HoldsDatabase image trees → IsSoundDatabase k trees
-      → IsAuditOf (record { schema = k; trees = trees }) audit

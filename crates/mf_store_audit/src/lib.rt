@@ -7,7 +7,6 @@ mod audits;
 mod charges;
 mod clients;
 mod entries;
-mod files;
 mod find;
 mod finding;
 mod journal;
@@ -29,7 +28,6 @@ mod totals;
 mod unread;
 
 pub use audits::{Audit, audit_tables};
-pub use files::{audit_file, audit_file_with};
 pub use find::findings;
 pub use finding::{
     ChargeFlaw, ClientFlaw, EntryFlaw, Finding, LoanFlaw, MetaFlaw, OfficeFlaw, ProductFlaw,

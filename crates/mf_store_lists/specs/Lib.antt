@@ -1,4 +1,5 @@
 pub mod Told
+pub mod Changed
 pub mod Counted
 pub mod Due
 pub mod Finding

@@ -1,6 +1,7 @@
 //! The lists of an office, read from the tables of the program's store.
 #![tactic(auto)]
 
+mod changes;
 mod client_loans;
 mod clients;
 mod due;

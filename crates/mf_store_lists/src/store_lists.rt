@@ -2,6 +2,7 @@
 
 ghost use Rattle.std.specs.Prelude.{◌≡◌, is_some};
 
+use crate::changes::{changes_after, changes_of_loan};
 use crate::client_loans::loans_of_client;
 use crate::clients::clients_after;
 use crate::due::due_after;
@@ -9,7 +10,7 @@ use crate::finding::find_clients;
 use crate::staff::staff_of;
 use crate::stages::stages_after;
 use mf_base::{Day, Fault, Name};
-use mf_lists::{ClientLine, ClientLoan, DueLine, StaffLine, StageLine};
+use mf_lists::{ChangeLine, ClientLine, ClientLoan, DueLine, StaffLine, StageLine};
 use mf_lists_desk::Lists;
 use mf_office::{Account, OfficeNo};
 use mf_statement::Listing;
@@ -93,5 +94,24 @@ impl<S: Alter> Lists<Store<S>> for StoreLists {
         part: &Name,
     ) -> Result<Listing<ClientLine>, Fault> {
         find_clients(alloc, store, office, part)
+    }
+
+    fn changes_of_loan(
+        &self,
+        alloc: Global,
+        store: &mut Store<S>,
+        loan: Account,
+    ) -> Result<Option<Listing<ChangeLine>>, Fault> {
+        changes_of_loan(alloc, store, loan)
+    }
+
+    fn changes_after(
+        &self,
+        alloc: Global,
+        store: &mut Store<S>,
+        office: OfficeNo,
+        after: u32,
+    ) -> Result<Option<Listing<ChangeLine>>, Fault> {
+        changes_after(alloc, store, office, after)
     }
 }

@@ -1,5 +1,4 @@
 pub mod RowLemmas
-pub mod PageLemmas
 pub mod PlayLemmas
 pub mod HeldLemmas
 pub mod AnswerLemmas

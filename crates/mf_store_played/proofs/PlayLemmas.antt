@@ -20,7 +20,7 @@ use Rattle.mf_play.specs.Playing.{PlaysLines}
 use Rattle.mf_play.specs.declared.stop.Stop.{Stop}
 use Rattle.mf_play.proofs.Lines.{StopsOn, stops_on, stops_at, joined}
 use Rattle.mf_store_played.specs.Played.{PlaysTable}
-use Rattle.mf_store_played.proofs.PageLemmas.{page_is, none_left, size_of_rows}
+use Rattle.mf_store.proofs.JournalPages.{page_is, none_left, size_of_rows}
 
 -- ---- where lines stop
 
@@ -45,7 +45,7 @@ stops_before i (l ∷ ls) more zero why s = s
 stops_before i (l ∷ ls) more (suc place) why s = (s.0, s.1, stops_before s.0 ls more place why s.2)
 
 -- in a page behind lines that play
-stops_within : (i j : Institution) (done page more : List JournalLine) (place : ℕ) (why : Stop) → PlaysTo i done j
+pub stops_within : (i j : Institution) (done page more : List JournalLine) (place : ℕ) (why : Stop) → PlaysTo i done j
     → StopsAt j page place why → StopsAt i (done ++ (page ++ more)) (length done + place) why
 stops_within i j done page more place why p s =
     subst (λ n. StopsAt i (done ++ (page ++ more)) n why) (behind_is done place)

@@ -2,15 +2,10 @@
 use Rattle.std.proofs.Common.{◌≡◌, ◌≢◌, ◌≤◌, ◌<◌, ℕ, zero, suc, ◌+◌, List, [], ◌∷◌, ◌++◌, take, length, slice_get}
 use Rattle.std.proofs.Common.{Some, None, refl, sym, ap, ◌∙◌, subst, arith}
 use Rattle.std.proofs.lemmas.List.{take_all}
+use Rattle.mf_store.proofs.JournalPages.{take_next}
 use Rattle.mf_store_played.specs.Played.{DiffersAt}
 
 module _ {A : Type 0} where
-  pub take_next : (xs : List A) (place : ℕ) (x : A) → slice_get xs place ≡ Some x
-      → take (suc place) xs ≡ take place xs ++ x ∷ []
-  take_next [] place x there = absurd (cc)
-  take_next (y ∷ ys) zero x there = let same : y ≡ x = cc in ap (λ z. z ∷ []) same
-  take_next (y ∷ ys) (suc place) x there = ap (λ rest. y ∷ rest) (take_next ys place x there)
-
   -- one more that is the same
   pub same_next : (xs ys : List A) (place : ℕ) (x y : A) → slice_get xs place ≡ Some x → slice_get ys place ≡ Some y
       → x ≡ y → take place xs ≡ take place ys → take (place + 1) xs ≡ take (place + 1) ys

@@ -7,10 +7,9 @@ ghost use Rattle.sqlite.specs.Files.{over_files};
 ghost use Rattle.mf_store.specs.Stands.{StandsFor};
 ghost use Rattle.mf_store_played.specs.Played.{IsFounding, founded};
 
-use crate::day::day_of_number;
 use mf_base::{Day, Fault};
 use mf_journal::Head;
-use mf_store::Store;
+use mf_store::{Store, day_of_number};
 use mf_store_sql::pages::PageStore;
 use std::alloc::Global;
 
@@ -18,7 +17,7 @@ use std::alloc::Global;
 const SCHEMA: u64 = 3;
 
 /// The day of the founding at which a journal begins; none where it doesn't begin at one.
-pub(crate) fn founding_day(begins: Head) -> Result<Option<Day>, Fault>
+pub fn founding_day(begins: Head) -> Result<Option<Day>, Fault>
     ensures some { IfOk result (λ x. IfSome x (IsFounding begins)) }
     ensures none { IfOk result (λ x. IfNone x ((day : ℕ) → ¬ IsFounding begins day)) }
     ensures gives_up { IfErr result (λ fault. fault ≡ F20) }
@@ -35,7 +34,7 @@ pub(crate) fn founding_day(begins: Head) -> Result<Option<Day>, Fault>
 }
 
 /// A new institution in memory with a journal that has no line yet, on its first business day.
-pub(crate) fn found_in_memory(alloc: Global, day: Day) -> Result<Store<PageStore>, Fault>
+pub fn found_in_memory(alloc: Global, day: Day) -> Result<Store<PageStore>, Fault>
     requires { day ≤ last_entered_day }
     ensures stands { IfOk result (λ store. StandsFor over_files store (founded day)) }
     ensures gives_up { IfErr result (λ fault. fault ≡ F20) }

@@ -1,15 +1,15 @@
 //! Tables against the play of their journal: whether the lines, played from their founding, lead to just these rows.
 #![tactic(auto)]
 
-mod day;
 mod differing;
 mod founding;
 pub mod laws;
-mod lines;
 mod pages;
 mod played;
 mod playing;
 mod rows;
 
+pub use founding::{found_in_memory, founding_day};
+pub use pages::number_at;
 pub use played::{Difference, Played, PlayedTable};
 pub use playing::play_tables;

@@ -13,31 +13,17 @@ ghost use Rattle.mf_store_journal.specs.Reading.{IsThird};
 ghost use Rattle.mf_store_journal.specs.Rows.{filed_after};
 ghost use Rattle.mf_store_played.specs.Played.{PlaysTable};
 
-use crate::lines::lines_told;
 use mf_base::Fault;
 use mf_model::InstitutionStore;
 use mf_play::{Stop, play_lines};
+use mf_store::{lines_told, number_after};
 use mf_store_journal::rows_after;
 use mf_wire_requests::Routes;
 use sqlite::{Alter, Connection, Row};
 use std::alloc::Global;
 
-/// The number so many after another. The error is F20.
-fn number_after(number: u32, count: usize) -> Result<u32, Fault>
-    ensures number { IfOk result (λ next. next ≡ number + count) }
-    ensures gives_up { IfErr result (λ fault. fault ≡ F20) }
-{
-    let Ok(more) = u32::try_from(count) else {
-        return Err(Fault::F20);
-    };
-    match number.checked_add(more) {
-        Some(next) => Ok(next),
-        None => Err(Fault::F20),
-    }
-}
-
 /// The number of the line at a place among those after a number. The error is F20.
-fn number_at(number: u32, place: usize) -> Result<u64, Fault>
+pub fn number_at(number: u32, place: usize) -> Result<u64, Fault>
     ensures number { IfOk result (λ found. found ≡ number + place + 1) }
     ensures gives_up { IfErr result (λ fault. fault ≡ F20) }
 {

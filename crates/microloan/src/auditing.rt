@@ -1,5 +1,7 @@
 //! A file audited, and what is found printed.
 
+ghost use Rattle.std.specs.Prelude.{◌≡◌};
+ghost use Rattle.mf_store_verdict.specs.Verdict.{Passes};
 ghost use Rattle.microloan.specs.Status.{IsPrintStatus};
 
 use crate::following::Following;
@@ -7,12 +9,14 @@ use crate::places::{Place, place_at};
 use crate::telling::{FAULT, print_line, print_made, tell_no_institution, tell_refusal};
 use crate::why::{words_of, words_of_place};
 use mf_base::Fault;
-use mf_store_audit::{Audit, audit_file};
-use microloan_audit::audit_text;
+use mf_store_audit::Audit;
+use mf_store_verdict::{Verdict, audit_file, passes};
+use microloan_audit::verdict_text;
 use std::rt::HostRuntime;
 
-/// Prints what an institution's rows come to, or which row breaks which condition, and gives the program's status: 0
-/// where the file holds a sound institution. Nothing is made and nothing is changed.
+/// Prints what an institution's rows come to and what the play of its journal says of them, or which row breaks which
+/// condition, and gives the program's status: 0 where the file holds a sound institution, and its journal leads there,
+/// where it is played. Nothing is made and nothing is changed.
 pub fn say_audit(rt: &HostRuntime, file: &str, all: bool) -> u8
     ensures { IsPrintStatus result }
 {
@@ -31,25 +35,24 @@ fn refuse(rt: &HostRuntime, words: &str) -> u8
     tell_refusal(rt, Fault::F20)
 }
 
-/// Prints the audit of a database, and gives the program's status.
+/// Prints the verdict on a database, and gives the program's status.
 fn say_rows(rt: &HostRuntime, file: &str, all: bool) -> u8
     ensures { IsPrintStatus result }
 {
     match audit_file(rt, file, all, &mut Following::new(rt, file)) {
-        Ok(Audit::NoTables) => tell_no_institution(rt),
-        Ok(audit) => say(rt, &audit),
+        Ok(verdict) => say(rt, &verdict),
         Err(finding) => refuse(rt, words_of(finding)),
     }
 }
 
-/// Prints an audit, and gives the program's status.
-fn say(rt: &HostRuntime, audit: &Audit) -> u8
-    ensures { IsPrintStatus result }
+/// Prints a verdict, and gives the program's status.
+fn say(rt: &HostRuntime, verdict: &Verdict) -> u8
+    ensures status { IsPrintStatus result }
+    ensures fails { ¬ Passes verdict.now → result ≡ 1 }
 {
-    let said = print_made(rt, audit_text(rt.alloc(), audit));
-    if matches!(audit, Audit::Sound { .. }) {
-        said
-    } else {
-        FAULT
+    if matches!(verdict.audit, Audit::NoTables) {
+        return tell_no_institution(rt);
     }
+    let said = print_made(rt, verdict_text(rt.alloc(), verdict));
+    if passes(verdict) { said } else { FAULT }
 }

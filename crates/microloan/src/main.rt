@@ -1,8 +1,10 @@
 //! The loan desk's program: reads its words, and does what they ask for.
 #![tactic(auto)]
 
+mod archiving;
 mod auditing;
 mod following;
+mod ledger;
 mod places;
 mod telling;
 mod why;
@@ -14,21 +16,24 @@ ghost use Rattle.microloan_words.specs.Asked.{IsWithinLimits, IsServeWithinLimit
 ghost use Rattle.microloan_commands.specs.Printed.{HasLongGrace};
 ghost use Rattle.microloan.specs.Status.{IsPrintStatus};
 
+use crate::archiving::Archiving;
 use crate::auditing::say_audit;
 use crate::following::Following;
+use crate::ledger::{form_asked, names_in};
 use crate::places::place_at;
 use crate::telling::{
-    print_made, refuse_words, tell_checking, tell_no_institution, tell_no_journal, tell_reading,
-    tell_refusal,
+    print_made, refuse_words, tell_cause, tell_checking, tell_no_institution, tell_no_journal,
+    tell_reading, tell_refusal,
 };
 use crate::why::say_why;
 use crate::working::{Served, Work, answer_input_in_memory, work_on};
 use mf_base::{Day, Fault};
+use mf_ledger_play::BooksAsked;
 use mf_store_files::{Refused, Unjournaled, open, open_existing, open_journaled};
 use microloan_commands::schedule;
 use microloan_words::{
-    BatchWords, CollectWords, Command, ScheduleWords, ServeWords, StaffWords, UpgradeWords, Words,
-    command, default_day,
+    ArchiveWords, BatchWords, CollectWords, Command, LedgerWords, ScheduleWords, ServeWords,
+    StaffWords, UpgradeWords, Words, command, default_day,
 };
 use std::process::ExitCode;
 use std::{env, io};
@@ -65,6 +70,8 @@ fn obey(rt: &HostRuntime, words: &[String]) -> u8 {
         Ok(Command::Why(asked)) => say_why(rt, asked.file.as_str()),
         Ok(Command::Audit(asked)) => say_audit(rt, asked.file.as_str(), asked.all),
         Ok(Command::Upgrade(asked)) => upgrade(rt, &asked),
+        Ok(Command::Archive(asked)) => archive(rt, &asked),
+        Ok(Command::Ledger(asked)) => print_ledger(rt, &asked),
         Err(words) => refuse_words(rt, words),
     }
 }
@@ -173,6 +180,44 @@ fn upgrade(rt: &HostRuntime, asked: &UpgradeWords<'_>) -> u8
     work_where(rt, asked.file.as_str(), wanted, work, &[])
 }
 
+/// Moves lines of the journal of a file to an archive; the file must hold an institution that keeps one.
+fn archive(rt: &HostRuntime, asked: &ArchiveWords<'_>) -> u8
+    ensures { IsPrintStatus result }
+{
+    let wanted = Wanted {
+        existing: true,
+        journal: true,
+        day: default_day(),
+    };
+    let work = Work::Archive(Archiving {
+        to: asked.to,
+        into: asked.into.as_str(),
+    });
+    work_where(rt, asked.file.as_str(), wanted, work, &[])
+}
+
+/// Writes the books of a span of days, of an institution that keeps a journal.
+fn print_ledger(rt: &HostRuntime, asked: &LedgerWords<'_>) -> u8
+    ensures { IsPrintStatus result }
+{
+    let names = match names_in(rt, &asked.names) {
+        Ok(names) => names,
+        Err(cause) => return tell_cause(rt, cause),
+    };
+    let work = Work::Ledger(BooksAsked {
+        form: form_asked(asked.form),
+        first: asked.first,
+        last: asked.last,
+        names,
+    });
+    let wanted = Wanted {
+        existing: true,
+        journal: true,
+        day: default_day(),
+    };
+    work_where(rt, asked.file.as_str(), wanted, work, &[])
+}
+
 /// Says why a file is not opened, and gives the program's status, where opening would put a new institution in the
 /// place of something, or make one where one is to be there.
 fn refuse_place(rt: &HostRuntime, file: &str, existing: bool) -> Option<u8>
@@ -190,7 +235,7 @@ fn refuse_place(rt: &HostRuntime, file: &str, existing: bool) -> Option<u8>
 
 /// Works over a file unless it is refused for what stands there, and gives the program's status. This is told of each
 /// line of a sheet.
-fn work_where(rt: &HostRuntime, file: &str, wanted: Wanted, work: Work, told: &[u8]) -> u8
+fn work_where(rt: &HostRuntime, file: &str, wanted: Wanted, work: Work<'_>, told: &[u8]) -> u8
     requires { wanted.day ≤ last_entered_day }
     ensures { IsPrintStatus result }
 {
@@ -202,7 +247,7 @@ fn work_where(rt: &HostRuntime, file: &str, wanted: Wanted, work: Work, told: &[
 
 /// Opens a file, works over the institution that it holds, closes it, and gives the program's status. The only function
 /// that holds a store of a known type: the prover reads all of `sqlite` for each.
-fn work_over(rt: &HostRuntime, file: &str, wanted: Wanted, work: Work, told: &[u8]) -> u8
+fn work_over(rt: &HostRuntime, file: &str, wanted: Wanted, work: Work<'_>, told: &[u8]) -> u8
     requires { wanted.day ≤ last_entered_day }
     ensures { IsPrintStatus result }
 {

@@ -5,9 +5,10 @@ ghost use Rattle.std.specs.Prelude.{◌≡◌, IsErr};
 ghost use Rattle.microloan.specs.Status.{IsStatusOf, IsPrintStatus, IsWordsStatus};
 
 use mf_base::{Cause, Fault, StreamFault};
+use mf_play::Stop;
 use microloan_commands::SheetFault;
 use microloan_words::Words;
-use std::io::IsTerminal;
+use std::io::{IsTerminal, Write};
 use std::{fmt, io};
 
 /// Done, refused requests included.
@@ -87,6 +88,13 @@ pub fn print_line<R: Print + Eprint>(rt: &R, line: impl fmt::Display + Drop) -> 
     tell_printed(rt, &rt.println(line))
 }
 
+/// Prints bytes, and gives the program's status.
+pub fn print_bytes<R: Print + Eprint>(rt: &R, bytes: &[u8]) -> u8
+    ensures { IsPrintStatus result }
+{
+    tell_printed(rt, &io::writer(rt).write_all(bytes))
+}
+
 /// Prints a text, or says why there is none, and gives the program's status.
 pub fn print_made<R: Print + Eprint>(rt: &R, made: Result<String, Fault>) -> u8
     ensures status { IsPrintStatus result }
@@ -129,6 +137,35 @@ pub fn tell_no_journal<R: Eprint>(rt: &R) -> u8
     tell_fault(rt, "no journal")
 }
 
+/// Says that a journal doesn't begin at the founding of an institution, and gives the program's status.
+pub fn tell_no_founding<R: Eprint>(rt: &R) -> u8
+    ensures { result ≡ 1 }
+{
+    tell_fault(rt, "the journal doesn't begin at a founding")
+}
+
+/// Says that the line of this number doesn't play, and why, and gives the program's status.
+pub fn tell_stop<R: Eprint>(rt: &R, number: u64, why: Stop) -> u8
+    ensures { result ≡ 1 }
+{
+    let why = words_of_stop(why);
+    tell_fault(
+        rt,
+        format_args!("line {number} of the journal doesn't play: {why}"),
+    )
+}
+
+/// Why a line of a journal doesn't play, in words.
+fn words_of_stop(why: Stop) -> &'static str {
+    match why {
+        Stop::NoRequest => "it tells no request",
+        Stop::OtherDay => "its day isn't the business day",
+        Stop::Refused => "its request is refused",
+        Stop::ChangesNothing => "its request changes nothing",
+        Stop::NamesOther => "it names another office or loan than the reply",
+    }
+}
+
 /// Says what failed, and gives the program's status.
 pub fn tell_cause<R: Eprint>(rt: &R, cause: Cause) -> u8
     ensures { result ≡ 1 }
@@ -146,7 +183,7 @@ fn name_of(cause: Cause) -> &'static str {
 }
 
 /// Says which fault it was, and gives the program's status.
-fn tell_fault<R: Eprint>(rt: &R, fault: impl fmt::Display + Drop) -> u8
+pub fn tell_fault<R: Eprint>(rt: &R, fault: impl fmt::Display + Drop) -> u8
     ensures { result ≡ 1 }
 {
     let _said = rt.eprintln(format_args!("microloan: {fault}"));

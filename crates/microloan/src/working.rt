@@ -4,12 +4,15 @@ ghost use Rattle.std.specs.Prelude.{◌≤◌};
 ghost use Rattle.mf_base.specs.DayText.{last_entered_day};
 ghost use Rattle.microloan.specs.Status.{IsPrintStatus};
 
+use crate::archiving::{Archiving, archive_into};
+use crate::ledger::write_ledger;
 use crate::telling::{
     print_line, print_made, tell_cause, tell_end, tell_person, tell_reading, tell_refusal,
     tell_sheet,
 };
 use crate::why::{WITH_JOURNAL, WITHOUT_JOURNAL};
 use mf_base::{Cause, Day, Fault};
+use mf_ledger_play::BooksAsked;
 use mf_office::Caller;
 use mf_store::Store;
 use mf_store_files::close;
@@ -37,7 +40,7 @@ pub struct Served {
 
 /// What is done over a file.
 #[derive(Drop)]
-pub enum Work {
+pub enum Work<'a> {
     /// Request lines on standard input are answered; the first word of each may be told of it, and lists may be asked
     /// for.
     Answer { told: bool, lists: bool },
@@ -49,6 +52,10 @@ pub enum Work {
     Report(Caller),
     /// It is said what the file holds, once a journal was begun where one is asked for and none kept.
     Upgrade { journal: bool },
+    /// Lines of the journal are moved to an archive.
+    Archive(Archiving<'a>),
+    /// The books of the institution are written.
+    Ledger(BooksAsked),
 }
 
 /// Works over the store of a file, closes it (`mf_store_files::close`), and gives the program's status. Where closing
@@ -57,7 +64,7 @@ pub fn work_on<D: Disk + Drop>(
     rt: &HostRuntime,
     file: &str,
     store: Store<FileStore<D>>,
-    work: Work,
+    work: Work<'_>,
     told: &[u8],
 ) -> u8
     ensures { IsPrintStatus result }
@@ -71,6 +78,8 @@ pub fn work_on<D: Disk + Drop>(
         Work::Collect(staff) => collect_input(rt, store, staff, told),
         Work::Report(staff) => print_report(rt, store, staff),
         Work::Upgrade { journal } => upgrade_store(rt, file, store, journal),
+        Work::Archive(archiving) => archive_into(rt, file, store, archiving),
+        Work::Ledger(asked) => write_ledger(rt, store, &asked),
     }
 }
 
@@ -196,4 +205,4 @@ fn upgrade_store<R: Print + Eprint + AllocGlobal, D: Disk + Drop>(
 /// Lets go of files that are closed, or of what is left of a store that could not be closed: of either, what a stop
 /// leaves is told by the call that gave it. A function of its own, since the prover writes out the drop of a store
 /// field by field wherever one is dropped.
-fn let_go<D: Disk + Drop>(_closed: Result<Files<D>, (Fault, FileStore<D>)>) {}
+pub fn let_go<D: Disk + Drop>(_closed: Result<Files<D>, (Fault, FileStore<D>)>) {}

@@ -1,5 +1,6 @@
 pub mod Journal
 pub mod Lines
+pub mod Played
 pub mod Quoted
 pub mod SumsText
 pub mod Text

@@ -1,4 +1,4 @@
--- The text of what the rows of a sound institution come to: three tables in fixed columns, and the word `sound`.
+-- The text of what the rows of a sound institution come to: three tables in fixed columns, and a last line.
 use Rattle.std.specs.Prelude.{ℕ, List, [], ◌∷◌, ◌++◌, map, codes, decimal}
 use Rattle.std.specs.List.{flat_map}
 use Rattle.mf_base.specs.Money.{money_text}
@@ -87,11 +87,11 @@ unfoldable pub table_text : ℕ → Part → List OfficeSums → Sums → List �
 table_text schema part os all =
     heading schema part ++ title_line part ++ flat_map (office_line part) os ++ sums_line part (codes "all") all
 
--- the three tables, and the word
-abbrev pub text_with_all : ℕ → List OfficeSums → Sums → List ℕ
-text_with_all schema os all = table_text schema Counts os all ++ table_text schema Principal os all
-    ++ table_text schema Money os all ++ codes "sound\n"
+-- the three tables, and the last line
+abbrev pub text_with_all : ℕ → List OfficeSums → Sums → List ℕ → List ℕ
+text_with_all schema os all last = table_text schema Counts os all ++ table_text schema Principal os all
+    ++ table_text schema Money os all ++ (last ++ codes "\n")
 
 -- the same, where all is what the offices come to
-unfoldable pub sums_text : ℕ → List OfficeSums → List ℕ
-sums_text schema os = text_with_all schema os (sums_of_all os)
+unfoldable pub sums_text : ℕ → List OfficeSums → List ℕ → List ℕ
+sums_text schema os last = text_with_all schema os (sums_of_all os) last

@@ -1,4 +1,4 @@
--- The text of an audit.
+-- The text of an audit, and of a verdict.
 use Rattle.std.specs.Prelude.{ℕ, List, ◌++◌, codes, Option, Some, None}
 use Rattle.std.specs.List.{flat_map}
 use Rattle.mf_store_schema.specs.Rows.{Lists}
@@ -9,12 +9,16 @@ use Rattle.mf_store_audit.specs.declared.audits.Audit.TheVariants as audit
 use Rattle.mf_store_audit.specs.declared.finding.Finding.{Finding}
 use Rattle.mf_store_audit.specs.declared.journal.BrokenJournal.{BrokenJournal}
 use Rattle.mf_store_audit.specs.declared.unread.Unread.{Unread}
+use Rattle.mf_store_played.specs.declared.played.Played.{Played}
+use Rattle.mf_store_played.specs.declared.played.Played.TheVariants.{Leads, NoFounding, Stops, Differs}
+use Rattle.mf_store_verdict.specs.declared.verdict.Verdict.{Verdict}
 use Rattle.microloan_audit.specs.Journal.{journal_line}
 use Rattle.microloan_audit.specs.Lines.{finding_line}
+use Rattle.microloan_audit.specs.Played.{difference_line, leads_line, stop_line, unplayed_line}
 use Rattle.microloan_audit.specs.SumsText.{sums_text}
 use Rattle.microloan_audit.specs.Unread.{unread_line}
 
--- a line of an audit that finds no sound institution
+-- a line where something is found to be wrong
 unfoldable pub audit_line : List ℕ → List ℕ
 audit_line words = codes "audit: " ++ (words ++ codes "\n")
 
@@ -31,11 +35,29 @@ unread_text (Some u) = audit_line (unread_line u)
 abbrev pub journal_text : BrokenJournal → List ℕ
 journal_text broken = audit_line (journal_line broken)
 
--- what an audit prints: of a sound institution its sums and the word `sound`, else lines that begin with `audit:`
+-- what an audit prints with this last line: of a sound institution its sums and the line, else lines that begin with
+-- `audit:`
+abbrev pub text_ending : List ℕ → Audit → List ℕ
+text_ending last NoTables = audit_line (codes "the database has no tables")
+text_ending last OtherTables = audit_line (codes "the database has other tables than this program makes")
+text_ending last (Sound version sums) = sums_text (number_of version) sums.items last
+text_ending last (Unsound version tables findings) = findings_text tables findings.items
+text_ending last (Unreadable version unread) = unread_text unread
+text_ending last (audit.BrokenJournal broken) = journal_text broken
+
+-- what an audit prints where no journal was played: of a sound institution its sums and the word `sound`
 abbrev pub audit_text : Audit → List ℕ
-audit_text NoTables = audit_line (codes "the database has no tables")
-audit_text OtherTables = audit_line (codes "the database has other tables than this program makes")
-audit_text (Sound version sums) = sums_text (number_of version) sums.items
-audit_text (Unsound version tables findings) = findings_text tables findings.items
-audit_text (Unreadable version unread) = unread_text unread
-audit_text (audit.BrokenJournal broken) = journal_text broken
+audit_text = text_ending (codes "sound")
+
+-- What a verdict prints: of sound tables to which their journal leads, or whose journal begins at no founding, that in
+-- the last line. Else the line at which the play stops, or the first row that it doesn't give.
+abbrev pub text_played : Audit → Option Played → List ℕ
+text_played found None = audit_text found
+text_played found (Some (Leads head)) = text_ending (leads_line head) found
+text_played found (Some (NoFounding head)) = text_ending (unplayed_line head) found
+text_played found (Some (Stops number why)) = audit_line (stop_line number why)
+text_played found (Some (Differs difference)) = audit_line (difference_line difference)
+
+-- the same of a verdict
+abbrev pub verdict_text : Verdict → List ℕ
+verdict_text v = text_played v.audit v.played

@@ -6,10 +6,12 @@ mod entries;
 mod journal;
 mod line;
 mod loans;
+mod names;
 mod offices;
+mod played;
 mod quoted;
 mod sums;
 mod text;
 mod unread;
 
-pub use text::audit_text;
+pub use text::{audit_text, verdict_text};

@@ -69,7 +69,7 @@ fn say(alloc: Global, table: &str, key: &str, words: &str) -> Result<String, Fau
 }
 
 /// A number as a text.
-fn number_text(alloc: Global, number: u32) -> Result<String, Fault>
+pub(crate) fn number_text(alloc: Global, number: u32) -> Result<String, Fault>
     ensures text { IfOk result (λ text. string_bytes text ≡ decimal number) }
     ensures only { IsOkUnless result Fault.F20 }
 {
@@ -77,7 +77,7 @@ fn number_text(alloc: Global, number: u32) -> Result<String, Fault>
 }
 
 /// A client or a loan by its office and its number, whether or not there may be one.
-fn account_text(alloc: Global, office: u32, number: u32) -> Result<String, Fault>
+pub(crate) fn account_text(alloc: Global, office: u32, number: u32) -> Result<String, Fault>
     ensures text { IfOk result (λ text. string_bytes text ≡ written.account_text office number) }
     ensures only { IsOkUnless result Fault.F20 }
 {
@@ -86,7 +86,7 @@ fn account_text(alloc: Global, office: u32, number: u32) -> Result<String, Fault
 }
 
 /// A member of staff by their office and number.
-fn caller_text(alloc: Global, office: u32, number: u32) -> Result<String, Fault>
+pub(crate) fn caller_text(alloc: Global, office: u32, number: u32) -> Result<String, Fault>
     ensures text { IfOk result (λ text. string_bytes text ≡ written.caller_text office number) }
     ensures only { IsOkUnless result Fault.F20 }
 {
@@ -94,7 +94,7 @@ fn caller_text(alloc: Global, office: u32, number: u32) -> Result<String, Fault>
 }
 
 /// The key of a receipt.
-fn receipt_key(alloc: Global, office: u32, receipt: &str) -> Result<String, Fault>
+pub(crate) fn receipt_key(alloc: Global, office: u32, receipt: &str) -> Result<String, Fault>
     ensures text { IfOk result (λ text. string_bytes text
         ≡ decimal office ++ (codes " " ++ quoted receipt.now)) }
     ensures only { IsOkUnless result Fault.F20 }
@@ -105,7 +105,7 @@ fn receipt_key(alloc: Global, office: u32, receipt: &str) -> Result<String, Faul
 }
 
 /// The key of an entry.
-fn entry_key(alloc: Global, office: u32, loan: u32, seq: u32) -> Result<String, Fault>
+pub(crate) fn entry_key(alloc: Global, office: u32, loan: u32, seq: u32) -> Result<String, Fault>
     ensures text { IfOk result (λ text. string_bytes text ≡ spec.entry_key office loan seq) }
     ensures only { IsOkUnless result Fault.F20 }
 {
@@ -264,7 +264,12 @@ fn receipt_line(
 }
 
 /// The key of an instalment.
-fn instalment_key(alloc: Global, office: u32, loan: u32, number: u32) -> Result<String, Fault>
+pub(crate) fn instalment_key(
+    alloc: Global,
+    office: u32,
+    loan: u32,
+    number: u32,
+) -> Result<String, Fault>
     ensures text { IfOk result (λ text. string_bytes text ≡ spec.instalment_key office loan number) }
     ensures only { IsOkUnless result Fault.F20 }
 {

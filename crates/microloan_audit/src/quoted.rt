@@ -32,7 +32,7 @@ fn is_ascii(bytes: &[u8]) -> bool
 }
 
 /// Writes bytes, each in two digits to the base 16.
-fn push_bytes(alloc: Global, words: &mut String, bytes: &[u8]) -> Result<(), Fault>
+pub(crate) fn push_bytes(alloc: Global, words: &mut String, bytes: &[u8]) -> Result<(), Fault>
     ensures text { OnOk result (string_bytes words.new
         ≡ string_bytes words.old ++ flat_map spec.two_hex bytes.now) }
     ensures only { IsOkUnless result Fault.F20 }

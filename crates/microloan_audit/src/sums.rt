@@ -28,15 +28,20 @@ enum Part {
     Money,
 }
 
-/// The tables of what offices come to and in all, and the word `sound`. The error is F20: out of memory, or sums that
-/// are too great in all.
+/// The tables of what offices come to and in all, and a last line. The error is F20: out of memory, or sums that are
+/// too great in all.
 #[tactic(auto, unfolding(crate::specs::SumsText::sums_text))]
-pub(crate) fn sums_text(alloc: Global, schema: u32, offices: &[OfficeSums]) -> Result<String, Fault>
-    ensures text { IfOk result (λ text. string_bytes text ≡ spec.sums_text schema offices.now) }
+pub(crate) fn sums_text(
+    alloc: Global,
+    schema: u32,
+    offices: &[OfficeSums],
+    last: &str,
+) -> Result<String, Fault>
+    ensures text { IfOk result (λ text. string_bytes text ≡ spec.sums_text schema offices.now last.now) }
     ensures only { IsOkUnless result Fault.F20 }
 {
     let all = total(offices).ok_or(Fault::F20)?;
-    text_with_all(alloc, schema, offices, &all)
+    text_with_all(alloc, schema, offices, &all, last)
 }
 
 /// The same by what they come to in all.
@@ -45,15 +50,18 @@ fn text_with_all(
     schema: u32,
     offices: &[OfficeSums],
     all: &Sums,
+    last: &str,
 ) -> Result<String, Fault>
-    ensures text { IfOk result (λ text. string_bytes text ≡ spec.text_with_all schema offices.now all.now) }
+    ensures text { IfOk result (λ text. string_bytes text
+        ≡ spec.text_with_all schema offices.now all.now last.now) }
     ensures only { IsOkUnless result Fault.F20 }
 {
     let mut text = String::new(alloc);
     push_table(alloc, &mut text, schema, Part::Counts, offices, all)?;
     push_table(alloc, &mut text, schema, Part::Principal, offices, all)?;
     push_table(alloc, &mut text, schema, Part::Money, offices, all)?;
-    text.push_str("sound\n")?;
+    text.push_str(last)?;
+    text.push_str("\n")?;
     Ok(text)
 }
 

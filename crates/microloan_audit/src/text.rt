@@ -1,22 +1,70 @@
-//! The text of an audit.
+//! The text of an audit, and of a verdict.
 
-ghost use Rattle.std.specs.Prelude.{◌≡◌, ◌++◌, string_bytes, IfOk, OnOk, IsOkUnless};
+ghost use Rattle.std.specs.Prelude.{◌≡◌, ◌++◌, Some, string_bytes, IfOk, OnOk, IsOkUnless};
 ghost use Rattle.microloan_audit.specs.Lines.{finding_line};
 ghost use Rattle.microloan_audit.specs.Text as spec;
 
 use crate::journal::journal_line;
 use crate::line::finding_line;
+use crate::played::{difference_line, leads_line, stop_line, unplayed_line};
 use crate::sums::sums_text;
 use crate::unread::unread_line;
 use mf_base::Fault;
 use mf_store_audit::{Audit, BrokenJournal, Finding, Unread};
+use mf_store_played::Played;
 use mf_store_sound::Tables;
+use mf_store_verdict::Verdict;
 use std::alloc::Global;
 
-/// What an audit prints: of a sound institution its sums and the word `sound`, else lines that begin with `audit:`. The
-/// error is F20: out of memory, or sums that are too great in all.
+/// What an audit prints where no journal was played: of a sound institution its sums and the word `sound`, else lines
+/// that begin with `audit:`. The error is F20: out of memory, or sums that are too great in all.
 pub fn audit_text(alloc: Global, audit: &Audit) -> Result<String, Fault>
     ensures text { IfOk result (λ text. string_bytes text ≡ spec.audit_text audit.now) }
+    ensures only { IsOkUnless result Fault.F20 }
+{
+    text_ending(alloc, audit, "sound")
+}
+
+/// What a verdict prints: of a sound institution its sums and a last line, which says what the play of its journal
+/// says, else lines that begin with `audit:`. The error is F20: out of memory, or sums that are too great in all.
+pub fn verdict_text(alloc: Global, verdict: &Verdict) -> Result<String, Fault>
+    ensures text { IfOk result (λ text. string_bytes text ≡ spec.verdict_text verdict.now) }
+    ensures only { IsOkUnless result Fault.F20 }
+{
+    match &verdict.played {
+        None => audit_text(alloc, &verdict.audit),
+        Some(played) => text_played(alloc, &verdict.audit, played),
+    }
+}
+
+/// The same by what the play of the journal says.
+fn text_played(alloc: Global, audit: &Audit, played: &Played) -> Result<String, Fault>
+    ensures text { IfOk result (λ text. string_bytes text ≡ spec.text_played audit.now (Some played.now)) }
+    ensures only { IsOkUnless result Fault.F20 }
+{
+    match played {
+        Played::Leads(head) => {
+            let last = leads_line(alloc, *head)?;
+            text_ending(alloc, audit, last.as_str())
+        }
+        Played::NoFounding(head) => {
+            let last = unplayed_line(alloc, *head)?;
+            text_ending(alloc, audit, last.as_str())
+        }
+        Played::Stops { number, why } => {
+            let line = stop_line(alloc, *number, *why)?;
+            audit_line(alloc, line.as_str())
+        }
+        Played::Differs(difference) => {
+            let line = difference_line(alloc, difference)?;
+            audit_line(alloc, line.as_str())
+        }
+    }
+}
+
+/// What an audit prints, where this is the last line of a sound institution's text.
+fn text_ending(alloc: Global, audit: &Audit, last: &str) -> Result<String, Fault>
+    ensures text { IfOk result (λ text. string_bytes text ≡ spec.text_ending last.now audit.now) }
     ensures only { IsOkUnless result Fault.F20 }
 {
     match audit {
@@ -25,7 +73,7 @@ pub fn audit_text(alloc: Global, audit: &Audit) -> Result<String, Fault>
             alloc,
             "the database has other tables than this program makes",
         ),
-        Audit::Sound { version, sums } => sums_text(alloc, version.number(), sums),
+        Audit::Sound { version, sums } => sums_text(alloc, version.number(), sums, last),
         Audit::Unsound {
             tables,
             findings,

@@ -19,12 +19,16 @@ use Rattle.microloan_words.specs.declared.asked.StaffWords.{StaffWords}
 use Rattle.microloan_words.specs.declared.asked.FileWords.{FileWords}
 use Rattle.microloan_words.specs.declared.asked.AuditWords.{AuditWords}
 use Rattle.microloan_words.specs.declared.asked.UpgradeWords.{UpgradeWords}
+use Rattle.microloan_words.specs.declared.asked.ArchiveWords.{ArchiveWords}
+use Rattle.microloan_words.specs.declared.asked.LedgerForm.{LedgerForm}
+use Rattle.microloan_words.specs.declared.asked.LedgerForm.TheVariants.{Hledger, Beancount, Sheet}
+use Rattle.microloan_words.specs.declared.asked.LedgerWords.{LedgerWords}
 use Rattle.microloan_words.specs.declared.asked.ScheduleWords.{ScheduleWords}
 use Rattle.microloan_words.specs.declared.asked.Words.{Words}
 use Rattle.microloan_words.specs.declared.asked.Words.TheVariants.{Bad, Help, Version, Memory}
 use Rattle.microloan_words.specs.declared.asked.Command.{Command}
 use Rattle.microloan_words.specs.declared.asked.Command.TheVariants.{Batch, Serve, Collect, Report, Schedule, Why}
-use Rattle.microloan_words.specs.declared.asked.Command.TheVariants.{Audit, Upgrade}
+use Rattle.microloan_words.specs.declared.asked.Command.TheVariants.{Audit, Upgrade, Archive, Ledger}
 
 -- the option's text is this number in decimal digits, and the number lies in its limits
 pub record IsNumberAt (rows : List Row) (id : Text) (least greatest number : ℕ) : Type 0 where
@@ -133,6 +137,44 @@ pub record AreUpgradeWords (rows : List Row) (asked : UpgradeWords) : Type 0 whe
   pub existing : first_of (codes "existing") rows ≡ Some (flag_text asked.existing)
   pub journal : first_of (codes "journal") rows ≡ Some (flag_text asked.journal)
 
+-- the options of `archive`
+pub record AreArchiveWords (rows : List Row) (asked : ArchiveWords) : Type 0 where
+  pub file : first_of (codes "file") rows ≡ Some asked.file
+  pub existing : first_of (codes "existing") rows ≡ Some (flag_text asked.existing)
+  pub to : IsDayAt rows (codes "to") asked.to
+  pub into : first_of (codes "into") rows ≡ Some asked.into
+
+-- the options' texts are those of these days, of which the first isn't after the last
+pub record IsSpanAt (rows : List Row) (first last : ℕ) : Type 0 where
+  pub from : IsDayAt rows (codes "from") first
+  pub to : IsDayAt rows (codes "to") last
+  pub in_order : first ≤ last
+
+-- whether the flag of a sheet is given
+abbrev pub is_csv : LedgerForm → Bool
+is_csv Hledger = false
+is_csv Beancount = false
+is_csv Sheet = true
+
+-- whether the flag of beancount is
+abbrev pub is_beancount : LedgerForm → Bool
+is_beancount Hledger = false
+is_beancount Beancount = true
+is_beancount Sheet = false
+
+-- the flags of the form
+pub record IsFormAt (rows : List Row) (form : LedgerForm) : Type 0 where
+  pub csv : first_of (codes "csv") rows ≡ Some (flag_text (is_csv form))
+  pub beancount : first_of (codes "beancount") rows ≡ Some (flag_text (is_beancount form))
+
+-- the options of `ledger`
+pub record AreLedgerWords (rows : List Row) (asked : LedgerWords) : Type 0 where
+  pub file : first_of (codes "file") rows ≡ Some asked.file
+  pub existing : first_of (codes "existing") rows ≡ Some (flag_text asked.existing)
+  pub span : IsSpanAt rows asked.first asked.last
+  pub form : IsFormAt rows asked.form
+  pub names : first_of (codes "names") rows ≡ asked.names
+
 -- the options of `schedule`
 pub record AreScheduleWords (rows : List Row) (asked : ScheduleWords) : Type 0 where
   pub method : first_of (codes "method") rows ≡ Some (method_name asked.method)
@@ -174,6 +216,8 @@ HasLimits (Schedule asked) = IsWithinLimits asked
 HasLimits (Why asked) = Unit {0}
 HasLimits (Audit asked) = Unit {0}
 HasLimits (Upgrade asked) = Unit {0}
+HasLimits (Archive asked) = asked.to ≤ last_entered_day
+HasLimits (Ledger asked) = asked.first ≤ asked.last
 
 -- the name of a command
 abbrev pub name_of : Command → Text
@@ -185,6 +229,8 @@ name_of (Schedule asked) = codes "schedule"
 name_of (Why asked) = codes "why"
 name_of (Audit asked) = codes "audit"
 name_of (Upgrade asked) = codes "upgrade"
+name_of (Archive asked) = codes "archive"
+name_of (Ledger asked) = codes "ledger"
 
 -- the options are those of the command
 abbrev pub AreWords : List Row → Command → Type 0
@@ -196,6 +242,8 @@ AreWords rows (Schedule asked) = AreScheduleWords rows asked
 AreWords rows (Why asked) = AreFileWords rows asked
 AreWords rows (Audit asked) = AreAuditWords rows asked
 AreWords rows (Upgrade asked) = AreUpgradeWords rows asked
+AreWords rows (Archive asked) = AreArchiveWords rows asked
+AreWords rows (Ledger asked) = AreLedgerWords rows asked
 
 -- what a command and its options ask for, where `clap` found them
 abbrev pub IsAskedIn : Option (Text × List Row) → Command → Type 0

@@ -99,6 +99,27 @@ upgrade_app = app_with (codes "upgrade") (
     ∷ flag_rule (codes "journal")
     ∷ [])
 
+-- `archive` with its options
+abbrev pub archive_app : App
+archive_app = app_with (codes "archive") (
+    required_rule (codes "file")
+    ∷ flag_rule (codes "existing")
+    ∷ required_rule (codes "to")
+    ∷ required_rule (codes "into")
+    ∷ [])
+
+-- `ledger` with its options
+abbrev pub ledger_app : App
+ledger_app = app_with (codes "ledger") (
+    required_rule (codes "file")
+    ∷ flag_rule (codes "existing")
+    ∷ required_rule (codes "from")
+    ∷ required_rule (codes "to")
+    ∷ flag_rule (codes "csv")
+    ∷ flag_rule (codes "beancount")
+    ∷ option_rule (codes "names")
+    ∷ [])
+
 -- `schedule` with its options
 abbrev pub schedule_app : App
 schedule_app = app_with (codes "schedule") (
@@ -129,5 +150,6 @@ desk_app = with_subcommand (with_subcommand (with_subcommand (with_subcommand ba
 
 -- the program with its commands
 abbrev pub microloan_app : App
-microloan_app = with_subcommand (with_subcommand (with_subcommand (with_subcommand desk_app schedule_app.top)
-    (file_app (codes "why")).top) audit_app.top) upgrade_app.top
+microloan_app = with_subcommand (with_subcommand (with_subcommand (with_subcommand (with_subcommand (with_subcommand
+    desk_app schedule_app.top) (file_app (codes "why")).top) audit_app.top) upgrade_app.top) archive_app.top)
+    ledger_app.top

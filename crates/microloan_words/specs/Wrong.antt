@@ -8,13 +8,15 @@ use Rattle.mf_catalog.specs.Names.{method_name}
 use Rattle.mf_catalog.specs.declared.terms.Method.{Method}
 use Rattle.mf_office.specs.declared.caller.Caller.{Caller}
 use Rattle.microloan_words.specs.Asked.{IsNumberAt, IsDayAt, IsCallerAt, IsCountAt, IsToldAt, flag_text}
-use Rattle.microloan_words.specs.Asked.{most_patience}
+use Rattle.microloan_words.specs.Asked.{most_patience, IsSpanAt, IsFormAt}
+use Rattle.microloan_words.specs.declared.asked.LedgerForm.{LedgerForm}
 use Rattle.microloan_words.specs.declared.reading.Wrong.{Wrong}
 use Rattle.microloan_words.specs.declared.reading.Wrong.TheVariants.{File, Existing, Journal, All, Port, Count}
 use Rattle.microloan_words.specs.declared.reading.Wrong.TheVariants.{Patience, Staff, Method as MethodOption, Principal}
 use Rattle.microloan_words.specs.declared.reading.Wrong.TheVariants.{Rate, Periods, Day, Frequency, Every}
 use Rattle.microloan_words.specs.declared.reading.Wrong.TheVariants.{PrincipalGrace, InterestGrace, Told, ToldOfLines}
-use Rattle.microloan_words.specs.declared.reading.Wrong.TheVariants.{Lists}
+use Rattle.microloan_words.specs.declared.reading.Wrong.TheVariants.{Lists, Into}
+use Rattle.microloan_words.specs.declared.reading.Wrong.TheVariants.{From, To, Span, Csv, Beancount, Form}
 
 -- a flag is given or not
 abbrev pub IsFlag : List Row → Text → Type 0
@@ -37,6 +39,12 @@ IsRight rows Told = IsFlag rows (codes "told")
 IsRight rows ToldOfLines = IsToldWell rows
 IsRight rows Lists = IsFlag rows (codes "lists")
 IsRight rows All = IsFlag rows (codes "all")
+IsRight rows From = (day : ℕ) × IsDayAt rows (codes "from") day
+IsRight rows To = (day : ℕ) × IsDayAt rows (codes "to") day
+IsRight rows Span = (first : ℕ) × (last : ℕ) × IsSpanAt rows first last
+IsRight rows Csv = IsFlag rows (codes "csv")
+IsRight rows Beancount = IsFlag rows (codes "beancount")
+IsRight rows Form = (form : LedgerForm) × IsFormAt rows form
 IsRight rows Port = IsSomeNumber rows (codes "port") 1 65535
 IsRight rows Count = (count : ℕ) × IsCountAt rows (codes "count") count
 IsRight rows Patience = IsSomeNumber rows (codes "patience") 1 most_patience
@@ -51,6 +59,7 @@ IsRight rows Every = (frequency : Freq) × (first_of (codes "frequency") rows �
     × IsSomeNumber rows (codes "every") 1 (longest_step frequency)
 IsRight rows PrincipalGrace = IsSomeNumber rows (codes "principal-grace") 0 most_grace
 IsRight rows InterestGrace = IsSomeNumber rows (codes "interest-grace") 0 most_grace
+IsRight rows Into = (path : Text) × (first_of (codes "into") rows ≡ Some path)
 
 -- the first of these options that isn't as it should be
 abbrev pub IsFirstWrong : List Row → List Wrong → Wrong → Type 0
@@ -81,6 +90,22 @@ audit_options = File ∷ All ∷ []
 -- of `upgrade`
 abbrev pub upgrade_options : List Wrong
 upgrade_options = File ∷ Existing ∷ Journal ∷ []
+
+-- of `archive`
+abbrev pub archive_options : List Wrong
+archive_options = File ∷ Existing ∷ To ∷ Into ∷ []
+
+-- of the span of `ledger`
+abbrev pub span_options : List Wrong
+span_options = From ∷ To ∷ Span ∷ []
+
+-- of its form
+abbrev pub form_options : List Wrong
+form_options = Csv ∷ Beancount ∷ Form ∷ []
+
+-- of `ledger`
+abbrev pub ledger_options : List Wrong
+ledger_options = File ∷ Existing ∷ From ∷ To ∷ Span ∷ Csv ∷ Beancount ∷ Form ∷ []
 
 -- of `schedule`
 abbrev pub schedule_options : List Wrong

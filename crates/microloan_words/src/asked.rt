@@ -25,6 +25,10 @@ pub enum Command<'a> {
     Audit(AuditWords<'a>),
     /// Bring the file of an institution to today's schema, and begin a journal.
     Upgrade(UpgradeWords<'a>),
+    /// Move lines of a journal to a file of their own.
+    Archive(ArchiveWords<'a>),
+    /// Write the books of an institution that keeps a journal.
+    Ledger(LedgerWords<'a>),
 }
 
 /// The path of a file, as it stands in the words. Contracts see its bytes.
@@ -183,6 +187,46 @@ pub struct UpgradeWords<'a> {
     pub existing: bool,
     /// Whether a journal is begun, where the institution keeps none.
     pub journal: bool,
+}
+
+/// The options of `archive`.
+#[derive(Drop)]
+pub struct ArchiveWords<'a> {
+    /// The file that holds the institution.
+    pub file: FilePath<'a>,
+    /// Whether `--existing` is given. A file without an institution is refused either way.
+    pub existing: bool,
+    /// The last business day whose lines are moved.
+    pub to: Day,
+    /// The file of the archive, which is to be made.
+    pub into: FilePath<'a>,
+}
+
+/// What reads the books.
+#[derive(Clone, Copy, PartialEq, Eq)]
+pub enum LedgerForm {
+    /// hledger or ledger, as a journal.
+    Hledger,
+    /// beancount, as a journal.
+    Beancount,
+    /// A spreadsheet, as comma-separated values.
+    Sheet,
+}
+
+/// The options of `ledger`.
+#[derive(Drop)]
+pub struct LedgerWords<'a> {
+    /// The file that holds the institution.
+    pub file: FilePath<'a>,
+    /// Whether `--existing` is given. A file without an institution is refused either way.
+    pub existing: bool,
+    /// The first business day whose transactions are written.
+    pub first: Day,
+    /// The last one, which isn't before it.
+    pub last: Day,
+    pub form: LedgerForm,
+    /// The file with the names of accounts, where one is named.
+    pub names: Option<FilePath<'a>>,
 }
 
 /// The options of `schedule`.

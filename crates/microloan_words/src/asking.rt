@@ -11,8 +11,8 @@ ghost use Rattle.microloan_words.specs.declared.asked.Command.{Command};
 use crate::asked::{Command, Words};
 use crate::options::microloan_command;
 use crate::reading::{
-    audit_words, batch_words, collect_words, file_words, schedule_words, serve_words, staff_words,
-    upgrade_words,
+    archive_words, audit_words, batch_words, collect_words, file_words, ledger_words,
+    schedule_words, serve_words, staff_words, upgrade_words,
 };
 use crate::refusal::{no_command, refused_by_clap, wrong_option};
 use clap::error::ErrorKind;
@@ -112,6 +112,24 @@ fn upgrade_asked<'a>(alloc: Global, options: &ArgMatches<'a>) -> Result<Command<
     }
 }
 
+fn archive_asked<'a>(alloc: Global, options: &ArgMatches<'a>) -> Result<Command<'a>, Words>
+    ensures { Reads (Some (codes "archive", rows_of (found_of options.now))) result }
+{
+    match archive_words(options) {
+        Ok(asked) => Ok(Command::Archive(asked)),
+        Err(wrong) => Err(wrong_option(alloc, "archive", wrong)),
+    }
+}
+
+fn ledger_asked<'a>(alloc: Global, options: &ArgMatches<'a>) -> Result<Command<'a>, Words>
+    ensures { Reads (Some (codes "ledger", rows_of (found_of options.now))) result }
+{
+    match ledger_words(options) {
+        Ok(asked) => Ok(Command::Ledger(asked)),
+        Err(wrong) => Err(wrong_option(alloc, "ledger", wrong)),
+    }
+}
+
 /// What the command asks for that `clap` found.
 fn command_asked<'a>(alloc: Global, matches: &ArgMatches<'a>) -> Result<Command<'a>, Words>
     ensures { Reads (subcommand_rows_of matches.now) result }
@@ -137,8 +155,14 @@ fn command_asked<'a>(alloc: Global, matches: &ArgMatches<'a>) -> Result<Command<
     if let Some(options) = options_of(matches, "audit") {
         return audit_asked(alloc, options);
     }
-    match options_of(matches, "upgrade") {
-        Some(options) => upgrade_asked(alloc, options),
+    if let Some(options) = options_of(matches, "upgrade") {
+        return upgrade_asked(alloc, options);
+    }
+    if let Some(options) = options_of(matches, "archive") {
+        return archive_asked(alloc, options);
+    }
+    match options_of(matches, "ledger") {
+        Some(options) => ledger_asked(alloc, options),
         None => Err(no_command(alloc)),
     }
 }

@@ -5,14 +5,14 @@ ghost use Rattle.clap.specs.Words.{App, app_of, rule_of, new_app, with_subcomman
 ghost use Rattle.clap.specs.declared.Command.TheViews.{out-Command as fields_of};
 ghost use Rattle.microloan_words.specs.Options.{rule_for, with_declared, batch_app, serve_app, collect_app, report_app};
 ghost use Rattle.microloan_words.specs.Options.{schedule_app, file_app, audit_app, upgrade_app, bare_app, desk_app};
-ghost use Rattle.microloan_words.specs.Options.{microloan_app};
+ghost use Rattle.microloan_words.specs.Options.{archive_app, ledger_app, microloan_app};
 
 use crate::values::DEFAULT_DAY;
 use clap::{Arg, ArgAction, Command};
 use std::alloc::{AllocError, Global};
 
 /// This release, and the schema of the files that it writes.
-const VERSION: &str = "1.6.0 (schema 2)";
+const VERSION: &str = "1.7.0 (schema 2)";
 
 /// Whether an option must be given, has a text that stands where it isn't, or is a flag.
 pub(crate) enum Need {
@@ -166,6 +166,60 @@ const UPGRADE_OPTIONS: [CommandOption; 3] = [
         value_name: "",
         help: "Begin a journal, where the institution keeps none",
         need: Need::Flag,
+    },
+];
+
+/// The options of `archive`.
+const ARCHIVE_OPTIONS: [CommandOption; 4] = [
+    FILE,
+    EXISTING,
+    CommandOption {
+        id: "to",
+        value_name: "DAY",
+        help: "The last business day whose lines are moved",
+        need: Need::Required,
+    },
+    CommandOption {
+        id: "into",
+        value_name: "PATH",
+        help: "The archive, a file that isn't there",
+        need: Need::Required,
+    },
+];
+
+/// The options of `ledger`.
+const LEDGER_OPTIONS: [CommandOption; 7] = [
+    FILE,
+    EXISTING,
+    CommandOption {
+        id: "from",
+        value_name: "DAY",
+        help: "The first business day that is written",
+        need: Need::Required,
+    },
+    CommandOption {
+        id: "to",
+        value_name: "DAY",
+        help: "The last business day that is written",
+        need: Need::Required,
+    },
+    CommandOption {
+        id: "csv",
+        value_name: "",
+        help: "Comma-separated values, for spreadsheets",
+        need: Need::Flag,
+    },
+    CommandOption {
+        id: "beancount",
+        value_name: "",
+        help: "A journal of beancount",
+        need: Need::Flag,
+    },
+    CommandOption {
+        id: "names",
+        value_name: "PATH",
+        help: "A file with the names of accounts; see below",
+        need: Need::Optional,
     },
 ];
 
@@ -417,7 +471,9 @@ fn audit_command<'a>(alloc: Global) -> Result<Command<'a>, AllocError>
         "Where the file holds a sound institution, standard output has its clients,\n\
          loans, entries and balances, by office and in all, and the word sound: the\n\
          status is 0. Where it doesn't, a line says which row breaks which condition: the\n\
-         status is 1. Nothing is changed. Audit a copy: the file is held meanwhile.\n\n\
+         status is 1. A journal is played, too: its lines are answered again in memory,\n\
+         and a line says which row they don't give, or which of them doesn't play.\n\
+         Nothing is changed. Audit a copy: the file is held meanwhile.\n\n\
          Example:\n  microloan audit --file copy.db",
     );
     with_options(alloc, command, AUDIT_OPTIONS.as_slice())
@@ -438,6 +494,44 @@ fn upgrade_command<'a>(alloc: Global) -> Result<Command<'a>, AllocError>
          Example:\n  microloan upgrade --file desk.db --journal",
     );
     with_options(alloc, command, UPGRADE_OPTIONS.as_slice())
+}
+
+/// The command `archive`.
+fn archive_command<'a>(alloc: Global) -> Result<Command<'a>, AllocError>
+    ensures app { IfOk result (λ c. app_of c ≡ archive_app) }
+    ensures local { IfOk result (λ c. (fields_of c).has_globals ≡ false) }
+{
+    let command = command_with_help(
+        alloc,
+        "archive",
+        "Move lines of closed days to an archive",
+        "The journal's lines of business days up to and with DAY move to a new file, whole,\n\
+         and then leave the institution's. DAY is before the business day. The line on\n\
+         standard output has the numbers of the lines and the chain after the last: note\n\
+         it elsewhere, and keep the archive.\n\n\
+         Example:\n  microloan archive --existing --file desk.db --to 2024-12-31 --into 2024.db",
+    );
+    with_options(alloc, command, ARCHIVE_OPTIONS.as_slice())
+}
+
+/// The command `ledger`.
+fn ledger_command<'a>(alloc: Global) -> Result<Command<'a>, AllocError>
+    ensures app { IfOk result (λ c. app_of c ≡ ledger_app) }
+    ensures local { IfOk result (λ c. (fields_of c).has_globals ≡ false) }
+{
+    let command = command_with_help(
+        alloc,
+        "ledger",
+        "Write the books of a span of days",
+        "Standard output is a journal of hledger: what each change moved on cash,\n\
+         principal, income and the other accounts, dated with the business day on which\n\
+         it was accepted. It is read off the institution's journal, and a day that is\n\
+         closed never moves. docs/books.md tells the accounts.\n\n\
+         A line of the file of names gives an account its name in your chart:\n  \
+         assets:cash=1010 Cash\n\n\
+         Example:\n  microloan ledger --file desk.db --from 2024-01-01 --to 2024-01-31",
+    );
+    with_options(alloc, command, LEDGER_OPTIONS.as_slice())
 }
 
 /// The program with one more command. That may have failed to be made, so that it is this call alone that drops a
@@ -492,5 +586,7 @@ pub(crate) fn microloan_command<'a>(alloc: Global) -> Result<Command<'a>, AllocE
     let program = with_command(desk_program(alloc)?, schedule_command(alloc))?;
     let program = with_command(program, why_command(alloc))?;
     let program = with_command(program, audit_command(alloc))?;
-    with_command(program, upgrade_command(alloc))
+    let program = with_command(program, upgrade_command(alloc))?;
+    let program = with_command(program, archive_command(alloc))?;
+    with_command(program, ledger_command(alloc))
 }

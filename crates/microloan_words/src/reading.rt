@@ -1,6 +1,6 @@
 //! A command's options read from what clap found.
 
-ghost use Rattle.std.specs.Prelude.{◌≡◌, ◌≤◌, IfOk, IfErr, Option, Ok};
+ghost use Rattle.std.specs.Prelude.{◌≡◌, ◌≤◌, ℕ, IfOk, IfErr, Option, Ok};
 ghost use Rattle.clap.specs.Words.{Text, found_of, rows_of};
 ghost use Rattle.mf_base.specs.DayText.{last_entered_day};
 ghost use Rattle.microloan_words.specs.Asked.{AreBatchWords, AreServeWords, AreCollectWords, AreStaffWords};
@@ -8,7 +8,9 @@ ghost use Rattle.microloan_words.specs.Asked.{AreFileWords, AreAuditWords, AreSc
 ghost use Rattle.microloan_words.specs.Asked.{IsServeWithinLimits, AreUpgradeWords, IsToldAt};
 ghost use Rattle.microloan_words.specs.Wrong.{IsFirstWrong, IsBatchWrong, IsCollectWrong, IsRight, serve_options};
 ghost use Rattle.microloan_words.specs.Wrong.{staff_options, file_options, audit_options, schedule_options};
-ghost use Rattle.microloan_words.specs.Wrong.{upgrade_options};
+ghost use Rattle.microloan_words.specs.Wrong.{upgrade_options, archive_options, ledger_options, span_options};
+ghost use Rattle.microloan_words.specs.Wrong.{form_options};
+ghost use Rattle.microloan_words.specs.Asked.{AreArchiveWords, AreLedgerWords, IsSpanAt, IsFormAt};
 ghost use Rattle.mf_office.specs.Texts.{IsCaller};
 ghost use Rattle.microloan_words.specs.declared.asked.BatchWords.{BatchWords};
 ghost use Rattle.microloan_words.specs.declared.asked.ServeWords.{ServeWords};
@@ -17,17 +19,21 @@ ghost use Rattle.microloan_words.specs.declared.asked.StaffWords.{StaffWords};
 ghost use Rattle.microloan_words.specs.declared.asked.FileWords.{FileWords};
 ghost use Rattle.microloan_words.specs.declared.asked.AuditWords.{AuditWords};
 ghost use Rattle.microloan_words.specs.declared.asked.UpgradeWords.{UpgradeWords};
+ghost use Rattle.microloan_words.specs.declared.asked.ArchiveWords.{ArchiveWords};
+ghost use Rattle.microloan_words.specs.declared.asked.LedgerForm.{LedgerForm};
+ghost use Rattle.microloan_words.specs.declared.asked.LedgerWords.{LedgerWords};
 ghost use Rattle.microloan_words.specs.declared.asked.ScheduleWords.{ScheduleWords};
 
 use crate::asked::{
-    AuditWords, BatchWords, CollectWords, FileWords, ScheduleWords, ServeWords, StaffWords,
-    ToldText, UpgradeWords,
+    ArchiveWords, AuditWords, BatchWords, CollectWords, FileWords, LedgerForm, LedgerWords,
+    ScheduleWords, ServeWords, StaffWords, ToldText, UpgradeWords,
 };
 use crate::values::{
     MOST_PATIENCE, connections_at, count_at, day_at, file_at, flag_at, frequency_at, method_at,
-    number_at, port_at, staff_at, text_at,
+    number_at, path_at, port_at, staff_at, text_at,
 };
 use clap::ArgMatches;
+use mf_base::Day;
 use mf_catalog::{GREATEST_AMOUNT, GREATEST_RATE, MOST_GRACE, MOST_PERIODS, longest_step};
 use mf_wire_lines::may_be_told;
 
@@ -41,6 +47,14 @@ pub(crate) enum Wrong {
     ToldOfLines,
     Lists,
     All,
+    From,
+    To,
+    /// The first day of a span is after the last.
+    Span,
+    Csv,
+    Beancount,
+    /// Two forms are named.
+    Form,
     Port,
     Count,
     Patience,
@@ -54,6 +68,7 @@ pub(crate) enum Wrong {
     Every,
     PrincipalGrace,
     InterestGrace,
+    Into,
 }
 
 /// The options of `batch`, or the first that isn't what it should be.
@@ -221,6 +236,86 @@ pub(crate) fn upgrade_words<'a>(options: &ArgMatches<'a>) -> Result<UpgradeWords
         file,
         existing,
         journal,
+    })
+}
+
+/// The options of `archive`, or the first that isn't what it should be.
+pub(crate) fn archive_words<'a>(options: &ArgMatches<'a>) -> Result<ArchiveWords<'a>, Wrong>
+    ensures read { IfOk result (λ asked. AreArchiveWords (rows_of (found_of options.now)) asked) }
+    ensures limits { IfOk result (λ asked. asked.to ≤ last_entered_day) }
+    ensures every { (asked : ArchiveWords) → AreArchiveWords (rows_of (found_of options.now)) asked
+        → result ≡ Ok asked }
+    ensures wrong { IfErr result (IsFirstWrong (rows_of (found_of options.now)) archive_options) }
+{
+    let file = file_at(options).ok_or(Wrong::File)?;
+    let existing = flag_at(options, "existing").ok_or(Wrong::Existing)?;
+    let to = day_at(options, "to").ok_or(Wrong::To)?;
+    let into = path_at(options, "into").ok_or(Wrong::Into)?;
+    Ok(ArchiveWords {
+        file,
+        existing,
+        to,
+        into,
+    })
+}
+
+/// The span of days that is asked for, or the first option that isn't what it should be.
+fn span_at(options: &ArgMatches<'_>) -> Result<(Day, Day), Wrong>
+    ensures read { IfOk result (λ span. IsSpanAt (rows_of (found_of options.now)) span.0 span.1) }
+    ensures every { (first last : ℕ) → IsSpanAt (rows_of (found_of options.now)) first last
+        → result ≡ Ok (first, last) }
+    ensures wrong { IfErr result (IsFirstWrong (rows_of (found_of options.now)) span_options) }
+{
+    let first = day_at(options, "from").ok_or(Wrong::From)?;
+    let last = day_at(options, "to").ok_or(Wrong::To)?;
+    if first > last {
+        return Err(Wrong::Span);
+    }
+    Ok((first, last))
+}
+
+/// What is to read the books, or the first option that isn't what it should be.
+fn form_at(options: &ArgMatches<'_>) -> Result<LedgerForm, Wrong>
+    ensures read { IfOk result (λ form. IsFormAt (rows_of (found_of options.now)) form) }
+    ensures every { (form : LedgerForm) → IsFormAt (rows_of (found_of options.now)) form → result ≡ Ok form }
+    ensures wrong { IfErr result (IsFirstWrong (rows_of (found_of options.now)) form_options) }
+{
+    let csv = flag_at(options, "csv").ok_or(Wrong::Csv)?;
+    let beancount = flag_at(options, "beancount").ok_or(Wrong::Beancount)?;
+    match (csv, beancount) {
+        (false, false) => Ok(LedgerForm::Hledger),
+        (false, true) => Ok(LedgerForm::Beancount),
+        (true, false) => Ok(LedgerForm::Sheet),
+        (true, true) => Err(Wrong::Form),
+    }
+}
+
+/// The options of `ledger`, or the first that isn't what it should be.
+pub(crate) fn ledger_words<'a>(options: &ArgMatches<'a>) -> Result<LedgerWords<'a>, Wrong>
+    ensures read { IfOk result (λ asked. AreLedgerWords (rows_of (found_of options.now)) asked) }
+    ensures limits { IfOk result (λ asked. asked.first ≤ asked.last) }
+    ensures every { (asked : LedgerWords) → AreLedgerWords (rows_of (found_of options.now)) asked
+        → result ≡ Ok asked }
+    ensures wrong { IfErr result (IsFirstWrong (rows_of (found_of options.now)) ledger_options) }
+{
+    let file = file_at(options).ok_or(Wrong::File)?;
+    let existing = flag_at(options, "existing").ok_or(Wrong::Existing)?;
+    let (first, last) = match span_at(options) {
+        Ok(span) => span,
+        Err(wrong) => return Err(wrong),
+    };
+    let form = match form_at(options) {
+        Ok(form) => form,
+        Err(wrong) => return Err(wrong),
+    };
+    let names = path_at(options, "names");
+    Ok(LedgerWords {
+        file,
+        existing,
+        first,
+        last,
+        form,
+        names,
     })
 }
 

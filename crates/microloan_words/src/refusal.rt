@@ -31,11 +31,18 @@ fn wants(wrong: Wrong) -> &'static str {
         Wrong::Principal => "--principal wants whole cents from 1 to 1000000000000",
         Wrong::Rate => "--rate wants hundredths of a percent from 0 to 100000",
         Wrong::Periods => "--periods wants a number from 1 to 360",
+        Wrong::From => "--from wants a day from 2000-01-01 to 2099-12-31, as 2024-01-01",
+        Wrong::To => "--to wants a day from 2000-01-01 to 2099-12-31, as 2024-01-31",
+        Wrong::Span => "--from wants a day that isn't after that of --to",
+        Wrong::Csv => "--csv has no value",
+        Wrong::Beancount => "--beancount has no value",
+        Wrong::Form => "--csv and --beancount are two forms; name one of them",
         Wrong::Day => "--day wants a day from 2000-01-01 to 2099-12-31, as 2024-01-31",
         Wrong::Frequency => "--frequency wants weeks or months",
         Wrong::Every => "--every wants 1 to 52 weeks or 1 to 12 months",
         Wrong::PrincipalGrace => "--principal-grace wants a number from 0 to 359",
         Wrong::InterestGrace => "--interest-grace wants a number from 0 to 359",
+        Wrong::Into => "--into wants the path of a file that isn't there",
     }
 }
 
@@ -114,8 +121,8 @@ fn owed_text(
     match owed {
         Owed::Help | Owed::Version => format!(in alloc; "{error}"),
         Owed::NoCommand => format!(in alloc;
-            "microloan: name a command: batch, serve, collect, report, schedule, why, audit or upgrade; \
-             see 'microloan --help'"
+            "microloan: name a command: batch, serve, collect, report, schedule, why, audit, upgrade, archive \
+             or ledger; see 'microloan --help'"
         ),
         Owed::Wrong => one_line(alloc, words, error),
     }
@@ -153,6 +160,8 @@ fn help_on(words: &[String]) -> &'static str {
         "why" => "microloan why --help",
         "audit" => "microloan audit --help",
         "upgrade" => "microloan upgrade --help",
+        "archive" => "microloan archive --help",
+        "ledger" => "microloan ledger --help",
         _ => "microloan --help",
     }
 }

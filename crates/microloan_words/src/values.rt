@@ -113,14 +113,21 @@ pub(crate) fn day_at(options: &ArgMatches<'_>, id: &str) -> Option<Day>
     Day::parse(text_at(options, id)?.as_bytes())
 }
 
+/// The path that an option names, if it is given.
+pub(crate) fn path_at<'a>(options: &ArgMatches<'a>, id: &str) -> Option<FilePath<'a>>
+    ensures { result ≡ first_of id.now (rows_of (found_of options.now)) }
+{
+    match text_at(options, id) {
+        Some(text) => Some(FilePath::new(text)),
+        None => None,
+    }
+}
+
 /// The path of the file that is named, if one is.
 pub(crate) fn file_at<'a>(options: &ArgMatches<'a>) -> Option<FilePath<'a>>
     ensures { result ≡ first_of (codes "file") (rows_of (found_of options.now)) }
 {
-    match text_at(options, "file") {
-        Some(text) => Some(FilePath::new(text)),
-        None => None,
-    }
+    path_at(options, "file")
 }
 
 /// The port that is asked for.

@@ -26,6 +26,22 @@ export class Problem extends Error {
     }
 }
 
+const libraries = new Map();
+
+// Loads a library of Debian's packages once the first page needs it.
+export function loadLibrary(src) {
+    if (!libraries.has(src)) {
+        libraries.set(src, new Promise((onload, refuse) => {
+            const onerror = () => {
+                libraries.delete(src);
+                refuse(new Problem({}));
+            };
+            document.head.append(Object.assign(document.createElement("script"), {src, onload, onerror}));
+        }));
+    }
+    return libraries.get(src);
+}
+
 let running = 0;
 let waiting = [];  // writings before readings
 

@@ -6,15 +6,17 @@ import {refusalBox, refusalLine} from "./refusals.js";
 import {readAll} from "./forms.js";
 import {say} from "./words.js";
 
-function dialogNode({title, id, form}) {
+// Not a `<dialog>`: a phone's Back would close it also while something is sent, and it would lie over the notes.
+function dialogNode({title, form}) {
+    const id = freshId("dialog");
     const heading = element("h1", {class: "modal-title fs-5", id}, title);
-    const close =
-        element("button", {type: "button", class: "btn-close", "data-bs-dismiss": "modal", "aria-label": say("close")});
+    const away = button("", giveUp, {class: "btn-close", "aria-label": say("close")});
     const content =
-        element("div", {class: "modal-content"}, element("div", {class: "modal-header"}, heading, close), form);
+        element("div", {class: "modal-content"}, element("div", {class: "modal-header"}, heading, away), form);
     const inner = element(
         "div", {class: "modal-dialog modal-dialog-centered modal-dialog-scrollable modal-fullscreen-sm-down"}, content);
-    return element("div", {class: "modal fade", tabindex: "-1", "aria-labelledby": id, "aria-modal": "true"}, inner);
+    const attributes = {role: "dialog", tabindex: "-1", "aria-labelledby": id, "aria-modal": "true"};
+    return element("div", {class: "modal show", ...attributes}, inner);
 }
 
 function busyText(isBusy, words) {
@@ -25,8 +27,7 @@ function busyText(isBusy, words) {
 function dialogParts({text, fields, action, isGrave}) {
     const trouble = element("div", {"aria-live": "assertive"});
     const submit = element("button", {type: "submit", class: `btn ${isGrave ? "btn-danger" : "btn-primary"}`}, action);
-    const cancel = element(
-        "button", {type: "button", class: "btn btn-outline-secondary", "data-bs-dismiss": "modal"}, say("cancel"));
+    const cancel = button(say("cancel"), giveUp, {class: "btn btn-outline-secondary"});
     const words = [text].flat().filter(Boolean);
     const body = element(
         "div", {class: "modal-body"}, words.map((part) => element("div", {class: "mb-3"}, part)),
@@ -37,7 +38,9 @@ function dialogParts({text, fields, action, isGrave}) {
     return {trouble, submit, cancel, form};
 }
 
-let shown = null;  // the dialog that is open
+const NOTE_TIME = 6000;                        // milliseconds that a note is there
+const desk = document.getElementById("desk");  // the whole page, which can't be reached while a dialog is open
+let shown = null;                              // the dialog that is open
 
 // Asks before something is done. text: what it does, in words. fields: by name. send: is handed their values, and
 // carries it out. check: is handed them first, and answers null, or { doubts, action } where it is to be asked once
@@ -45,29 +48,34 @@ let shown = null;  // the dialog that is open
 // shown in the dialog, which stays open. It can't be closed while something is sent.
 export async function ask({title, text = [], fields = {}, action, isGrave = false, check = async () => null, send}) {
     const parts = dialogParts({text, fields, action, isGrave});
-    const node = dialogNode({title, id: freshId("dialog"), form: parts.form});
+    const node = dialogNode({title, form: parts.form});
     const asker = document.activeElement;
-    document.body.append(node);
     const dialog = {node, title, fields, action, isGrave, check, send, ...parts, place: location.hash, result: null};
-    dialog.modal = new bootstrap.Modal(node, {backdrop: "static"});
     listen(dialog);
     history.pushState({isDialog: true}, "");
     shown = dialog;
-    dialog.modal.show();
-    await new Promise((end) => (dialog.end = end));
+    await new Promise((end) => open(Object.assign(dialog, {end})));
     if (shown === dialog) {  // not closed by Back, and the page is still there
         shown = null;
         await stepBack();
     }
-    dialog.modal.dispose();
     node.remove();
+    desk.inert = false;
+    desk.style.paddingInlineEnd = "";
     asker?.focus({preventScroll: true});
     return dialog.isGone ? null : dialog.result;
 }
 
+// The page keeps its width though its scroll bar is gone meanwhile.
+function open({node, form, isGrave, cancel, submit}) {
+    desk.style.paddingInlineEnd = `${window.innerWidth - document.documentElement.clientWidth}px`;
+    desk.inert = true;
+    document.body.append(node);
+    (form.querySelector("input, select") ?? (isGrave ? cancel : submit)).focus();
+}
+
 function listen(dialog) {
-    const {node, form, fields} = dialog;
-    const first = form.querySelector("input, select") ?? (dialog.isGrave ? dialog.cancel : dialog.submit);
+    const {form, fields} = dialog;
     form.addEventListener("submit", (event) => {
         event.preventDefault();
         const values = dialog.isBusy || dialog.isClosed ? null : readAll(fields);
@@ -76,24 +84,18 @@ function listen(dialog) {
         }
     });
     form.addEventListener("input", () => dialog.isBusy || fill(dialog.trouble));
-    node.addEventListener("keydown", (event) => keepInside(event, node));
-    node.addEventListener("shown.bs.modal", () => first.focus());
-    node.addEventListener("hide.bs.modal", (event) => {
-        dialog.isClosed = !dialog.isBusy;
-        if (dialog.isBusy) {
-            event.preventDefault();
-        }
-    });
-    node.addEventListener("hidden.bs.modal", () => dialog.end());
 }
 
-// Bootstrap closes no dialog that is still opening: such a one is closed once it is open.
 function close(dialog) {
-    dialog.modal.hide();
-    if (!dialog.isClosed) {
-        dialog.node.addEventListener("shown.bs.modal", () => dialog.modal.hide(), {once: true});
-    }
     dialog.isClosed = true;
+    dialog.end();
+}
+
+// what Cancel, the cross and the key Escape do
+function giveUp() {
+    if (shown !== null && !shown.isBusy) {
+        close(shown);
+    }
 }
 
 // goes back over the entry in the browser's history that the dialog was opened with
@@ -133,16 +135,25 @@ export function leaveDialog() {
 
 export function followHistory() {
     window.addEventListener("popstate", whenBack);
+    window.addEventListener("keydown", whenKey);
     if (history.state?.isDialog) {  // the page was loaded anew while a dialog was open
         history.back();
     }
 }
 
+function whenKey(event) {
+    if (event.key === "Escape") {
+        giveUp();
+    } else if (event.key === "Tab" && shown !== null) {
+        keepInside(event);
+    }
+}
+
 // The key Tab goes round within the dialog.
-function keepInside(event, node) {
-    const inside = [...node.querySelectorAll("button, input, select")].filter((one) => !one.disabled);
+function keepInside(event) {
+    const inside = [...shown.node.querySelectorAll("button, input, select")].filter((one) => !one.disabled);
     const [from, to] = event.shiftKey ? [inside[0], inside.at(-1)] : [inside.at(-1), inside[0]];
-    if (event.key === "Tab" && document.activeElement === from) {
+    if (document.activeElement === from) {
         event.preventDefault();
         to.focus();
     }
@@ -226,12 +237,14 @@ function noteStack() {
 
 // tells in a corner of the page that something was done, in place of what was told before
 export function note(...words) {
-    const close = element(
-        "button",
-        {type: "button", class: "btn-close me-2 m-auto", "data-bs-dismiss": "toast", "aria-label": say("close")});
-    const body = element("div", {class: "d-flex"}, element("div", {class: "toast-body"}, words), close);
-    const node = element("div", {class: "toast note", role: "status"}, body);
+    const away = button("", () => node.remove(), {class: "btn-close me-2 m-auto", "aria-label": say("close")});
+    const body = element("div", {class: "d-flex"}, element("div", {class: "toast-body"}, words), away);
+    const node = element("div", {class: "toast note show", role: "status"}, body);
     noteStack().replaceChildren(node);
-    node.addEventListener("hidden.bs.toast", () => node.remove());
-    new bootstrap.Toast(node, {delay: 6000}).show();
+    removeLater(node);
+}
+
+// A note stays longer while a pointer or the focus is on it.
+function removeLater(node) {
+    setTimeout(() => (node.matches(":hover, :focus-within") ? removeLater(node) : node.remove()), NOTE_TIME);
 }

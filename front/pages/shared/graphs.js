@@ -1,7 +1,8 @@
 // Graphs by Chart.js. The same figures always stand in a table too.
-import {Problem} from "./api.js";
+import {loadLibrary} from "./api.js";
 import {element} from "./elements.js";
 import {dayOfNumber, numberOfDay} from "./days.js";
+import {centsOfText} from "./money.js";
 import {locale, say, showDay, showMoney} from "./words.js";
 
 const IS_DARK = matchMedia("screen and (prefers-color-scheme: dark)").matches;
@@ -13,6 +14,7 @@ export const CLASS_COLOURS = {
     c61_90: IS_DARK ? "#dc5a67" : "#c4424f",
     over_90: IS_DARK ? "#b9609b" : "#7a1f3d"
 };
+export const CLASSES = ["c1_30", "c31_60", "c61_90", "over_90"];
 const LINE_COLOURS = IS_DARK ? {planned: "#9aa7b3", real: "#6fd0c8"} : {planned: "#6b7785", real: "#0b6e69"};
 
 const DARK = {
@@ -31,24 +33,10 @@ function canvasFor(words) {
     return {canvas, node: element("div", {class: "graph"}, canvas)};
 }
 
-let loading = null;
-
-// Chart.js is larger than all pages: it is loaded once a graph is to be drawn.
-function loadChart() {
-    loading ??= new Promise((done, failed) => {
-        const onerror = () => {
-            loading = null;
-            failed(new Problem({}));
-        };
-        document.head.append(element("script", {src: "/lib/chart/chart.min.js", onload: done, onerror}));
-    });
-    return loading;
-}
-
-// Chart.js measures the place where it draws, so a graph is drawn once it stands in the page. Where it can't be loaded
-// the table beside it has the same figures.
+// Chart.js is larger than all pages: it is loaded once a graph is to be drawn. It measures the place where it draws, so
+// a graph is drawn once it stands in the page. Where it can't be loaded the table beside it has the same figures.
 async function drawn(canvas, settings) {
-    await loadChart();
+    await loadLibrary("/lib/chart/chart.min.js");
     requestAnimationFrame(() => {
         if (canvas.isConnected) {
             Object.assign(Chart.defaults, IS_DARK ? DARK : {});
@@ -60,6 +48,26 @@ async function drawn(canvas, settings) {
 }
 
 const compact = new Intl.NumberFormat(locale, {notation: "compact", maximumFractionDigits: 1, numberingSystem: "latn"});
+
+const MOST_BARS = 30;
+
+// The bars of those offices that have active loans: what is outstanding of their principal, by class. What no class
+// holds is not overdue. Where there are more than can be read, those with the most outstanding.
+export function barsOf(tree, report) {
+    const names = new Map(tree.map(({number, name}) => [number, name]));
+    const outstanding = (line) => centsOfText(line.outstanding);
+    const most = report.offices.filter((line) => line.loans > 0)
+                     .sort((one, other) => (outstanding(one) > outstanding(other) ? -1 : 1))
+                     .slice(0, MOST_BARS);
+    return most.sort((one, other) => one.office - other.office).map((line) => {
+        const cents = Object.fromEntries(CLASSES.map((name) => [name, centsOfText(line[name])]));
+        const overdue = CLASSES.reduce((all, name) => all + cents[name], 0n);
+        return {
+            name: `${line.office} ${names.get(line.office) ?? ""}`,
+            cents: {none: outstanding(line) - overdue, ...cents},
+        };
+    });
+}
 
 // bars of offices, each of its classes: bars is [{ name, cents: { none, c1_30, .. } }]
 export function classBars(bars, words) {

@@ -1,7 +1,7 @@
 // What a person does with their own sign-in, at the top of each page: lock, sign out, own password. Only where the
 // front has sessions: with Basic the browser keeps the password, and nothing ends it.
 import {button, element, link} from "./elements.js";
-import {word} from "../sign-in/words.js";
+import {say} from "./words.js";
 
 const LOCK_KEY = "F8";
 const IDLE_MILLISECONDS = 15 * 60_000;  // the front ends a session after 20 minutes
@@ -74,15 +74,16 @@ export function ownActs({hasSession}) {
     }
     watch();
     const item = "dropdown-item rounded px-3 py-2";
-    const way = (hash, key) => element("li", {}, link(`/sign-in.html${hash}`, word(key), {class: item}));
-    const out = element("li", {}, button(word("out"), signOut, {class: item, id: "sign-out"}));
+    const way = (hash, key) => element("li", {}, link(`/sign-in.html${hash}`, say(key), {class: item}));
+    const out = element("li", {}, button(say("own.out"), signOut, {class: item, id: "sign-out"}));
     const list = element(
         "ul", {class: "list-unstyled position-absolute end-0 mt-1 mb-0 p-1 bg-white border rounded shadow own-list"},
-        way("#password", "own"), way("#code", "code.title"), way("#people", "people"), out);
+        way("#password", "own.password"), way("#code", "own.code"), way("#people", "own.people"), out);
     const small = "btn btn-sm btn-outline-light";
     return element(
-        "div", {class: "d-flex gap-1"}, button(word("lock"), lock, {class: small, id: "lock", title: word("lock.key")}),
+        "div", {class: "d-flex gap-1"},
+        button(say("own.lock"), lock, {class: small, id: "lock", title: say("own.lock.key")}),
         element(
             "details", {class: "position-relative", id: "own-acts"},
-            element("summary", {class: small}, word("own-acts")), list));
+            element("summary", {class: small}, say("own.acts")), list));
 }

@@ -150,21 +150,21 @@ function showOwnPassword() {
         showOwnPassword();
         tell("success", word("changed"));
     };
-    show(word("own"), newPasswords([passwordField(word("old"), "current-password")], send), back());
+    show(say("own.password"), newPasswords([passwordField(word("old"), "current-password")], send), back());
 }
 
 async function showSecondFactor() {
-    show(word("code.title"), back());
+    show(say("own.code"), back());
     const {secret, token} = await asked("/session/getkey", {});
     const address = `otpauth://totp/microloan:${user}?secret=${secret}&issuer=microloan`;
     const send = async (code) => {
         await asked("/session/verify", {token, code, TOTPName: "telephone"});
-        show(word("code.title"), back());
+        show(say("own.code"), back());
         tell("success", word("code.kept"));
     };
     const grouped = secret.match(/.{1,4}/g).join(" ");
     show(
-        word("code.title"), element("p", {}, word("code.why")),
+        say("own.code"), element("p", {}, word("code.why")),
         element("p", {}, `${word("code.key")}: `, element("code", {id: "key", class: "user-select-all"}, grouped)),
         element("p", {}, link(address, word("code.open"))),
         element("div", {class: "col-md-5"}, form([codeField(word("code.ask"))], word("code.keep"), send)), back());
@@ -178,7 +178,7 @@ function stateOf(person) {
 async function showPeople() {
     const {people} = await asked("/people", undefined, "GET");
     if (people.length === 0) {
-        show(word("people"), element("p", {}, word("people.none")), back());
+        show(say("own.people"), element("p", {}, word("people.none")), back());
         return;
     }
     const own = passwordField(word("people.own"), "current-password");
@@ -194,7 +194,7 @@ async function showPeople() {
         }
     };
     show(
-        word("people"), element("div", {class: "col-md-5"}, own.node),
+        say("own.people"), element("div", {class: "col-md-5"}, own.node),
         element("div", {class: "table-responsive"}, peopleTable(people, act)), back());
 }
 

@@ -20,28 +20,7 @@ import {centsOfText, sum} from "../shared/money.js";
 import {dayOfNumber, daysBetween, FIRST_DAY, numberOfDay} from "../shared/days.js";
 import {say, showCount, showDay, showPercent} from "../shared/words.js";
 import {amount, day, pageHead, row, table} from "../shared/tables.js";
-import {classBars, CLASS_COLOURS} from "../shared/graphs.js";
-
-const MOST_BARS = 30;
-const CLASSES = ["c1_30", "c31_60", "c61_90", "over_90"];
-
-// The bars of those offices that have active loans: what is outstanding of their principal, by class. What no class
-// holds is not overdue. Where there are more than can be read, those with the most outstanding.
-export function barsOf(tree, report) {
-    const names = new Map(tree.map(({number, name}) => [number, name]));
-    const outstanding = (line) => centsOfText(line.outstanding);
-    const most = report.offices.filter((line) => line.loans > 0)
-                     .sort((one, other) => (outstanding(one) > outstanding(other) ? -1 : 1))
-                     .slice(0, MOST_BARS);
-    return most.sort((one, other) => one.office - other.office).map((line) => {
-        const cents = Object.fromEntries(CLASSES.map((name) => [name, centsOfText(line[name])]));
-        const overdue = CLASSES.reduce((all, name) => all + cents[name], 0n);
-        return {
-            name: `${line.office} ${names.get(line.office) ?? ""}`,
-            cents: {none: outstanding(line) - overdue, ...cents},
-        };
-    });
-}
+import {barsOf, classBars, CLASS_COLOURS, CLASSES} from "../shared/graphs.js";
 
 export async function arrears(page, number) {
     const [list, report] = await Promise.all([offices(), read("/reports/arrears"), renewDay()]);

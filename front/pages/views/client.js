@@ -49,8 +49,8 @@ async function readLoans(account) {
     return told.length === 0 ? null : loanTable(told.reverse(), say("client.loans"), false);
 }
 
-// A client's loans as a list tells them, the last one first; none where there is no loan. isNarrow: for a dialog, without
-// the days of pay-out.
+// A client's loans as a list tells them, the last one first; none where there is no loan. isNarrow: for a dialog,
+// without the days of pay-out.
 export function listedLoans(loans, isNarrow = false) {
     const paidOut = ({disbursed}) => (isNarrow ? [] : [disbursed === null ? "–" : day(disbursed)]);
     const rows = [...loans].reverse().map(

@@ -8,6 +8,7 @@ import {say, sayCount, showDay} from "../shared/words.js";
 import {pageHead} from "../shared/tables.js";
 import {choosePin, isLocked, LEAST_LETTERS, lock, MOST_LETTERS, unlock} from "./kept-pin.js";
 import {sealAnew} from "./kept-rounds.js";
+import {dropPack, sealedPack} from "./pack-record.js";
 
 function pinField(label, hint) {
     return passwordField({label, hint, least: LEAST_LETTERS, most: MOST_LETTERS});
@@ -72,8 +73,8 @@ function allWords(records) {
     return [sayCount("kept.rounds", records.length), waiting && wordsOfWaiting(waiting)].filter(Boolean).join(" · ");
 }
 
-// The page as long as it is locked. again: shows it anew once it is open.
-export function showLocked(page, records, again) {
+// The page as long as it is locked. again: shows it anew once it is open. words: what is on this phone.
+export function showLocked(page, records, again, {title = say("kept.title"), words = allWords(records)} = {}) {
     const field = pinField(say("pin"));
     field.node.className = "mb-3";
     const trouble = element("div", {"aria-live": "assertive"});
@@ -98,7 +99,7 @@ export function showLocked(page, records, again) {
         }
     });
     const forgotten = button(say("pin.forgotten"), () => forget(again), {class: "btn btn-outline-danger mt-3"});
-    fill(page, pageHead({title: say("kept.title")}), card(null, element("p", {}, allWords(records)), form), forgotten);
+    fill(page, pageHead({title}), card(null, element("p", {}, words), form), forgotten);
     field.input.focus();
 }
 
@@ -111,15 +112,20 @@ async function forget(again) {
         const words = waiting ? wordsOfWaiting(waiting) : say("kept.all-sent");
         return element("li", {}, `${office} · ${showDay(day)}: ${words}`);
     });
-    const lost = alertBox("danger", say("pin.lost", {lost: allWords(records)}), element("ul", {class: "mb-0"}, days));
+    const list = element("ul", {class: "mb-0"}, days);
+    const lost = records.length > 0 && [
+        alertBox("danger", say("pin.lost", {lost: allWords(records)}), list),
+        element("p", {class: "mb-0"}, say("pin.lost.do"))
+    ];
+    const hasPack = (await sealedPack()) !== undefined;
     const done = await ask({
         title: say("pin.forgotten"),
-        text: [lost, say("pin.lost.do")],
+        text: [lost, hasPack && say("pack.lost")],
         action: say("pin.lose"),
         isGrave: true,
         send: async () => {
             lock();
-            await dropAll();
+            await Promise.all([dropAll(), dropPack()]);
         }
     });
     if (done !== null) {

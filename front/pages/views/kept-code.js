@@ -1,22 +1,8 @@
 // A text as a code that a camera reads (QR), by Debian's library qrcode-generator.
-import {element} from "../shared/elements.js";
-import {Problem} from "../shared/api.js";
+import {loadLibrary} from "../shared/api.js";
 
 const SVG = "http://www.w3.org/2000/svg";
 const QUIET = 4;  // modules of white round the code, as the standard asks for
-
-let loading = null;
-
-function loadLibrary() {
-    loading ??= new Promise((done, failed) => {
-        const onerror = () => {
-            loading = null;
-            failed(new Problem({}));
-        };
-        document.head.append(element("script", {src: "/lib/qrcode/qrcode.js", onload: done, onerror}));
-    });
-    return loading;
-}
 
 function svg(tag, attributes, ...children) {
     const node = document.createElementNS(SVG, tag);
@@ -32,7 +18,7 @@ function isPlain(text) {
 
 // label: what the picture is, in words. It is black on white also in the dark.
 export async function codeOf(text, label) {
-    await loadLibrary();
+    await loadLibrary("/lib/qrcode/qrcode.js");
     qrcode.stringToBytes = qrcode.stringToBytesFuncs["UTF-8"];
     const code = qrcode(0, "M");
     code.addData(isPlain(text) ? text : `\ufeff${text}`);

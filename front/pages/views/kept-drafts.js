@@ -9,12 +9,16 @@ import {session} from "../shared/session.js";
 import {facts, pageHead} from "../shared/tables.js";
 import {say, showCount, showDay, showMoment, showMoney} from "../shared/words.js";
 import {loanFields} from "./client.js";
+import {ageOf} from "./kept.js";
 import {changeDraft, sendDraft} from "./kept-draft-sending.js";
 import {changeRound, readRound} from "./kept-rounds.js";
+import {namesIn, officeIn, readPack} from "./pack-kept.js";
 
-export function showDrafts(page, round) {
+// client, kind: whom a draft of that kind is asked for at once, where a page of the day pack leads here
+export async function showDrafts(page, round, client, kind) {
     const place = element("div", {class: "drafts"});
-    const made = {round, place, answers: new Map()};
+    const names = namesIn(officeIn(await readPack(), round.office));
+    const made = {round, place, answers: new Map(), names, asked: names.has(client) ? client : null};
     const mayEnter = round.mayEnter !== false;
     const actions = [
         mayEnter && button(say("client.new"), () => newClient(made)),
@@ -24,9 +28,16 @@ export function showDrafts(page, round) {
         [say("kept.title"), "#/kept"],
         [say("kept.round", {day: showDay(round.day)}), `#/kept/${round.office}/${round.day}`]
     ];
-    fill(page, pageHead({title: say("drafts.title"), trail, actions}), element("p", {}, say("drafts.what")), place);
+    fill(
+        page, pageHead({title: say("drafts.title"), trail, actions}), element("p", {class: "kept-age"}, ageOf(round)),
+        element("p", {}, say("drafts.what")), place);
     const end = whenKeptChanges(() => (place.isConnected ? renew(made).catch(() => {}) : end()));
     show(made);
+    if (made.asked !== null && kind === "note") {
+        newNote(made);
+    } else if (made.asked !== null && mayEnter) {
+        newLoan(made);
+    }
 }
 
 async function renew(made) {
@@ -42,17 +53,19 @@ function show(made) {
 
 // clients
 
-// Whom a draft may be about: the clients of the round, and those that are drafts themselves.
-function clientChoices({round}) {
-    const known = round.lines.filter(({client}) => client).map(({client, name}) => [client, `${name} · ${client}`]);
+// Whom a draft may be about: the clients of the round, those that are drafts themselves, and who is asked for.
+function clientChoices({round, names, asked}) {
+    const ofRound = round.lines.filter(({client}) => client).map(({client, name}) => [client, name]);
+    const known = [...ofRound, ...(asked === null ? [] : [[asked, names.get(asked)]])];
+    const listed = known.map(([client, name]) => [client, `${name} · ${client}`]);
     const fresh = (round.drafts ?? []).filter(({kind}) => kind === "client").map(({id, name}) => [id, name]);
-    return [...new Map([...fresh, ...known])].sort(([, one], [, other]) => one.localeCompare(other));
+    return [...new Map([...fresh, ...listed])].sort(([, one], [, other]) => one.localeCompare(other));
 }
 
-function clientWords({round}, client) {
-    const line = round.lines.find((one) => one.client === client);
+function clientWords({round, names}, client) {
+    const name = round.lines.find((one) => one.client === client)?.name ?? names.get(client);
     const draft = (round.drafts ?? []).find(({id}) => id === client);
-    return line ? `${line.name} · ${client}` : draft?.name ?? (client === "none" ? "–" : client);
+    return name ? `${name} · ${client}` : draft?.name ?? (client === "none" ? "–" : client);
 }
 
 // making them
@@ -76,7 +89,7 @@ async function newLoan(made) {
         note(say("draft.no-product"));
         return;
     }
-    const client = choiceField({label: say("client"), choices, wide: true});
+    const client = choiceField({label: say("client"), choices, value: made.asked, wide: true});
     const fields = {client, ...loanFields(made.round.products)};
     await ask({
         title: say("draft.loan"), text: say("draft.loan.what"), action: say("draft.keep"), fields,
@@ -85,8 +98,9 @@ async function newLoan(made) {
 }
 
 function newNote(made) {
+    const choices = [["none", "–"], ...clientChoices(made)];
     const fields = {
-        client: choiceField({label: say("client"), choices: [["none", "–"], ...clientChoices(made)], wide: true}),
+        client: choiceField({label: say("client"), choices, value: made.asked ?? "none", wide: true}),
         words: textField({label: say("draft.words"), hint: say("draft.words.hint")})
     };
     return ask({

@@ -2,6 +2,7 @@
 // GCM, each text under its own name. The key is in memory alone and no script can read it; it is gone once the page is,
 // and after some minutes without a touch.
 import {keepAnew, keepPin, keptPin, tellPhone} from "../shared/kept.js";
+import {dropPack, keepSealedPack, PACK} from "./pack-record.js";
 
 const ROUNDS = 600_000;  // of PBKDF2, for each try of a PIN
 const SALT_BYTES = 16;
@@ -106,21 +107,25 @@ export async function unlock(pin) {
     return tried !== null;
 }
 
-// Seals all rounds by another PIN. Answers whether the one before is right; a wrong one changes nothing. Nobody else
-// may change a round meanwhile (kept-rounds.js).
-export async function changePin(before, pin, records) {
+// Seals all rounds by another PIN, and the day pack after them, if there is one: where that ends in between, or has no
+// room, the pack is gone, and is taken along anew. Answers whether the PIN before is right: a wrong one changes
+// nothing. Nobody else may change a round or the pack meanwhile (kept-rounds.js).
+export async function changePin(before, pin, records, pack) {
     const record = await keptPin();
     const old = await rightKey(before, record);
     if (old === null) {
         return false;
     }
     const next = await made(pin);
-    const anew = async (one) => {
-        const text = await unsealBy(old, one.id, one.sealed);
-        return {...one, sealed: {...(await sealBy(next.fresh, one.id, text)), mark: next.record.mark}};
+    const anew = async (name, one) => {
+        const text = await unsealBy(old, name, one.sealed);
+        return {...one, sealed: {...(await sealBy(next.fresh, name, text)), mark: next.record.mark}};
     };
-    await keepAnew(next.record, await Promise.all(records.map(anew)));
+    await keepAnew(next.record, await Promise.all(records.map((one) => anew(one.id, one))));
     use(next.fresh, next.record);
+    if (pack !== undefined) {
+        await anew(PACK, pack).then(keepSealedPack).catch(dropPack).catch(console.error);
+    }
     return true;
 }
 

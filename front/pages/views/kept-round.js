@@ -1,6 +1,6 @@
 // A round on this phone: typed into without a network, and sent where there is one. A line that was sent can't be
 // changed until its answer is known: with its receipt it is entered once, however often it is sent.
-import {alertBox, button, card, element, fill, freshId, link} from "../shared/elements.js";
+import {alertBox, button, card, element, fill, freshId, link, spinner} from "../shared/elements.js";
 import {renewDay, session} from "../shared/session.js";
 import {idOf, sendByItself, sendsByItself, waitingOf, whenKeptChanges, wordsOfWaiting} from "../shared/kept.js";
 import {sum} from "../shared/money.js";
@@ -13,7 +13,7 @@ import {ageOf, nameOf} from "./kept.js";
 import {lock as lockPhone} from "./kept-pin.js";
 import {receiptLinks} from "./kept-receipt.js";
 import {changeLine, countsOf, forgetRound, keepTyped, readRound} from "./kept-rounds.js";
-import {isBeingSent, isSendingAnywhere, sendAsked, whenSendingChanges} from "./kept-sending.js";
+import {completeLines, isBeingSent, isSendingAnywhere, sendAsked, whenSendingChanges} from "./kept-sending.js";
 import {arrangement, moreWords} from "./round.js";
 import {lineTable} from "./round-lines.js";
 import {askBefore} from "./round-sheet.js";
@@ -59,7 +59,8 @@ export function showKeptRound(page, round) {
     fill(
         page, pageHead({title, trail: [[say("kept.title"), "#/kept"]], actions}),
         element("p", {class: "mb-1 fw-semibold"}, nameOf(round)), element("p", {class: "kept-age"}, ageOf(round)),
-        senderNote(made), byItselfChoice(), arrangement(made), card(null, made.table.node), trouble, end);
+        undatedNote(round), senderNote(made), byItselfChoice(), arrangement(made), card(null, made.table.node), trouble,
+        end);
     followOthers(made);
     showState(made);
 }
@@ -68,6 +69,12 @@ export function showKeptRound(page, round) {
 function draftWords({drafts = []}) {
     const waiting = drafts.filter(({kind, account}) => kind !== "note" && account === null).length;
     return waiting === 0 ? say("drafts.title") : `${say("drafts.title")} (${waiting})`;
+}
+
+// what isn't counted in a round of the day pack
+function undatedNote({undated}) {
+    const words = () => sayCount("pack.undated", undated.count, {day: showDay(undated.until)});
+    return undated?.count > 0 && alertBox("info", words());
 }
 
 // whether what waits is sent without a press
@@ -208,7 +215,12 @@ async function enterLines(made) {
         await made.keeping;
         await renewDay();
         window.dispatchEvent(new Event("desk-day"));
+        fill(trouble, spinner(say("checking")));
+        await completeLines(made.round, lines);
+        await takeOver(made);
+        hold(made, lines, true);
         const reason = await askBefore(lines);
+        fill(trouble);
         const sent = reason === null ? {problem: null} : await sendAsked(made.round, lines, reason);
         fill(trouble, wordsAfter(sent));
     } catch (problem) {

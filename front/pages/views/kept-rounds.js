@@ -3,13 +3,14 @@
 import {dropRound, idOf, keepRound, keptRound, keptRounds} from "../shared/kept.js";
 import {sum} from "../shared/money.js";
 import {changePin, seal, unseal} from "./kept-pin.js";
+import {PACK, sealedPack} from "./pack-record.js";
 import {withBefore} from "./round-state.js";
 
 const CENTS = ["due", "owed", "cents", "overpaid", "amount", "before"];  // the members that are whole cents
 const PAYMENT = ["receipt", "amount", "staff", "reversed", "number", "before"];
 const LINE = [
     "loan", "client", "name", "since", "days", "due", "owed", "known", "account", "payments", "results", "text",
-    "cents", "typed", "touched", "receipt", "collector", "why", "result", "isFurther", "isSent"
+    "cents", "typed", "touched", "receipt", "collector", "why", "result", "isFurther", "isSent", "seen"
 ];
 const TYPED = ["text", "cents", "typed", "touched", "receipt", "collector", "why", "result", "isFurther", "isSent"];
 
@@ -74,6 +75,13 @@ function changed(id, change) {
     });
 }
 
+// What was sent of a line before. A line of the day pack knows of no payments: those that are known stay.
+function withSent(line, {results, payments, receipt}) {
+    const isBare = line.account === null && payments.length > 0;
+    const known = isBare ? {payments, receipt} : {payments: withBefore(line.payments, payments)};
+    return {...line, results, ...known};
+}
+
 // Takes a round along, with what was typed into it. What was typed on this phone before and isn't sent stays typed, but
 // for what the desk has by now.
 export function takeRound(round) {
@@ -83,10 +91,8 @@ export function takeRound(round) {
         const isKept = before !== undefined && isSaid(before) && !isEntered(line, before);
         return isKept ? {...line, ...only(TYPED, before)} : line;
     };
-    const withSent = (line, before) =>
-        before === undefined ? line :
-                               {...line, results: before.results, payments: withBefore(line.payments, before.payments)};
-    const taken = (line, before) => bareLine(withSent(withTyped(line, before), before));
+    const taken = (line, before) =>
+        bareLine(before === undefined ? line : withSent(withTyped(line, before), before));
     return changed(idOf(round), (before) => {
         const old = new Map(before?.lines.map((line) => [line.loan, line]));
         const lines = round.lines.map((line) => taken(line, old.get(line.loan)));
@@ -134,13 +140,13 @@ export async function readRounds() {
     return Promise.all(records.map(async (record) => ({...record, ...(await open(record))})));
 }
 
-// Seals all rounds by another PIN while nobody changes one. Answers whether the PIN before is right.
+// Seals all rounds and the day pack by another PIN, while nobody changes one. Answers whether the PIN before is right.
 export async function sealAnew(before, pin) {
-    const ids = (await keptRounds()).map(({id}) => id);
+    const names = [PACK, ...(await keptRounds()).map(({id}) => id)];
     const within = async (left) => (left.length === 0 ?
-        changePin(before, pin, await keptRounds()) :
+        changePin(before, pin, await keptRounds(), await sealedPack()) :
         navigator.locks.request(`kept ${left[0]}`, () => within(left.slice(1))));
-    return within(ids);
+    return within(names);
 }
 
 export function forgetRound(id) {

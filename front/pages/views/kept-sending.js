@@ -11,7 +11,7 @@ import {say} from "../shared/words.js";
 import {isLocked, Locked, touch} from "./kept-pin.js";
 import {changeLine, readRound} from "./kept-rounds.js";
 import {sendLine} from "./round-sheet.js";
-import {renewLine, settleLine} from "./round-state.js";
+import {completeLine, renewLine, settleLine} from "./round-state.js";
 
 const LOCK = "kept sending";
 const UNKNOWN = ["lost", "F20"];  // what comes of a line that may have been entered all the same
@@ -119,13 +119,38 @@ function answered(kept, result) {
 }
 
 async function renew(place, loan) {
+    await lookAtLine(place, loan, renewLine);
+}
+
+// look: reads what the desk has of a line's loan. What was typed meanwhile stays as it is.
+async function lookAtLine(place, loan, look) {
     const round = await readRound(idOf(place));
     const line = {...round.lines.find((one) => one.loan === loan), ...place};
-    await renewLine(line);
-    const {payments, known, account, owed, due, receipt} = line;
-    await changeLine(place, loan, (kept) => (kept.isSent || kept.text !== line.text ? null : {
-        ...kept, payments, known, account, owed, due, receipt
+    await look(line);
+    const {payments, known, account, owed, due, receipt, isFurther} = line;
+    return changeLine(place, loan, (kept) => (kept.isSent || kept.text !== line.text ? null : {
+        ...kept, payments, known, account, owed, due, receipt, isFurther
     }));
+}
+
+// Reads what the day pack didn't have of lines, before they are sent: what the round has of each loan already. What was
+// entered since the pack was taken along is asked about, as of any other round.
+export async function completeLines({office, day}, lines) {
+    const bare = lines.filter(({account, isSent}) => account === null && !isSent);
+    await Promise.all(bare.map(({loan}) => lookAtLine({office, day}, loan, completeSince).catch(tellUnlessHidden)));
+}
+
+async function completeSince(line) {
+    await completeLine(line);
+    line.known = {...line.known, entries: Math.min(line.known.entries, line.seen)};
+}
+
+// A loan that isn't there to be seen is told so by sending.
+function tellUnlessHidden(problem) {
+    if (!(problem instanceof Problem && problem.fault === "F4")) {
+        throw problem;
+    }
+    return null;
 }
 
 // by itself
@@ -201,11 +226,18 @@ function isReady({loan, cents, result, touched, isSent}) {
     return cents !== null && (isSent || (result === null && !isTyped));
 }
 
+// the same lines, each with what the desk has of its loan
+async function completed(round, lines) {
+    await completeLines(round, lines);
+    const kept = await readRound(idOf(round));
+    return lines.map(({loan}) => kept.lines.find((line) => line.loan === loan)).filter(isReady);
+}
+
 async function sendUnasked(round, lines) {
     try {
         await renewDay();
         window.dispatchEvent(new Event("desk-day"));
-        for (const line of mayBeSent(round) ? lines : []) {
+        for (const line of mayBeSent(round) ? await completed(round, lines) : []) {
             const problem = await sendUnlessDoubtful(round, line);
             if (endsAll(problem)) {
                 return {problem};
@@ -223,25 +255,14 @@ async function sendUnasked(round, lines) {
 // What is to be asked once more waits for a person's press; what was sent before was asked then.
 async function sendUnlessDoubtful(round, line) {
     const {loan, cents, receipt, known, isSent} = line;
-    const doubt = isSent ? null : await doubtOf({loan, amount: cents, day: round.day, receipt}, known);
+    const asked = {loan, amount: cents, day: round.day, receipt};
+    const doubt = isSent ? null : await doubtsOf(asked, known).catch(tellUnlessHidden);
     const isMeant = (kept) => kept.cents === cents;
     if (doubt !== null) {
         await changeLine(round, loan, (kept) => (isMeant(kept) && !kept.isSent ? {...kept, result: "doubt"} : null));
         return null;
     }
     return sendOne(round, loan, "", isMeant);
-}
-
-// A loan that isn't there to be seen is told so by sending.
-async function doubtOf(asked, known) {
-    try {
-        return await doubtsOf(asked, known);
-    } catch (problem) {
-        if (problem instanceof Problem && problem.fault === "F4") {
-            return null;
-        }
-        throw problem;
-    }
 }
 
 function goOn() {

@@ -33,7 +33,8 @@ export async function kept(page, office, day, name, ...rest) {
 async function showKept(page, id, show, showRound) {
     const records = await keptRounds();
     if (records.length === 0) {
-        fill(page, pageHead({title: say("kept.title")}), card(null, emptyState(say("kept.none"))));
+        const head = pageHead({title: say("kept.title"), actions: [packLink()]});
+        fill(page, head, card(null, emptyState(say("kept.none"))));
     } else if (isLocked()) {
         showLocked(page, records, show);
     } else if (records.some((record) => record.id === id)) {
@@ -47,12 +48,16 @@ async function showKept(page, id, show, showRound) {
 async function showList(page, show) {
     const rounds = await readRounds();
     const quiet = {class: "btn btn-outline-secondary"};
-    const actions = [button(say("pin.change"), askNewPin, quiet), button(say("pin.lock"), lock, quiet)];
+    const actions = [packLink(), button(say("pin.change"), askNewPin, quiet), button(say("pin.lock"), lock, quiet)];
     fill(page, pageHead({title: say("kept.title"), actions}), byItselfChoice(), rounds.map(roundCard));
     const end = whenKeptChanges(() => {
         end();
         return page.isConnected && page.querySelector(".kept-list") !== null && show();
     });
+}
+
+function packLink() {
+    return link("#/pack", say("pack.title"), {class: "btn btn-outline-primary"});
 }
 
 function roundCard(round) {

@@ -1,6 +1,7 @@
 // A loan: how it stands, its schedule, its graph, its entries, and what may be done with it.
 import {alertBox, button, card, element, emptyState, fill, link} from "../shared/elements.js";
 import {Problem, readIfThere} from "../shared/api.js";
+import {showRefusal} from "../shared/refusals.js";
 import {renewDay, session} from "../shared/session.js";
 import * as desk from "../shared/desk.js";
 import {daysBetween} from "../shared/days.js";
@@ -22,6 +23,7 @@ import {
 } from "../shared/tables.js";
 import {balanceSteps} from "../shared/graphs.js";
 import {hasLists, learnStaff, loansOfListed, staffWords} from "../shared/lists.js";
+import {changeTable, changesOfLoan} from "./changes.js";
 import {loanActions, mayReverse, reverseEntry} from "./loan-actions.js";
 import {listedLoans} from "./client.js";
 import {previewNodes, previewOf} from "./preview.js";
@@ -38,6 +40,7 @@ export async function loan(page, account) {
                                                                        "btn-outline-primary"}`,
                                                  }));
     const statement = link(`#/statement/${account}`, say("way.statement"), {class: "btn btn-outline-secondary"});
+    const changes = element("div", {class: "mt-3"});
     fill(
         page, head(told, [...actions, statement]), warning(told), sums(told),
         element(
@@ -46,7 +49,20 @@ export async function loan(page, account) {
         told.day && element("div", {class: "mt-3"}, card(say("loan.balances"), balances(told))),
         element("div", {class: "mt-3"}, planned(told)),
         told.others && element("div", {class: "mt-3"}, card(say("loan.others"), othersOf(told))),
-        element("div", {class: "mt-3"}, card(say("loan.entries"), entryTable(told, again))));
+        element("div", {class: "mt-3"}, card(say("loan.entries"), entryTable(told, again))), changes);
+    showChanges(changes, account);
+}
+
+// Who did what, where the desk tells it, once the rest of the page is there. Where it can't be told the rest stays.
+async function showChanges(place, account) {
+    try {
+        const changes = await changesOfLoan(account);
+        await learnStaff((changes ?? []).map(({staff}) => staff));
+        const caption = say("changes.title");
+        fill(place, changes && card(caption, changeTable(changes, {caption})));
+    } catch (problem) {
+        showRefusal(place, problem, () => showChanges(place, account));
+    }
 }
 
 // all that is shown of a loan, read at one time

@@ -4,6 +4,7 @@ import {change} from "../shared/api.js";
 import {HEAD_OFFICE, MANAGER, may, session} from "../shared/session.js";
 import {asTree, offices} from "../shared/desk.js";
 import {hasLists, staffOf} from "../shared/lists.js";
+import {lacksJournal} from "./changes.js";
 import {say} from "../shared/words.js";
 import {officeChoice, pageHead, row, table} from "../shared/tables.js";
 import {ask, note} from "../shared/dialogs.js";
@@ -23,8 +24,9 @@ async function showPeople(page, office, entered) {
         may(HEAD_OFFICE) && button(say("office.new"), () => newOffice(page, tree)),
         may(MANAGER) && button(say("staff.new"), () => newStaff(page, tree, office), {class: "btn btn-primary"})
     ];
-    const ways = ["clients", "loans", ...(isListed ? ["people"] : [])];
-    const words = (way) => say(way === "people" ? "staff" : `way.${way}`);
+    const listedWays = lacksJournal() ? ["people"] : ["people", "journal"];
+    const ways = ["clients", "loans", ...(isListed ? listedWays : [])];
+    const words = (way) => say({people: "staff", journal: "journal.title"}[way] ?? `way.${way}`);
     const rows = tree.map(
         ({number, name, depth}) => row([
             {head: element("span", {class: `level-${depth}`}, `${number} ${name}`)},

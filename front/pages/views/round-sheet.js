@@ -1,6 +1,6 @@
 // Collection sheets: the repayments of a round or of a file are sent line by line, and what came of each is told.
 import {alertBox, button, card, element, fill, freshId} from "../shared/elements.js";
-import {Problem, repay} from "../shared/api.js";
+import {loadLibrary, Problem, repay} from "../shared/api.js";
 import {entries as readEntries, isAccount, isFormula, isReceipt, loan as readLoan} from "../shared/desk.js";
 import {institution} from "../shared/institution.js";
 import {centsOfText, LEAST, MOST, sum, textOfCents} from "../shared/money.js";
@@ -14,6 +14,7 @@ import {say, sayCount, showCount, showDay, showMoney} from "../shared/words.js";
 import {amount, day, row, table} from "../shared/tables.js";
 
 const NAMES = ["receipt", "loan", "date", "amount"];
+const CSV = "/lib/dsv/d3-dsv.min.js";  // reads and writes sheets
 const MOST_BYTES = 1_048_576;
 const FORMULA = "formula";  // what comes of a line whose receipt a spreadsheet would take for a formula
 
@@ -126,7 +127,8 @@ export function tally(results) {
 }
 
 // the round as a sheet: the amounts typed in; where none is, what is due
-export function saveSheet(lines, name) {
+export async function saveSheet(lines, name) {
+    await loadLibrary(CSV);
     const isTyped = lines.some((line) => line.cents !== null);
     const rows = lines.filter((line) => (isTyped ? line.cents !== null : line.due > 0n))
                      .map((line) => [line.receipt, line.loan, line.day, textOfCents(line.cents ?? line.due)]);
@@ -164,9 +166,9 @@ function lineOf(fields, written) {
     return {receipt, loan, day: date, cents, written, isGood, result: isGood ? null : refusal};
 }
 
-// The lines of a sheet that is whole, or what speaks against it. One that ends in the middle of a line may have been cut
-// there, in an amount say: it is taken where its last line has its end, or where a last line `total,COUNT,,SUM` tells how
-// many lines come before it and what they come to.
+// The lines of a sheet that is whole, or what speaks against it. One that ends in the middle of a line may have been
+// cut there, in an amount say: it is taken where its last line has its end, or where a last line `total,COUNT,,SUM`
+// tells how many lines come before it and what they come to.
 export function readWholeSheet(text) {
     const read = readSheet(text);
     const [, count, none, money] = read.at(-1)?.written.map((field) => field.trim()) ?? [];
@@ -215,6 +217,7 @@ async function showFile(place, file) {
         fill(place, alertBox("danger", say("sheet.large")));
         return;
     }
+    await loadLibrary(CSV);
     const {lines, problem} = readWholeSheet(await file.text());
     if (problem) {
         fill(place, alertBox("danger", problem));

@@ -52,7 +52,8 @@ async function noteKept({place, office, day}) {
     const id = idOf({office, day});
     const kept = await keptRounds().catch(() => []);
     if (kept.some((record) => record.id === id)) {
-        const way = link(`#/kept/${office}/${day}`, say("kept.title"), {class: "btn btn-sm btn-outline-secondary ms-2"});
+        const small = {class: "btn btn-sm btn-outline-secondary ms-2"};
+        const way = link(`#/kept/${office}/${day}`, say("kept.title"), small);
         place.before(alertBox("info", say("kept.here"), way));
     }
 }
@@ -141,7 +142,8 @@ function showRound(made) {
     fill(
         actions, button(say("print"), () => window.print(), quiet),
         button(say("round.save"), () => saveSheet(lines, `${office}-${day}`), quiet),
-        canSeal() && button(say("kept.take"), () => made.isSending || takeCompleted(made), quiet));
+        canSeal() && button(say("kept.take"), () => made.isSending || takeCompleted(made), quiet),
+        canSeal() && link("#/pack", say("pack.title"), quiet));
     const {summary, trouble, propose, enter, drop} = made.parts;
     fill(
         place, isEarly && alertBox("info", say("round.early", {day: showDay(session.day)})), arrangement(made),

@@ -13,8 +13,7 @@ import {unsentLines} from "../shared/drafts.js";
 import {dayField} from "../shared/forms.js";
 import {Writing} from "../shared/writing.js";
 import {showRefusal} from "../shared/refusals.js";
-import {classBars} from "../shared/graphs.js";
-import {barsOf} from "./arrears.js";
+import {barsOf, classBars, CLASSES} from "../shared/graphs.js";
 
 const SOON = 7;
 const FAR = 31;
@@ -46,8 +45,9 @@ function sums(all) {
         figure(say("overdue.sum"), showMoney(overdueOf(all))));
 }
 
+// of no line, as of an office that was opened since, nothing is overdue
 function overdueOf(line) {
-    return ["c1_30", "c31_60", "c61_90", "over_90"].reduce((all, name) => all + centsOfText(line[name]), 0n);
+    return CLASSES.reduce((all, name) => all + centsOfText(line?.[name] ?? "0"), 0n);
 }
 
 function bars(tree, report) {
@@ -64,7 +64,7 @@ function officeTable(tree, report) {
             link(`#/loans/${office.number}`, `${office.number} ${office.name}`));
         return row([
             {head: name}, {number: showCount(line?.loans ?? 0)},
-            {number: showMoney(centsOfText(line?.outstanding ?? "0.00"))}, {number: showMoney(overdueOf(line ?? ZERO))},
+            {number: showMoney(centsOfText(line?.outstanding ?? "0.00"))}, {number: showMoney(overdueOf(line))},
             {number: showPercent(centsOfText(line?.par30 ?? "0.00"))}
         ]);
     });
@@ -75,13 +75,6 @@ function officeTable(tree, report) {
     ];
     return table({caption: say("today.offices"), columns, rows}).node;
 }
-
-const ZERO = {
-    c1_30: "0",
-    c31_60: "0",
-    c61_90: "0",
-    over_90: "0"
-};
 
 const WAITING = [100, 200, 700];
 const MANY = 300;  // active loans, from which on three lists are fewer requests than a hundred loans by each

@@ -37,6 +37,13 @@ export default {
     "way.catalogue": "Catalogue",
     "way.people": "Agences et personnel",
     "way.statement": "Relevé",
+    "own.acts": "Votre connexion",
+    "own.password": "Votre mot de passe",
+    "own.code": "Un code à chaque connexion",
+    "own.people": "Vos collaborateurs",
+    "own.lock": "Verrouiller",
+    "own.lock.key": "Verrouiller la page (F8) : elle demande un mot de passe, et ce que vous avez saisi reste à vous",
+    "own.out": "Se déconnecter",
     "role": "Fonction",
     "role.teller": "Caissier",
     "role.officer": "Agent de crédit",
@@ -152,7 +159,7 @@ export default {
     "field.reason.wrong": "Écrivez pourquoi, en 1 à 200 caractères",
     "doubt.above": "{amount}, c’est plus que les {owed} qui restent à payer.",
     "doubt.same": "{amount} du {day} sont déjà saisis sur ce prêt : opération {number}, par {staff}.",
-    "doubt.since": "{amount} du {day} ont été saisis sur ce prêt depuis le chargement de cette page : écriture " +
+    "doubt.since": "{amount} du {day} ont été saisis sur ce prêt depuis la lecture de ces chiffres : écriture " +
         "{number}, par {staff}.",
 
     // today
@@ -221,6 +228,30 @@ export default {
     "loan.no-entries": "Rien n’a encore été saisi.",
     "loan.others": "Autres prêts de ce client",
     "loan.no-others": "Ce client n’a pas d’autre prêt.",
+    "changes.title": "Qui a fait quoi",
+    "changes.by": "Par",
+    "changes.what": "Ce qui a été fait",
+    "changes.sent": "Envoyé",
+    "made.office": "Agence {office} ouverte",
+    "made.staff": "{name} inscrit comme {role}",
+    "made.client": "Client {name} inscrit",
+    "made.loan.one": "Soumis pour le client {client} : {amount}, {count} échéance, produit {product}",
+    "made.loan.other": "Soumis pour le client {client} : {amount}, {count} échéances, produit {product}",
+    "done.approve": "Approuvé",
+    "done.reject": "Rejeté",
+    "done.withdraw": "Retiré",
+    "done.undo-approval": "Approbation retirée",
+    "done.disburse": "Décaissé le {day}",
+    "done.repayments": "Remboursement de {amount}, payé le {day}",
+    "done.receipt": "reçu {receipt}",
+    "done.fees": "Frais {charge}, dus le {day}",
+    "done.penalties": "Pénalité : {instalment}",
+    "done.waivers": "Abandon : {portion}, {instalment}",
+    "done.write-off": "Passé en perte",
+    "done.refund": "Trop-perçu restitué",
+    "done.reverse": "Opération {number} annulée",
+    "done.collector": "Collecté par {collector}",
+    "done.reason": "Motif : {reason}",
     "loan.paid-out": "Décaissé le",
     "loan.pay-out": "Décaissement",
     "loan.disbursement-fee": "Frais au décaissement",
@@ -324,8 +355,8 @@ export default {
     "without.network": "Hors réseau",
     "without.desk": "Sans bureau",
     "without.what": "Il n’y a pas de réseau, et cette page a besoin du bureau.",
-    "without.do": "Une tournée que vous avez emportée s’ouvre sans réseau, et ce que vous y écrivez est gardé sur ce " +
-        "téléphone. Tout le reste attend le retour du réseau.",
+    "without.do": "Une tournée ou un dossier du jour que vous avez emporté s’ouvre sans réseau, et ce que vous y " +
+        "écrivez est gardé sur ce téléphone. Tout le reste attend le retour du réseau.",
     "without.again": "Chercher le réseau",
     "without.go": "Continuer sans réseau",
     "kept.title": "Tournées sur ce téléphone",
@@ -334,8 +365,8 @@ export default {
     "kept.waiting.other": "{count} non envoyés, {amount}, depuis {since}",
     "kept.rounds.one": "{count} tournée est sur ce téléphone",
     "kept.rounds.other": "{count} tournées sont sur ce téléphone",
-    "kept.none": "Aucune tournée n’est sur ce téléphone. Là où il y a du réseau, ouvrez Collectes et touchez Emporter " +
-        "cette tournée.",
+    "kept.none": "Aucune tournée n’est sur ce téléphone. Là où il y a du réseau, ouvrez Collectes et touchez " +
+        "Emporter cette tournée.",
     "kept.lines.one": "{count} ligne",
     "kept.lines.other": "{count} lignes",
     "kept.age": "Emportée {time} ({age}), au jour comptable {day}. Ce que d’autres ont saisi depuis n’y est pas.",
@@ -356,6 +387,34 @@ export default {
     "kept.by-itself": "Envoyer tout seul là où il y a du réseau",
     "kept.locked": "verrouillé : ouvrez pour envoyer",
     "kept.sends-already": "Un envoi est déjà en cours dans ce navigateur. Attendez qu’il soit fini.",
+    "pack.title": "Dossier du jour",
+    "pack.here": "Un dossier du jour est sur ce téléphone.",
+    "pack.take": "Emporter la journée",
+    "pack.take-anew": "Emporter la journée à nouveau",
+    "pack.what": "D’une pression, ce téléphone garde ce qui échoit dans la semaine, avec les noms et ce qui reste à " +
+        "payer, et tous les clients de ces agences. Cela s’ouvre sans réseau.",
+    "pack.choose": "Choisissez au moins une agence.",
+    "pack.taken": "La journée est sur ce téléphone. Elle s’ouvre ici sans réseau.",
+    "pack.age": "Emporté {time} ({age}) par {by}, au jour comptable {day}. Ce qui a été saisi depuis n’y est pas.",
+    "pack.none": "Aucun dossier du jour sur ce téléphone. Là où il y a du réseau, ouvrez cette page et touchez " +
+        "Emporter la journée.",
+    "pack.no-lists": "Le programme n’a pas de listes, donc pas de dossier du jour. Emportez les tournées une à une : " +
+        "ouvrez Collectes.",
+    "pack.unsafe": "Ce navigateur ne peut rien garder scellé ici. L’adresse doit commencer par https.",
+    "pack.remove.what": "Le dossier du jour est retiré de ce téléphone. Les tournées restent, avec ce qui y a été " +
+        "saisi.",
+    "pack.due": "Dû au {day}",
+    "pack.rounds": "Tournées de la semaine",
+    "pack.open": "Ouvrir la tournée",
+    "pack.find": "Un nom, une partie du nom ou un numéro",
+    "pack.undated.one": "{count} prêt en retard a encore une échéance d’ici au {day}. Son jour n’est pas connu ici : " +
+        "elle ne compte qu’au {day}.",
+    "pack.undated.other": "{count} prêts en retard ont encore une échéance d’ici au {day}. Son jour n’est pas connu " +
+        "ici : elle ne compte qu’au {day}.",
+    "pack.nothing-due": "Rien n’échoit d’ici au {day}. Les prêts sans échéance d’ici là ne sont pas dans le dossier " +
+        "du jour.",
+    "pack.lost": "Le dossier du jour part aussi. C’est une copie : emportez-le à nouveau.",
+    "pack.last": "Dernière écriture",
     "slip.of": "Reçu : {client}, {amount}",
     "slip.before": "Restait à payer avant",
     "slip.left": "Reste certain : avant, moins payé",
@@ -605,6 +664,14 @@ export default {
     "staff.no-list": "Il n’y a pas de liste du personnel. Le numéro d’un nouveau membre est montré une seule fois, à " +
         "l’inscription ; la personne chargée des accès a la liste de ceux qui peuvent se connecter.",
     "staff.none": "Personne n’est encore enregistré dans ce bureau.",
+    "journal.title": "Journal",
+    "journal.what": "Ce qui a été fait dans cette agence, le plus récent d’abord. Les jours sont des jours comptables.",
+    "journal.none": "L’institution ne tient pas de journal.",
+    "journal.empty": "Le journal n’indique aucun changement ici.",
+    "journal.shown": "Changements {first} à {last}",
+    "journal.earlier": "Plus anciens",
+    "journal.later": "Plus récents",
+    "journal.last": "Les derniers",
 
     // a statement
     "statement.title": "Relevé du prêt {loan}",

@@ -1,6 +1,7 @@
 use Rattle.std.proofs.Common.{sym, ap, ◌∙◌}
 use Rattle.mf_lists.specs.Readings.{list_seen}
-use Rattle.mf_lists.proofs.ListLemmas.{by_view, unseen}
+use Rattle.mf_lists.proofs.ChangeLemmas.{by_view}
+use Rattle.mf_lists.proofs.ListLemmas.{unseen}
 use Rattle.mf_lists.proofs.laws.lists_are_read_off_the_view.Goals as goal
 
 pub returns-clause-view : goal.returns-clause-view

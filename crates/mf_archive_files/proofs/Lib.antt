@@ -1,0 +1,4 @@
+mod ClosingLemmas
+mod FindingLemmas
+mod MovingLemmas
+mod OverLemmas

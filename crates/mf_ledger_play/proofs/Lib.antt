@@ -1,0 +1,3 @@
+pub mod LoanLemmas
+pub mod RunLemmas
+pub mod LineLemmas

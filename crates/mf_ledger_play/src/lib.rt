@@ -1,0 +1,11 @@
+//! Lines of a journal, played over any store, and their transactions written: the books line by line.
+#![tactic(auto)]
+
+mod form;
+pub mod laws;
+mod line;
+mod lines;
+mod loans;
+
+pub use form::{BooksAsked, BooksForm};
+pub use lines::book_lines;

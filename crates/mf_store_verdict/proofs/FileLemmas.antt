@@ -1,0 +1,76 @@
+-- What is said of a connection that shows a file is said of the database that the file held.
+use Rattle.std.proofs.Common.{◌≡◌, [], Option, None, Some, refl, sym, ap, ◌∙◌, subst}
+use Rattle.sqlite.specs.Effect.{Database}
+use Rattle.sqlite.specs.Files.{HoldsDatabase}
+use Rattle.sqlite.specs.Schema.{Schema}
+use Rattle.sqlite.specs.State.{State}
+use Rattle.sqlite.specs.Tree.{Trees}
+use Rattle.sqlite_catalog.specs.Listing.{IsSound}
+use Rattle.sqlite_wal.specs.Recovery.{Image}
+use Rattle.mf_store_sql.specs.Tables.{no_schema}
+use Rattle.mf_store_schema.specs.Schemas.{IsKnown}
+use Rattle.mf_store_schema.specs.Versions.{IsOfVersion, schema_at}
+use Rattle.mf_store_schema.specs.declared.versions.Version.{Version}
+use Rattle.mf_store_schema.specs.declared.versions.Version.TheVariants.{Third}
+use Rattle.mf_store_sound.specs.Files.{ShowsFile}
+use Rattle.mf_store_sound.proofs.FileLemmas.{under, seen}
+use Rattle.mf_store_sound.proofs.SchemaLemmas.{no_views}
+use Rattle.mf_store_audit.specs.Audits.{IsAuditOf}
+use Rattle.mf_store_audit.specs.declared.audits.Audit.{Audit}
+use Rattle.mf_store_audit.specs.declared.audits.Audit.TheVariants.{NoTables, OtherTables, Sound, Unsound, Unreadable}
+use Rattle.mf_store_audit.specs.declared.audits.Audit.TheVariants as audit
+use Rattle.mf_store_played.specs.Answer.{IsAnswerOf}
+use Rattle.mf_store_played.specs.declared.played.Played.{Played}
+use Rattle.mf_store_verdict.specs.Verdict.{IsPlayOf, IsVerdictOf, IsVerdictOfFile}
+use Rattle.mf_store_verdict.specs.declared.verdict.Verdict.{Verdict}
+use Rattle.mf_store_verdict.proofs.PlayLemmas.{third_there}
+
+module _ (image : Image) (s : State) (shows : ShowsFile image s) (trees : Trees) (k : Schema)
+    (holds : HoldsDatabase image trees) (sound : IsSound k trees) where
+  abbrev held : Database
+  held = record { schema = k; trees = trees }
+
+  -- a connection with the program's tables, or with none, shows just the database that was held
+  is_held : (own : Schema) → own.views ≡ [] → s.now.schema ≡ own → s.now ≡ held
+  is_held own bare is =
+      let same = seen image s shows trees k holds sound (ap (λ (x : Schema). x.views) is ∙ bare) in
+      λ t. record { schema = sym same t; trees = shows.holds trees holds t }
+
+  was_seen : (own : Schema) → own.views ≡ [] → k ≡ own → s.now.schema ≡ own
+  was_seen own bare is = ap (λ (db : Database). db.schema) (under image s shows k (ap (λ (x : Schema). x.views) is
+      ∙ bare) trees holds sound) ∙ is
+
+  as_known : IsKnown k → IsKnown s.now.schema
+  as_known known = (known.0, was_seen (schema_at known.0) (no_views known.0) known.1)
+
+  known_is_held : (v : Version) → IsOfVersion v s.now.schema → s.now ≡ held
+  known_is_held v is = is_held (schema_at v) (no_views v) is
+
+  told_of : (audit : Audit) → IsAuditOf s.now audit → IsAuditOf held audit
+  told_of NoTables told = subst (λ db. IsAuditOf db NoTables) (is_held no_schema refl told) told
+  told_of OtherTables told = (λ none. told.0 (was_seen no_schema refl none), λ known. told.1 (as_known known))
+  told_of (Sound v sums) told = subst (λ db. IsAuditOf db (Sound v sums)) (known_is_held v told.has.0) told
+  told_of (Unsound v rows findings) told = subst (λ db. IsAuditOf db (Unsound v rows findings))
+      (known_is_held v told.1.0) told
+  told_of (audit.BrokenJournal broken) told = subst (λ db. IsAuditOf db (audit.BrokenJournal broken))
+      (known_is_held Third told.0) told
+  told_of (Unreadable v unread) told = subst (λ db. IsAuditOf db (Unreadable v unread)) (known_is_held v told.0) told
+
+  -- the play is of the tables that the file held
+  play_of : (found : Audit) (played : Option Played) → IsAuditOf s.now found → IsPlayOf s.now found played
+      → IsPlayOf held found played
+  play_of found None told none = none
+  play_of found (Some played) told (finds, answer) = (
+    finds,
+    subst (λ (db : Database). IsAnswerOf db.trees played) (known_is_held Third (third_there s.now found finds told))
+        answer,
+  )
+
+module _ (image : Image) (s : State) (shows : ShowsFile image s) where
+  pub verdict_of_file : (v : Verdict) → IsVerdictOf s.now v → IsVerdictOfFile image v
+  verdict_of_file v is = record {
+    tables = λ trees k holds sound. record {
+      audited = told_of image s shows trees k holds sound v.audit is.audited;
+      played = play_of image s shows trees k holds sound v.audit v.played is.audited is.played;
+    };
+  }

@@ -1,0 +1,58 @@
+-- What a verdict says of a database: its audit, and what the play of its journal says of the tables.
+use Rattle.std.specs.Prelude.{◌≡◌, IsTrue, Option, Some, None}
+use Rattle.sqlite.specs.Effect.{Database}
+use Rattle.sqlite.specs.Files.{HoldsDatabase}
+use Rattle.sqlite.specs.Schema.{Schema}
+use Rattle.sqlite.specs.State.{State}
+use Rattle.sqlite.specs.Tree.{Trees}
+use Rattle.sqlite_catalog.specs.Listing.{IsSound}
+use Rattle.sqlite_wal.specs.Recovery.{Image}
+use Rattle.mf_store_schema.specs.declared.versions.Version.TheVariants.{Third}
+use Rattle.mf_store_audit.specs.Audits.{FindsSound, IsAuditOf}
+use Rattle.mf_store_audit.specs.declared.audits.Audit.{Audit}
+use Rattle.mf_store_audit.specs.declared.audits.Audit.TheVariants.{NoTables, OtherTables, Sound, Unsound, Unreadable}
+use Rattle.mf_store_audit.specs.declared.audits.Audit.TheVariants as audit
+use Rattle.mf_store_played.specs.Answer.{IsAnswerOf}
+use Rattle.mf_store_played.specs.declared.played.Played.{Played}
+use Rattle.mf_store_played.specs.declared.played.Played.TheVariants.{Leads, NoFounding, Stops, Differs}
+use Rattle.mf_store_verdict.specs.declared.verdict.Verdict.{Verdict}
+
+-- an audit says that it found a sound institution with a journal
+abbrev pub FindsJournal : Audit → Type 0
+FindsJournal NoTables = ⊥
+FindsJournal OtherTables = ⊥
+FindsJournal (Sound version sums) = version ≡ Third
+FindsJournal (Unsound version tables findings) = ⊥
+FindsJournal (Unreadable version unread) = ⊥
+FindsJournal (audit.BrokenJournal broken) = ⊥
+
+-- the journal is played just where the audit finds one, and what is told of the play is right
+abbrev pub IsPlayOf : Database → Audit → Option Played → Type 0
+IsPlayOf db found None = ¬ FindsJournal found
+IsPlayOf db found (Some played) = FindsJournal found × IsAnswerOf db.trees played
+
+-- the audit is right, and so is what is told of the play of the journal
+pub record IsVerdictOf (db : Database) (v : Verdict) : Type 0 where
+  pub audited : IsAuditOf db v.audit
+  pub played : IsPlayOf db v.audit v.played
+
+-- while the connection is open, it shows this database
+pub record Shows (s : State) (db : Database) : Type 0 where
+  pub is : IsTrue s.is_open → s.now ≡ db
+
+-- a play leads to the tables, as far as there was one
+abbrev pub IsPassed : Option Played → Type 0
+IsPassed None = Unit {0}
+IsPassed (Some (Leads head)) = Unit {0}
+IsPassed (Some (NoFounding head)) = Unit {0}
+IsPassed (Some (Stops number why)) = ⊥
+IsPassed (Some (Differs difference)) = ⊥
+
+-- the tables hold a sound institution, and its journal leads there, where it is played
+abbrev pub Passes : Verdict → Type 0
+Passes v = FindsSound v.audit × IsPassed v.played
+
+-- the verdict is that of the database that a file held
+pub record IsVerdictOfFile (image : Image) (v : Verdict) : Type 0 where
+  pub tables : (trees : Trees) (k : Schema) → HoldsDatabase image trees → IsSound k trees
+      → IsVerdictOf (record { schema = k; trees = trees }) v

@@ -1,0 +1,131 @@
+//! The audit of the tables of a connection, with the play of their journal.
+
+ghost use Rattle.std.specs.Prelude.{◌≡◌, ◌↔◌, IsTrue, false, IfOk, IfErr};
+ghost use Rattle.mf_base.specs.declared.fault.Fault.TheVariants.{F20};
+ghost use Rattle.sqlite.specs.Effect.{Database};
+ghost use Rattle.sqlite.specs.Held.{state};
+ghost use Rattle.sqlite.specs.State.{HasCleanDisk};
+ghost use Rattle.mf_store_schema.specs.Schemas.{IsUnchangedUnder};
+ghost use Rattle.mf_store_sound.specs.Told.{IsAny, HaveOwnRowids};
+ghost use Rattle.mf_store_audit.specs.Audits.{FindsSound, IsAuditOf};
+ghost use Rattle.mf_store_verdict.specs.Verdict.{FindsJournal, IsPassed, IsVerdictOf, Passes, Shows};
+
+use crate::playing::play_known;
+use mf_base::Fault;
+use mf_store_audit::{Audit, audit_tables};
+use mf_store_played::Played;
+use mf_store_schema::{Progress, Version};
+use sqlite::{Alter, Connection};
+use std::alloc::Global;
+
+/// An audit of tables. Where it finds a sound institution with a journal, also what the play of that says of them.
+#[derive(Drop)]
+pub struct Verdict {
+    pub audit: Audit,
+    pub played: Option<Played>,
+}
+
+/// Whether an audit found a sound institution.
+fn finds_sound(audit: &Audit) -> bool
+    ensures { IsTrue result ↔ FindsSound audit.now }
+{
+    match audit {
+        Audit::Sound { .. } => true,
+        _ => false,
+    }
+}
+
+/// Whether an audit found a sound institution with a journal.
+fn finds_journal(audit: &Audit) -> bool
+    ensures { IsTrue result ↔ FindsJournal audit.now }
+{
+    match audit {
+        Audit::Sound { version, .. } => *version == Version::Third,
+        _ => false,
+    }
+}
+
+/// Whether a play leads to the tables, as far as there was one.
+fn is_passed(played: &Option<Played>) -> bool
+    ensures { IsTrue result ↔ IsPassed played.now }
+{
+    match played {
+        None => true,
+        Some(Played::Leads(_) | Played::NoFounding(_)) => true,
+        Some(Played::Stops { .. } | Played::Differs(_)) => false,
+    }
+}
+
+/// Whether the tables pass: they hold a sound institution, and its journal leads there, where it is played.
+pub fn passes(verdict: &Verdict) -> bool
+    ensures { IsTrue result ↔ Passes verdict.now }
+{
+    finds_sound(&verdict.audit) && is_passed(&verdict.played)
+}
+
+/// The verdict by an audit that found a journal, and by what its play says.
+fn play_found<S: Alter>(
+    alloc: Global,
+    connection: &mut Connection<S>,
+    audit: Audit,
+) -> Result<Verdict, Fault>
+    requires alone { connection.old.in_transaction ≡ false }
+    requires finds { FindsJournal audit }
+    ensures kept { IsUnchangedUnder IsAny (state S.Store connection.old) (state S.Store connection.new) }
+    ensures exact { HasCleanDisk (state S.Store connection.new) → (db : Database)
+        → Shows (state S.Store connection.old) db → IsAuditOf db audit → IfOk result (IsVerdictOf db) }
+    ensures gives_up { IfErr result (λ fault. fault ≡ F20) }
+    ensures mode { connection.new.in_transaction ≡ false }
+{
+    match play_known(alloc, connection) {
+        Ok(played) => Ok(Verdict {
+            audit,
+            played: Some(played),
+        }),
+        Err(fault) => Err(fault),
+    }
+}
+
+/// The verdict by an audit.
+fn verdict_of<S: Alter>(
+    alloc: Global,
+    connection: &mut Connection<S>,
+    audit: Audit,
+) -> Result<Verdict, Fault>
+    requires alone { connection.old.in_transaction ≡ false }
+    ensures kept { IsUnchangedUnder IsAny (state S.Store connection.old) (state S.Store connection.new) }
+    ensures exact { HasCleanDisk (state S.Store connection.new) → (db : Database)
+        → Shows (state S.Store connection.old) db → IsAuditOf db audit → IfOk result (IsVerdictOf db) }
+    ensures gives_up { IfErr result (λ fault. fault ≡ F20) }
+    ensures mode { connection.new.in_transaction ≡ false }
+{
+    if finds_journal(&audit) {
+        return play_found(alloc, connection, audit);
+    }
+    Ok(Verdict {
+        audit,
+        played: None,
+    })
+}
+
+/// Audits the tables of a connection, whatever tables and rows stand there, as `audit_tables` does. Where it finds a
+/// sound institution with a journal, it plays that, in memory. It changes nothing. The error is F20, out of memory or a
+/// failure of the disk.
+pub fn audit_and_play<S: Alter, P: Progress>(
+    alloc: Global,
+    connection: &mut Connection<S>,
+    all: bool,
+    progress: &mut P,
+) -> Result<Verdict, Fault>
+    requires alone { connection.old.in_transaction ≡ false }
+    ensures kept { IsUnchangedUnder IsAny (state S.Store connection.old) (state S.Store connection.new) }
+    ensures exact { HasCleanDisk (state S.Store connection.new) → HaveOwnRowids (state S.Store connection.old).now
+        → IfOk result (IsVerdictOf (state S.Store connection.old).now) }
+    ensures gives_up { IfErr result (λ fault. fault ≡ F20) }
+    ensures mode { connection.new.in_transaction ≡ false }
+{
+    match audit_tables(alloc, connection, all, progress) {
+        Ok(audit) => verdict_of(alloc, connection, audit),
+        Err(fault) => Err(fault),
+    }
+}

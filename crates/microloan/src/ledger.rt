@@ -1,0 +1,71 @@
+//! The books of an institution that keeps a journal, written on standard output.
+
+ghost use Rattle.std.specs.Prelude.{◌≡◌, false};
+ghost use Rattle.microloan.specs.Status.{IsPrintStatus};
+
+use crate::telling::{print_bytes, tell_no_founding, tell_refusal, tell_stop};
+use crate::working::let_go;
+use mf_base::{Cause, Fault};
+use mf_ledger::Names;
+use mf_ledger_play::{BooksAsked, BooksForm};
+use mf_store::Store;
+use mf_store_ledger::{Books, write_books};
+use microloan_words::{FilePath, LedgerForm};
+use sqlite::{Connection, FileStore, Files};
+use sqlite_disk::Disk;
+use std::fs;
+use std::rt::HostRuntime;
+
+/// The form that the words ask for.
+pub fn form_asked(form: LedgerForm) -> BooksForm {
+    match form {
+        LedgerForm::Hledger => BooksForm::Hledger,
+        LedgerForm::Beancount => BooksForm::Beancount,
+        LedgerForm::Sheet => BooksForm::Sheet,
+    }
+}
+
+/// The names that a file gives, or none where no file is named. What fails is the reading of it, or memory.
+pub fn names_in(rt: &HostRuntime, file: &Option<FilePath<'_>>) -> Result<Names, Cause> {
+    let Some(file) = file else {
+        return Ok(Names::none(rt.alloc()));
+    };
+    let Ok(text) = fs::read_to_string(rt, file.as_str()) else {
+        return Err(Cause::Read);
+    };
+    match Names::read(rt.alloc(), text.as_str()) {
+        Ok(names) => Ok(names),
+        Err(_) => Err(Cause::Memory),
+    }
+}
+
+/// Closes a connection to the tables of a file, as `mf_store_files::close` does.
+fn close_tables<D: Disk + Drop>(
+    connection: Connection<FileStore<D>>,
+) -> Result<Files<D>, (Fault, FileStore<D>)>
+    requires { connection.in_transaction ≡ false }
+{
+    match connection.close_files() {
+        Ok(files) => Ok(files),
+        Err((_, rest)) => Err((Fault::F20, rest)),
+    }
+}
+
+/// Writes the books of the journal that a store keeps, and gives the program's status. The file is closed first.
+pub fn write_ledger<R: Print + Eprint + AllocGlobal, D: Disk + Drop>(
+    rt: &R,
+    store: Store<FileStore<D>>,
+    asked: &BooksAsked,
+) -> u8
+    ensures { IsPrintStatus result }
+{
+    let mut connection = store.release();
+    let books = write_books(rt.alloc(), &mut connection, asked);
+    let_go(close_tables(connection));
+    match books {
+        Ok(Books::Written(text)) => print_bytes(rt, &text),
+        Ok(Books::NoFounding) => tell_no_founding(rt),
+        Ok(Books::Stops { number, why }) => tell_stop(rt, number, why),
+        Err(fault) => tell_refusal(rt, fault),
+    }
+}

@@ -1,0 +1,161 @@
+// Takes a day along: of some offices what falls due within a week, with names and balances, their clients, and the
+// products. Names and terms never change, so those of the pack before aren't read again.
+import {alertBox, button, card, element, fill, freshId} from "../shared/elements.js";
+import {Problem, readIfThere} from "../shared/api.js";
+import {asTree, numberOf, offices, total} from "../shared/desk.js";
+import {dayOfNumber, LAST_DAY, numberOfDay} from "../shared/days.js";
+import {note} from "../shared/dialogs.js";
+import {CLIENTS_OF_A_PAGE, clientsAfter, dueBy, hasLists} from "../shared/lists.js";
+import {refusalBox} from "../shared/refusals.js";
+import {may, OFFICER, renewDay, session} from "../shared/session.js";
+import {say} from "../shared/words.js";
+import {openByPin} from "./kept-asking.js";
+import {canSeal, Locked} from "./kept-pin.js";
+import {keepPack, officeIn} from "./pack-kept.js";
+
+const DAYS = 7;  // how far ahead
+
+// The names of an office's clients, by number. The last one that is known is read again: where it has another name, the
+// desk is another one, and nothing that was known counts.
+async function clientsFrom(office, known) {
+    const names = known.slice(0, -1);
+    for (;;) {
+        const page = await clientsAfter(office, names.length);
+        if (names.length < known.length && page[0]?.name !== known.at(-1)) {
+            return clientsFrom(office, []);
+        }
+        names.push(...page.map(({name}) => name));
+        if (page.length < CLIENTS_OF_A_PAGE) {
+            return names;
+        }
+    }
+}
+
+// The same names as the lines of loans have them: else what was known is of another desk.
+async function clientsBeside(office, clients, known, lines) {
+    const isOther = lines.some(({client, name}) => known[numberOf(client) - 1] !== undefined &&
+        known[numberOf(client) - 1] !== name);
+    return isOther ? clientsFrom(office, []) : clients;
+}
+
+// A payment that is entered as this is read may stand in one list and not yet in the other.
+function lineOf({loan, client, name, oldest, due, left, last}, dueNow, day) {
+    const all = total(due);
+    const told = oldest > day ? 0n : dueNow.get(loan) ?? 0n;
+    const now = told > all ? all : told;
+    return {loan, client, name, since: oldest, due: now, later: all - now, owed: BigInt(left), last};
+}
+
+async function officePack({number, name}, day, until, known) {
+    const [now, soon, read] =
+        await Promise.all([dueBy(number, day), dueBy(number, until), clientsFrom(number, known)]);
+    const dueNow = new Map(now.map(({loan, due}) => [loan, total(due)]));
+    const clients = await clientsBeside(number, read, known, soon);
+    return {number, name, clients, lines: soon.map((line) => lineOf(line, dueNow, day))};
+}
+
+// Whether the desk is that of the pack before: there are clients that were known, and they are the same.
+function isSameDesk(before, packed) {
+    const known = packed.map(({number, clients}) => [officeIn(before, number)?.clients ?? [], clients])
+                      .filter(([names]) => names.length > 0);
+    return known.length > 0 && known.every(([names, clients]) => names.every((name, i) => name === clients[i]));
+}
+
+// Products by number, from those that are known on. One that was retired since is told by the desk once its draft is
+// sent.
+async function productsFrom(known) {
+    const list = [...known];
+    for (;;) {
+        const next = await readIfThere(`/products/${list.length + 1}`);
+        if (next === null) {
+            return list;
+        }
+        list.push(next);
+    }
+}
+
+// Reads what a pack of these offices has. before: the one that was taken along before, or null. Where the business day
+// moves meanwhile it is a pack of the day before, and says so.
+async function readDay(offices, before) {
+    const taken = Date.now();
+    const day = await renewDay();
+    window.dispatchEvent(new Event("desk-day"));
+    const until = dayOfNumber(Math.min(numberOfDay(day) + DAYS, numberOfDay(LAST_DAY)));
+    const mayEnter = may(OFFICER);
+    const packed = await Promise.all(
+        offices.map((office) => officePack(office, day, until, officeIn(before, office.number)?.clients ?? [])));
+    const products = mayEnter ? await productsFrom(isSameDesk(before, packed) ? before.products : []) : [];
+    return {
+        taken, businessDay: day, until, by: `${session.user} ${session.staff}`, mayEnter, products, offices: packed
+    };
+}
+
+// the offices to choose from, and the press that takes them along
+export async function takingCard(before, show) {
+    if (!canSeal()) {
+        return alertBox("info", say("pack.unsafe"));
+    }
+    if (!(await hasLists())) {
+        return alertBox("info", say("pack.no-lists"));
+    }
+    const list = await offices();
+    const chosen = before?.offices.map(({number}) => number) ?? [session.office];
+    const boxes = asTree(list).map((office) => officeBox(office, chosen.includes(office.number)));
+    const trouble = element("div", {"aria-live": "assertive"});
+    let isTaking = false;
+    const take = async () => {
+        if (!isTaking) {
+            isTaking = true;
+            await takeChosen({before, boxes, press, trouble, show}).finally(() => (isTaking = false));
+        }
+    };
+    const press = button(say("pack.take"), take, {class: "btn btn-primary"});
+    return card(
+        say(before === null ? "pack.take" : "pack.take-anew"), element("p", {}, say("pack.what")),
+        element(
+            "fieldset", {}, element("legend", {class: "form-label h6"}, say("offices")), boxes.map(({node}) => node)),
+        trouble, element("div", {class: "page-actions mt-3"}, press));
+}
+
+function officeBox(office, checked) {
+    const id = freshId("pack-office");
+    const box = element("input", {type: "checkbox", id, class: "form-check-input mt-0", checked});
+    const indent = "\u00a0\u00a0\u00a0".repeat(office.depth);
+    const words = element("span", {}, `${indent}${office.number} ${office.name}`);
+    return {office, box, node: element("label", {class: "by-itself", "for": id}, box, words)};
+}
+
+async function takeChosen({before, boxes, press, trouble, show}) {
+    const chosen = boxes.filter(({box}) => box.checked).map(({office}) => office);
+    fill(trouble);
+    if (chosen.length === 0) {
+        fill(trouble, alertBox("warning", say("pack.choose")));
+        return;
+    }
+    if (!(await openByPin())) {
+        return;
+    }
+    navigator.storage?.persist?.();  // so that no browser clears it away where its room gets short
+    press.disabled = true;
+    press.textContent = say("loading");
+    try {
+        await keepPack(await readDay(chosen, before));
+    } catch (problem) {
+        fill(trouble, wordsAfter(problem));
+        return;
+    } finally {
+        press.disabled = false;
+        press.textContent = say("pack.take");
+    }
+    await show();
+    note(say("pack.taken"));
+}
+
+// Where it was locked meanwhile the page asks for the PIN in place of this.
+function wordsAfter(problem) {
+    if (problem instanceof Problem) {
+        return refusalBox(problem);
+    }
+    console.error(problem);
+    return problem instanceof Locked ? null : alertBox("danger", say("kept.not-kept"));
+}
