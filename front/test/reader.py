@@ -18,8 +18,9 @@ from selenium.webdriver.support.ui import Select
 import desk
 
 PATIENCE = 30
-# What the program refuses is logged by the browser as a failure to load; these statuses are what a page asked for.
-EXPECTED = re.compile(r"status of (403|404|409) ")
+# What the program refuses is logged by the browser as a failure to load; these statuses are what a page asked for. So
+# is a worker whose script didn't come: the pages work without it, and the tests without a network see that it comes.
+EXPECTED = re.compile(r"status of (403|404|409) |occurred when fetching the script")
 
 
 FREE = []  # browsers that are free: each with its language, and the addresses at which somebody is signed in there

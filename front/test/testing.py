@@ -66,8 +66,25 @@ def tests_of(suite):
         yield from tests_of(part) if isinstance(part, unittest.TestSuite) else [part]
 
 
-def main(folder):
-    """Runs the tests that the arguments name, else all of the folder."""
+def run(suite):
+    return unittest.TextTestRunner(stream=sys.stdout, verbosity=2, resultclass=Result).run(suite)
+
+
+def failed_twice(wrong, retries):
+    """Which of the tests that failed fail again. More than `retries` of them aren't tried again."""
+    if not 0 < len(wrong) <= retries:
+        return wrong
+    print("these failed, and are run once more:", *sorted(wrong), sep="\n    ", flush=True)
+    second = run(unittest.defaultTestLoader.loadTestsFromNames(sorted(wrong)))
+    twice = wrong if second.faults else second.wrong
+    for name in sorted(wrong - twice):
+        print(f"unsteady: {name} failed once, and passed when it was run again")
+    return twice
+
+
+def main(folder, retries=0):
+    """Runs the tests that the arguments name, else all of the folder. Where at most so many fail, these are run once
+    more, and count as they end then."""
     sys.path.insert(0, folder)
     names = [word for word in sys.argv[1:] if not word.startswith("-")]
     loader = unittest.defaultTestLoader
@@ -76,9 +93,10 @@ def main(folder):
         print("\n".join(test.id() for test in tests_of(suite)))
         return
     sys.stderr = sys.stdout  # one stream, so that the last line is the last
-    result = unittest.TextTestRunner(stream=sys.stdout, verbosity=2, resultclass=Result).run(suite)
-    failed = len(result.wrong) + result.faults
-    passed = result.testsRun - len(result.wrong) - len(result.skipped)
+    result = run(suite)
+    wrong = failed_twice(result.wrong, retries)
+    failed = len(wrong) + result.faults
+    passed = result.testsRun - len(wrong) - len(result.skipped)
     skipped = f", {len(result.skipped)} skipped" if result.skipped else ""
     print(f"{passed} passed, {failed} failed{skipped}", flush=True)
     sys.exit(1 if failed or not passed else 0)
