@@ -16,7 +16,8 @@ use Rattle.microloan_commands.specs.Served.{ServesConnections, whole_of}
 
 module _ {S : Type 0} (store : Ghosts S) (choice : Choice) (told : Bool) where
   -- one list of messages after another
-  both : (es fs : List Exchange) (old mid new : S) → ListsAnswerAll store choice told old es mid → ListsAnswerAll store choice told mid fs new
+  both : (es fs : List Exchange) (old mid new : S) → ListsAnswerAll store choice told old es mid
+      → ListsAnswerAll store choice told mid fs new
       → ListsAnswerAll store choice told old (es ++ fs) new
   both [] fs old mid new first second = subst (λ s. ListsAnswerAll store choice told s fs new) first second
   both (e ∷ es) fs old mid new (next, one, rest) second = (next, one, both es fs next mid new rest second)

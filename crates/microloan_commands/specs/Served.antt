@@ -6,8 +6,8 @@ use Rattle.mf_wire.specs.Exchanges.{Exchange}
 use Rattle.mf_lists_runs.specs.Choice.{Choice}
 use Rattle.mf_lists_runs.specs.Exchanges.{ListsAnswerAll}
 
--- The store answered messages one after another, by the desk or by the lists, at most one a connection, and nothing else
--- was done to it. Something may be told of them or nothing is. The responses of so many were written whole.
+-- The store answered messages one after another, by the desk or by the lists, at most one a connection, and nothing
+-- else was done to it. Something may be told of them or nothing is. The responses of so many were written whole.
 pub record ServesConnections {S : Type 0} (store : Ghosts S) (choice : Choice) (told : Bool) (connections : ℕ)
     (old new : S) (count : ℕ) : Type 0 where
   pub exchanges : List Exchange

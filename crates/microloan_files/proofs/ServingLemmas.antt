@@ -20,7 +20,8 @@ use Rattle.microloan_commands.specs.Served.{ServesConnections}
 use Rattle.microloan_files.specs.Serving.{IsServedRun, ServesSo}
 
 -- a disk that is good in the end was so at the beginning
-pub good_before : {S : Type 0} (store : model.Ghosts S) (choice : Choice) (told : Bool) (old : S) (es : List Exchange) (new : S)
+pub good_before : {S : Type 0} (store : model.Ghosts S) (choice : Choice) (told : Bool) (old : S) (es : List Exchange)
+    (new : S)
     → ListsAnswerAll store choice told old es new → store.clean new → store.clean old
 good_before store choice told old [] new same clean = subst store.clean same clean
 good_before store choice told old (e ∷ es) new (mid, one, rest) clean =
@@ -44,14 +45,16 @@ same_lines told (x ∷ es) (l ∷ run) (to_head ∷ others) (f ∷ fs) e h =
 abbrev pub IsWithoutMemory : {S : Type 0} → S → S → StreamFault → Type 0
 IsWithoutMemory old new fault = (fault ≡ record { answered = 0; cause = Memory }) × (new ≡ old)
 
-pub served_good_before : {S : Type 0} (store : model.Ghosts S) (choice : Choice) (told : Bool) (connections : ℕ) (old new : S)
+pub served_good_before : {S : Type 0} (store : model.Ghosts S) (choice : Choice) (told : Bool) (connections : ℕ)
+    (old new : S)
     (result : Result ℕ StreamFault) → IfOk result (ServesConnections store choice told connections old new)
     → IfErr result (IsWithoutMemory old new) → store.clean new → store.clean old
 served_good_before store choice told connections old new (Ok count) served none clean =
     good_before store choice told old served.exchanges new served.answered clean
 served_good_before store choice told connections old new (Err fault) served none clean = subst store.clean none.1 clean
 
-module _ {D : Type 0} {g : Ghosts D} (choice : Choice) (told : Bool) (i : Institution) (first final : KnownStore (FileStore D g))
+module _ {D : Type 0} {g : Ghosts D} (choice : Choice) (told : Bool) (i : Institution)
+    (first final : KnownStore (FileStore D g))
     (K : List Line
     → Type 0)
     (stood : StandsFor over_files first i) (leaves : Leaves over_files first (i ∷ []))
@@ -88,7 +91,8 @@ module _ {D : Type 0} {g : Ghosts D} (choice : Choice) (told : Bool) (i : Instit
   pub serves_so : (connections : ℕ) (result : Result ℕ StreamFault)
       → IfOk result (ServesConnections over choice told connections first final)
       → IfErr result (IsWithoutMemory first final)
-      → ((es : List Exchange) → ListsAnswerAll over choice told first es final → ListsServeOn over choice told i es first final)
+      → ((es : List Exchange) → ListsAnswerAll over choice told first es final
+      → ListsServeOn over choice told i es first final)
       → ServesSo choice told i connections K result
   serves_so connections (Ok count) served none law =
       serve_so connections count served (law served.exchanges served.answered)

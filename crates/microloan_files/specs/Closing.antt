@@ -34,7 +34,8 @@ module _ {D : Type 0} {g : Ghosts D} where
 
   -- The lines of a source were answered as the result says, up to its end or to a fault, by one run on the institution,
   -- with lists or without. It is empty where there was no memory to begin. The files were closed after it.
-  pub record RunsAndCloses (choice : Choice) (told : Bool) (i : Institution) (closed : Result (Files D) (Fault × FileStore D g))
+  pub record RunsAndCloses (choice : Choice) (told : Bool) (i : Institution)
+      (closed : Result (Files D) (Fault × FileStore D g))
       (streams : Streams)
       (result : Result ℕ StreamFault) : Type 0 where
     pub run : List Line

@@ -11,7 +11,8 @@ use Rattle.mf_lists_runs.specs.Exchanges.{told_responses}
 -- The messages of at most so many connections, of which something may be told or nothing is, are the lines of the run
 -- on the institution, and the responses are those of what its lines are told, by the desk or by the lists; so many were
 -- written whole. What each office sees and is told is isolated.
-pub record IsServedRun (choice : Choice) (told : Bool) (i : Institution) (connections count : ℕ) (run : List Line) : Type 0 where
+pub record IsServedRun (choice : Choice) (told : Bool) (i : Institution) (connections count : ℕ) (run : List Line)
+    : Type 0 where
   pub exchanges : List Exchange
   pub to_heads : List Bool
   pub each : length exchanges ≤ connections

@@ -29,5 +29,6 @@ returns-clause-ends g c = λ well i stood leaves.
     (c.close.ensures.premise well)
     stood leaves
     (λ run range stands after. close_after c.run-ended.new.store c.close.result c.close.ensures.left_whole
-    c.close.ensures.kept well i run stands after) (choice_if folded (is_some c.args.lists)) _ c.run-ended.result c.run-ended.ensures.ends in
+    c.close.ensures.kept well i run stands after) (choice_if folded (is_some c.args.lists)) _ c.run-ended.result
+    c.run-ended.ensures.ends in
     record { run = t.0; ended = t.1; left = t.2 }

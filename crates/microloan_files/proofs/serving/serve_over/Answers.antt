@@ -13,7 +13,8 @@ returns-clause-premise g c = λ well.
       stands = StandsFor over_files;
       clean = IsClean over_files;
       leaves = Leaves over_files;
-    }) (choice_if folded (is_some c.args.lists)) c.args.told c.args.connections c.args.store c.serve_connections-ended.new.store
+    }) (choice_if folded (is_some c.args.lists)) c.args.told c.args.connections c.args.store
+    c.serve_connections-ended.new.store
     c.serve_connections-ended.result c.serve_connections-ended.ensures.served c.serve_connections-ended.ensures.memory
     (c.hand_back.ensures.premise well)
 
@@ -26,6 +27,7 @@ returns-clause-ends g c = λ well i stood leaves.
     (λ run range stands after. c.hand_back.ensures.beginning well i run stood.sound range after)
     c.args.connections c.serve_connections-ended.result c.serve_connections-ended.ensures.served
     c.serve_connections-ended.ensures.memory
-    (λ es answered. c.served_messages_are_isolated.ensures (choice_if folded (is_some c.args.lists)) i c.args.told es c.args.store
+    (λ es answered. c.served_messages_are_isolated.ensures (choice_if folded (is_some c.args.lists)) i c.args.told es
+    c.args.store
     c.serve_connections-ended.new.store answered
     good stood)

@@ -59,6 +59,7 @@ returns-in-None-clause-step g c =
     let short : nat_le (length line) longest_line ≡ true = le-leb (length line) longest_line c.requires in
     let nobody : cond (asks_list (call_of_parts p)) (caller_of p.caller) None ≡ None = search rules in
     let choice = choice_if g.L.Lists.folded (is_some c.args.self.now.lists) in
-    plain_calls g.S.InstitutionStore choice (λ t. reply_line_of c.answer-in-None.result ≡ told_line t) (call_in told line) _ _
+    plain_calls g.S.InstitutionStore choice (λ t. reply_line_of c.answer-in-None.result ≡ told_line t)
+    (call_in told line) _ _
     (asks_where choice (call_in told line) (ap asks_list (line_call told line p short parts)
     ∙ none_asked (call_of_parts p) nobody)) c.answer-in-None.ensures.step
