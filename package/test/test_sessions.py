@@ -108,6 +108,7 @@ class Sessions(roots.ServedDesk):
         self.assertIn("all", self.root.run(report, given=OWN + "\n"))
         shown = self.root.run("curl -s -o /dev/null -w '%{http_code} %{redirect_url}' http://desk.example.org/x")
         self.assertEqual(shown, "301 https://desk.example.org/x")
+        self.assertIn("the front's certificate ends within 14 days: renew it", self.root.run("microloan-check; true"))
 
     def comes_back_with_a_backup(self):
         """The directory is lost; the backup has the people, their own passwords, their keys, and what the engine needs."""
