@@ -42,7 +42,7 @@ ghost use Rattle.mf_guarantees.specs.Kept.{AllRemains};
 ghost use Rattle.mf_model.specs.Desk.{change_in, outcome, staff_at};
 ghost use Rattle.mf_model.specs.Run.{Line, last};
 ghost use Rattle.mf_model.specs.Sound.{IsSound, AreInRange};
-ghost use Rattle.mf_model.specs.Store.{ledger_at, account_of};
+ghost use Rattle.mf_model.specs.Store.{ledger_at, account_of, statement_at, instalments_at};
 ghost use Rattle.mf_guarantees.specs.Money.{IsAccountedFor};
 ghost use Rattle.mf_guarantees.specs.Entered.{AtSomeLine, IsEntered, IsTakenBack, entry_at_place, is_reversed};
 ghost use Rattle.mf_guarantees.specs.Moves.{Rises, repaid, paid_out};
@@ -53,6 +53,7 @@ ghost use Rattle.mf_guarantees.specs.Parts.{principal_and_interest};
 ghost use Rattle.mf_guarantees.specs.Penalties.{NoneBearsTwo, standing_penalties};
 ghost use Rattle.mf_guarantees.specs.Reorder.{AreInAnyOrder, AreReordered, IsCutInTwo};
 ghost use Rattle.mf_guarantees.specs.Shares.{SettlesAtMostItsAmount};
+ghost use Rattle.mf_guarantees.specs.Sheets.{AreTheSame, OnlyReceipts, taken_in};
 ghost use Rattle.mf_guarantees.specs.Sources.{HasSources};
 ghost use Rattle.mf_guarantees.specs.Sums.{paid_out_in, all_paid_out, AreAccountedFor};
 ghost use Rattle.mf_guarantees.specs.Roles.{is_repayment, is_concession};
@@ -249,6 +250,20 @@ pub fn the_order_of_entering_counts_nothing()
     ensures cut_sums { (loan : DisbursedLoan) (entries : List Entry) → IsSoundDisbursed loan →
         AreNumbered entries → IsCutInTwo loan.entries entries →
         balances_of (record loan { entries = entries }) ≡ balances_of loan }
+{}
+
+/// A receipt is once, whoever of those who see the loan sends it, and from however many collection sheets, merged in any
+/// order. Where two runs take the same repayments with receipts, in whatever order and however often each, every loan
+/// is shown alike after both: its status, its sums and its instalments. All other lines of the runs change nothing.
+pub fn sheets_merge_in_any_order()
+    ensures sums { (i : Institution) (lines others : List Line) (loan : Account) → IsSound i → AreInRange lines →
+        AreInRange others → OnlyReceipts lines i → OnlyReceipts others i →
+        AreTheSame (taken_in lines i) (taken_in others i) →
+        statement_at loan (last lines i) ≡ statement_at loan (last others i) }
+    ensures instalments { (i : Institution) (lines others : List Line) (loan : Account) → IsSound i → AreInRange lines →
+        AreInRange others → OnlyReceipts lines i → OnlyReceipts others i →
+        AreTheSame (taken_in lines i) (taken_in others i) →
+        instalments_at loan (last lines i) ≡ instalments_at loan (last others i) }
 {}
 
 /// Who pays more never has more left to pay: where some repayments of a loan are of more, and all else that was entered

@@ -1,0 +1,51 @@
+-- Runs that enter repayments with receipts, as from collection sheets.
+use Rattle.std.specs.Prelude.{◌≡◌, ℕ, Bool, true, false, cond, is_some, List, [], ◌∷◌, Option, Some, Result, Ok, Err}
+use Rattle.std.specs.List.{Contains}
+use Rattle.mf_base.specs.declared.fault.Fault.{Fault}
+use Rattle.mf_office.specs.declared.account.Account.{Account}
+use Rattle.mf_model.specs.declared.reply.LoanReply.{LoanReply}
+use Rattle.mf_model.specs.declared.reply.LoanReply.TheVariants.{Entered, Repeated}
+use Rattle.mf_model.specs.declared.reply.Reply.{Reply}
+use Rattle.mf_model.specs.declared.reply.Reply.TheVariants as reply
+use Rattle.mf_model.specs.declared.request.LoanRequest.TheVariants.{Repay}
+use Rattle.mf_model.specs.declared.request.Repayment.{Repayment}
+use Rattle.mf_model.specs.declared.request.Request.{Request}
+use Rattle.mf_model.specs.declared.request.Request.TheVariants.{Loan}
+use Rattle.mf_model.specs.Institution.{Institution}
+use Rattle.mf_model.specs.Run.{Line, answer, change_of_line, next}
+
+-- the request is a repayment of a loan, and has a receipt
+pub record IsReceipted (asked : Request) : Type 0 where
+  pub loan : Account
+  pub repayment : Repayment
+  pub receipt : List ℕ
+  pub request_is : asked ≡ Loan loan (Repay repayment)
+  pub receipt_is : repayment.receipt ≡ Some receipt
+
+-- each line of a run that changes something is a repayment with a receipt; all others are refused, given up, repeated or
+-- only read
+abbrev pub OnlyReceipts : List Line → Institution → Type 0
+OnlyReceipts [] i = Unit {0}
+OnlyReceipts (l ∷ ls) i = (is_some (change_of_line l i) ≡ true → IsReceipted l.call.request) × OnlyReceipts ls (next l i)
+
+-- a request on a loan is told the number of an entry, which is new or was there
+abbrev pub is_entry_told_of_loan : LoanReply → Bool
+is_entry_told_of_loan (Entered seq) = true
+is_entry_told_of_loan (Repeated seq) = true
+is_entry_told_of_loan _ = false
+
+-- the same of a request
+abbrev pub is_entry_told : Result Reply Fault → Bool
+is_entry_told (Ok (reply.Loan loan told)) = is_entry_told_of_loan told
+is_entry_told _ = false
+
+-- the requests of a run that were taken: those that were told an entry's number
+abbrev pub taken_in : List Line → Institution → List Request
+taken_in [] i = []
+taken_in (l ∷ ls) i =
+    cond (is_entry_told (answer l i)) (l.call.request ∷ taken_in ls (next l i)) (taken_in ls (next l i))
+
+-- the same requests, in whatever order and however often each
+pub record AreTheSame (xs ys : List Request) : Type 0 where
+  pub first : (asked : Request) → Contains xs asked → Contains ys asked
+  pub second : (asked : Request) → Contains ys asked → Contains xs asked
