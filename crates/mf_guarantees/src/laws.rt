@@ -1,7 +1,7 @@
 //! Guarantees in plain words. Each function does nothing: its contract is the law that the sentence above it tells.
 
 ghost use Rattle.std.specs.Prelude.{◌≡◌, ◌≢◌, ◌≤◌, ◌<◌, ◌+◌, ◌-◌, ◌++◌, ℕ, List, [], ◌∷◌, Some, None, true, false, pos};
-ghost use Rattle.std.specs.Prelude.{length, map, slice_get, sum};
+ghost use Rattle.std.specs.Prelude.{length, map, option_map, slice_get, sum};
 ghost use Rattle.std.specs.List.{AllZip, flat_map};
 ghost use Rattle.mf_office.specs.declared.account.Account.{Account};
 ghost use Rattle.mf_account.specs.Balance.{balances_of};
@@ -53,7 +53,8 @@ ghost use Rattle.mf_guarantees.specs.Parts.{principal_and_interest};
 ghost use Rattle.mf_guarantees.specs.Penalties.{NoneBearsTwo, standing_penalties};
 ghost use Rattle.mf_guarantees.specs.Reorder.{AreInAnyOrder, AreReordered, IsCutInTwo};
 ghost use Rattle.mf_guarantees.specs.Shares.{SettlesAtMostItsAmount};
-ghost use Rattle.mf_guarantees.specs.Sheets.{AreTheSame, OnlyReceipts, taken_in};
+ghost use Rattle.mf_guarantees.specs.Sheets.{AreTheSame, OnlyReceipts, taken_in, first_receipt, second_receipt};
+ghost use Rattle.mf_guarantees.specs.Sheets.{worked_desk, worked_sheets};
 ghost use Rattle.mf_guarantees.specs.Sources.{HasSources};
 ghost use Rattle.mf_guarantees.specs.Sums.{paid_out_in, all_paid_out, AreAccountedFor};
 ghost use Rattle.mf_guarantees.specs.Roles.{is_repayment, is_concession};
@@ -347,6 +348,9 @@ pub fn all_but_the_last_instalment_are_the_fixed_one()
 /// 340.03, 340.03 and 340.01. Of 0.04 at no interest the second instalment is the last that repays something. Of two
 /// penalties on an instalment, one of them reversed, one stands; a penalty and a repayment leave what was agreed; and of
 /// 1100.00 that is repaid where 1020.00 is owed, the shares come to 1020.00.
+///
+/// Of two sheets with the same two receipts, 200.00 and 500.00, all four lines are taken, and 700.00 is repaid: 20.00 of
+/// interest and 680.00 of principal.
 pub fn worked_rows()
     ensures at_risk { par30_of (line_of_loans 1 worked_loans) ≡ 3333 }
     ensures on_time { on_time worked_loans ≡ 20000 }
@@ -370,6 +374,10 @@ pub fn worked_rows()
         ≡ map agreed_by (schedule_of (worked_loan [])) }
     ensures shares { map (λ told. amount_of_shares told.shares) (entries_of (worked_loan (overpayment ∷ [])))
         ≡ 102000 ∷ [] }
+    ensures taken { taken_in worked_sheets worked_desk
+        ≡ second_receipt ∷ first_receipt ∷ first_receipt ∷ second_receipt ∷ [] }
+    ensures merged { option_map (λ told. told.balances.paid) (statement_at (record { office = 1; number = 1 })
+        (last worked_sheets worked_desk)) ≡ Some (0 ∷ 0 ∷ 2000 ∷ 68000 ∷ []) }
     ensures repayment { (loan : Account) (asked : Repayment) →
         (is_repayment (Loan loan (Repay asked)) ≡ true) × (is_concession (Loan loan (Repay asked)) ≡ false) }
     ensures write_off { (loan : Account) →
