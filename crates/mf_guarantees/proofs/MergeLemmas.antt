@@ -1,5 +1,5 @@
 -- Two runs that take the same repayments with receipts leave each loan alike.
-use Rattle.std.proofs.Common.{◌≡◌, ℕ, Bool, true, false, cond, List, [], ◌∷◌, ◌++◌, map, Option, Some, None, refl, sym, ap}
+use Rattle.std.proofs.Common.{◌≡◌, ℕ, Bool, true, false, List, [], ◌∷◌, ◌++◌, map, Option, Some, None, refl, sym, ap}
 use Rattle.std.proofs.Common.{◌∙◌, subst}
 use Rattle.std.specs.Prelude.{not, ◌&&◌, ◌||◌, nat_lt, if◌then◌else◌, option_map}
 use Rattle.std.specs.List.{AllByRecursion, list_any}
@@ -9,7 +9,6 @@ use Rattle.mf_catalog.specs.declared.terms.Terms.{Terms}
 use Rattle.mf_office.specs.declared.account.Account.{Account}
 use Rattle.mf_alloc.specs.Sums.{is_open}
 use Rattle.mf_account.specs.declared.entry.Entry.{Entry}
-use Rattle.mf_account.specs.declared.entry.Kind.{Kind}
 use Rattle.mf_account.specs.declared.entry.Kind.TheVariants.{Repay}
 use Rattle.mf_account.specs.Account.{status_of}
 use Rattle.mf_account.specs.Balance.{balances_by, balances_of}
@@ -34,7 +33,7 @@ use Rattle.mf_model.proofs.SoundLemmas.{last_sound}
 use Rattle.mf_guarantees.specs.Reorder.{AreInAnyOrder, AreReshuffled, what_counts}
 use Rattle.mf_guarantees.specs.Sheets.{AreTheSame, OnlyReceipts, taken_in}
 use Rattle.mf_guarantees.proofs.ReshuffleLemmas.{reshuffled_same}
-use Rattle.mf_guarantees.proofs.SheetLemmas.{Collects, IsCollected, bare, bare_of, collects, one_of, with_more}
+use Rattle.mf_guarantees.proofs.SheetLemmas.{Collects, IsCollected, bare, collects, one_of, with_more}
 use Rattle.mf_guarantees.proofs.ShuffleLemmas.{IsAmong, OnlyRepay, shuffled, shuffled_behind}
 
 -- ---- the entries

@@ -1,5 +1,5 @@
 -- What a line of a run does with a receipt.
-use Rattle.std.proofs.Common.{◌≡◌, ◌≢◌, ◌⊎◌, ℕ, zero, suc, ◌+◌, ◌-◌, Bool, true, false, cond, List, [], ◌∷◌, ◌++◌}
+use Rattle.std.proofs.Common.{◌≡◌, ◌⊎◌, ℕ, zero, suc, ◌+◌, ◌-◌, Bool, true, false, cond, List, [], ◌∷◌, ◌++◌}
 use Rattle.std.proofs.Common.{Option, Some, None, Result, Ok, Err, inl, inr, refl, sym, ap, ◌∙◌, subst, arith}
 use Rattle.std.proofs.Common.{append_assoc}
 use Rattle.std.specs.Prelude.{◌==◌, ◌&&◌, is_some, slice_get}
@@ -39,7 +39,7 @@ use Rattle.mf_model.specs.Tree.{parent_of, seen_office}
 use Rattle.mf_model.proofs.Growing.{numbered_suc}
 use Rattle.mf_model.proofs.ReceiptLemmas.{IsPut, uses_in_push}
 use Rattle.mf_guarantees.specs.Sheets.{IsReceipted, is_entry_told}
-use Rattle.mf_guarantees.proofs.LoanSteps.{ChangesLoan, loan_changes, change_told, entered_is, repeated_none}
+use Rattle.mf_guarantees.proofs.LoanSteps.{loan_changes, change_told, entered_is, repeated_none}
 
 -- ---- the receipts of an office with an entry more
 
@@ -116,7 +116,8 @@ module _ (n : ℕ) (e : Entry) (r : List ℕ) (ls : List Ledger) (l : Ledger) (h
   pub used_now : first_use r (uses_from 1 ls) ≡ None
       → first_use r (uses_from 1 (with_numbered n (with_new_entry e) ls)) ≡ Some (use_now r n e)
   used_now free =
-      used_then (uses_from 1 ls) (uses_from 1 (with_numbered n (with_new_entry e) ls)) (use_now r n e) r put_receipt free
+      used_then (uses_from 1 ls) (uses_from 1 (with_numbered n (with_new_entry e) ls)) (use_now r n e) r put_receipt
+      free
       ∙ ap (λ b. cond b (Some (use_now r n e)) None) ((bytes_eq-Decides r r).1 refl)
 
   pub used_only : (other : List ℕ) (u : Use) → first_use other (uses_from 1 ls) ≡ None

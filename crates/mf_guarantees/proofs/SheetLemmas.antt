@@ -1,11 +1,10 @@
 -- What a run of repayments with receipts leaves of a loan.
-use Rattle.std.proofs.Common.{◌≡◌, ◌≢◌, ◌⊎◌, ◌<◌, ℕ, zero, suc, Bool, true, false, cond, List, [], ◌∷◌, ◌++◌, length, map}
-use Rattle.std.proofs.Common.{Option, Some, None, Ok, inl, inr, refl, sym, ap, ◌∙◌, subst, arith, append_assoc}
+use Rattle.std.proofs.Common.{◌≡◌, ◌≢◌, ◌⊎◌, ℕ, zero, suc, Bool, true, false, cond, List, [], ◌∷◌, ◌++◌, map}
+use Rattle.std.proofs.Common.{Option, Some, None, inl, inr, refl, sym, ap, ◌∙◌, subst, arith, append_assoc}
 use Rattle.std.specs.Prelude.{is_some, option_map}
 use Rattle.std.specs.List.{AllByRecursion, Contains}
 use Rattle.std.proofs.lemmas.List.{append-nil}
 use Rattle.mf_office.specs.declared.account.Account.{Account}
-use Rattle.mf_office.specs.declared.caller.Caller.{Caller}
 use Rattle.mf_alloc.specs.declared.row.Portion.TheVariants.{Principal}
 use Rattle.mf_account.specs.declared.entry.Entry.{Entry}
 use Rattle.mf_account.specs.declared.entry.Kind.TheVariants as kind
@@ -13,11 +12,10 @@ use Rattle.mf_model.specs.declared.request.LoanRequest.TheVariants.{Repay}
 use Rattle.mf_model.specs.declared.request.Repayment.{Repayment}
 use Rattle.mf_model.specs.declared.request.Request.{Request}
 use Rattle.mf_model.specs.declared.request.Request.TheVariants as request
-use Rattle.mf_model.specs.Desk.{change_in, outcome}
-use Rattle.mf_model.specs.Institution.{Institution, Office, Ledger, Change, Rows_become, office_at, with_rows, after_line}
-use Rattle.mf_model.specs.Institution.{after}
-use Rattle.mf_model.specs.Loans.{LedgerChange, loan_changed, with_new_entry, repayment}
-use Rattle.mf_model.specs.Receipts.{Use, uses_from, first_use, repeated_seq}
+use Rattle.mf_model.specs.Institution.{Institution, Office, Ledger, Change, Rows_become, office_at, with_rows, after}
+use Rattle.mf_model.specs.Institution.{after_line}
+use Rattle.mf_model.specs.Loans.{loan_changed, with_new_entry, repayment}
+use Rattle.mf_model.specs.Receipts.{Use, uses_from, first_use}
 use Rattle.mf_model.specs.Run.{Line, answer, change_of_line, next, noted_of, last}
 use Rattle.mf_model.specs.Sound.{IsSound, AreInRange}
 use Rattle.mf_model.specs.Store.{rows_of, use_at, ledger_at}
@@ -27,9 +25,9 @@ use Rattle.mf_model.proofs.Lasting.{known_last}
 use Rattle.mf_model.proofs.SoundLemmas.{next_sound}
 use Rattle.mf_model.proofs.StaffLemmas.{rows_found}
 use Rattle.std.proofs.lemmas.Bool.{cases_eq}
-use Rattle.mf_guarantees.specs.Sheets.{IsReceipted, OnlyReceipts, is_entry_told, taken_in}
+use Rattle.mf_guarantees.specs.Sheets.{OnlyReceipts, is_entry_told, taken_in}
 use Rattle.mf_guarantees.proofs.EnteredLemmas.{LedgersAfter, ledgers_after, same_account}
-use Rattle.mf_guarantees.proofs.ReceiptSteps.{use_now, used_now, used_only, Enters, line_enters, IsKnown, told_so, IsOf}
+use Rattle.mf_guarantees.proofs.ReceiptSteps.{use_now, used_now, used_only, Enters, line_enters, told_so, IsOf}
 use Rattle.mf_guarantees.proofs.ReceiptSteps.{is_of}
 use Rattle.mf_guarantees.proofs.ShuffleLemmas.{IsAmong, EachOnce}
 
@@ -332,8 +330,11 @@ module _ (l : Line) (i : Institution) (w : Enters l i) where
           ∙ ap (λ (es : List Entry). Some (record w.ledger { entries = es }))
           (append_assoc w.ledger.entries (made ∷ []) c.news)
           ∙ sym (ap (option_map (with_more (made ∷ c.news))) ledgers.before);
-      each = (first, all_map (IsCollected w.loan ls (next l i)) (IsCollected w.loan (l ∷ ls) i) c.news
-          (still w.loan l ls i (before_too w.loan.office)) c.each);
+      each = (
+        first,
+        all_map (IsCollected w.loan ls (next l i)) (IsCollected w.loan (l ∷ ls) i) c.news
+            (still w.loan l ls i (before_too w.loan.office)) c.each,
+      );
       all = λ asked r taken has free. elim (taken_cases l ls i (request.Loan w.loan (Repay asked)) taken) [
         | inl here ↦ inl (ap bare_of (sym (this_one asked here.1)))
         | inr more ↦ go asked r more has free (use_at w.loan.office r (next l i)) refl

@@ -1,6 +1,6 @@
 -- Runs that enter repayments with receipts, as from collection sheets.
 use Rattle.std.specs.Prelude.{◌≡◌, ℕ, Bool, true, false, cond, is_some, List, [], ◌∷◌, ◌++◌, codes, map}
-use Rattle.std.specs.Prelude.{Option, Some, Result, Ok, Err}
+use Rattle.std.specs.Prelude.{Some, Result, Ok}
 use Rattle.std.specs.List.{Contains}
 use Rattle.mf_base.specs.declared.fault.Fault.{Fault}
 use Rattle.mf_office.specs.declared.account.Account.{Account}
@@ -28,8 +28,8 @@ pub record IsReceipted (asked : Request) : Type 0 where
   pub request_is : asked ≡ Loan loan (Repay repayment)
   pub receipt_is : repayment.receipt ≡ Some receipt
 
--- each line of a run that changes something is a repayment with a receipt: the others are refused, given up or repeated,
--- or they only read
+-- each line of a run that changes something is a repayment with a receipt: the others are refused, given up or
+-- repeated, or they only read
 abbrev pub OnlyReceipts : List Line → Institution → Type 0
 OnlyReceipts [] i = Unit {0}
 OnlyReceipts (l ∷ ls) i = (is_some (change_of_line l i) ≡ true → IsReceipted l.call.request)

@@ -229,8 +229,8 @@ pub fn a_reversal_is_as_never_entered()
 {}
 
 /// Entries of different days may be entered in any order, by anybody and with any receipts: the instalments and the
-/// sums of the loan are the same, since it is the days that count. Repayments of one day may change places too, where no
-/// other entry of that day stands between them. And a repayment comes to the same as two of the same day that follow
+/// sums of the loan are the same, since it is the days that count. Repayments of one day may change places too, where
+/// no other entry of that day stands between them. And a repayment comes to the same as two of the same day that follow
 /// each other and come to its amount.
 pub fn the_order_of_entering_counts_nothing()
     ensures instalments { (loan : DisbursedLoan) (entries : List Entry) → AreNumbered loan.entries →
@@ -253,9 +253,10 @@ pub fn the_order_of_entering_counts_nothing()
         balances_of (record loan { entries = entries }) ≡ balances_of loan }
 {}
 
-/// A receipt is once, whoever of those who see the loan sends it, and from however many collection sheets, merged in any
-/// order. Where two runs take the same repayments with receipts, in whatever order and however often each, every loan
-/// is shown alike after both: its status, its sums and its instalments. All other lines of the runs change nothing.
+/// A receipt counts once, whoever of those who see the loan sends it, and on however many collection sheets. The sheets
+/// may be merged in any order. Where two runs take the same repayments with receipts, in any order and each once or
+/// more often, every loan is shown alike after both: its status, its sums and its instalments. It is asked that no
+/// other line of the runs changes anything.
 pub fn sheets_merge_in_any_order()
     ensures sums { (i : Institution) (lines others : List Line) (loan : Account) → IsSound i → AreInRange lines →
         AreInRange others → OnlyReceipts lines i → OnlyReceipts others i →
@@ -327,8 +328,8 @@ pub fn equal_parts_differ_by_at_most_a_cent()
 {}
 
 /// Where a loan is repaid in fixed instalments, each after the graces is of the fixed amount, but for the last that
-/// repays something; and none is of more. Left out is the first after a grace of interest, which bears that of the grace
-/// too.
+/// repays something; and none is of more. Left out is the first after a grace of interest, which bears that of the
+/// grace too.
 pub fn all_but_the_last_instalment_are_the_fixed_one()
     ensures fixed { (terms : Terms) (principal n day i j : ℕ) → IsLoanWithinLimits terms principal n →
         terms.method ≡ Fixed → ComesAfter terms.principal_grace n i → BearsItsOwnInterest terms i →
@@ -341,16 +342,16 @@ pub fn all_but_the_last_instalment_are_the_fixed_one()
 
 /// Worked out: of 100.00 that is 31 days overdue and 200.00 that is on time a third is at risk; a repayment is no
 /// concession, and a write-off is one; offices 2 and 20 are right below office 1, and office 5 is not. Two entries of
-/// different days may be entered the other way round, so may two repayments, and 1.00 that is repaid may be cut into 0.60
-/// and 0.40.
+/// different days may be entered the other way round, so may two repayments, and 1.00 that is repaid may be cut into
+/// 0.60 and 0.40.
 ///
 /// 1000.00 over three months is repaid in parts of 333.33, 333.33 and 333.34, or at 12 per cent in instalments of
 /// 340.03, 340.03 and 340.01. Of 0.04 at no interest the second instalment is the last that repays something. Of two
-/// penalties on an instalment, one of them reversed, one stands; a penalty and a repayment leave what was agreed; and of
-/// 1100.00 that is repaid where 1020.00 is owed, the shares come to 1020.00.
+/// penalties on an instalment, one of them reversed, one stands; a penalty and a repayment leave what was agreed; and
+/// of 1100.00 that is repaid where 1020.00 is owed, the shares come to 1020.00.
 ///
-/// Of two sheets with the same two receipts, 200.00 and 500.00, all four lines are taken, and 700.00 is repaid: 20.00 of
-/// interest and 680.00 of principal.
+/// Of two sheets with the same two receipts, 200.00 and 500.00, all four lines are taken, and 700.00 is repaid: 20.00
+/// of interest and 680.00 of principal.
 pub fn worked_rows()
     ensures at_risk { par30_of (line_of_loans 1 worked_loans) ≡ 3333 }
     ensures on_time { on_time worked_loans ≡ 20000 }
@@ -362,8 +363,8 @@ pub fn worked_rows()
     ensures cut { (payment : Entry) → payment.kind ≡ kind.Repay → payment.amount ≡ 100 →
         IsCutInTwo (payment ∷ []) (record payment { amount = 60 }
         ∷ record payment { seq = payment.seq + 1; amount = 40; receipt = None } ∷ []) }
-    ensures equal_parts { map (λ i. (instalment_of (worked_loan []).terms 100000 3 january i).principal) (1 ∷ 2 ∷ 3 ∷ [])
-        ≡ 33333 ∷ 33333 ∷ 33334 ∷ [] }
+    ensures equal_parts { map (λ i. (instalment_of (worked_loan []).terms 100000 3 january i).principal)
+        (1 ∷ 2 ∷ 3 ∷ []) ≡ 33333 ∷ 33333 ∷ 33334 ∷ [] }
     ensures fixed { let terms : Terms = record (worked_loan []).terms { method = Fixed } in
         map (principal_and_interest terms 100000 3 january) (1 ∷ 2 ∷ 3 ∷ []) ≡ 34003 ∷ 34003 ∷ 34001 ∷ [] }
     ensures few_cents { let terms : Terms = record (worked_loan []).terms { method = Fixed; rate = 0 } in
