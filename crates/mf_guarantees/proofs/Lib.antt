@@ -23,3 +23,4 @@ pub mod ShuffleLemmas
 pub mod ReceiptSteps
 pub mod SheetLemmas
 pub mod MergeLemmas
+pub mod OneReceiptLemmas

@@ -48,11 +48,11 @@ contains_more x y xs (k, within, is) = (suc k, omega (arith, within), is)
 abbrev pub IsTaken : Account → Repayment → List Line → Institution → Type 0
 IsTaken loan asked ls i = Contains (taken_in ls i) (request.Loan loan (Repay asked))
 
-none_taken : (loan : Account) (asked : Repayment) (i : Institution) → IsTaken loan asked [] i → ⊥
+pub none_taken : (loan : Account) (asked : Repayment) (i : Institution) → IsTaken loan asked [] i → ⊥
 none_taken loan asked i (k, within, is) = omega (arith, within)
 
 module _ (l : Line) (ls : List Line) (i : Institution) (r : Request) where
-  taken_cases : Contains (taken_in (l ∷ ls) i) r
+  pub taken_cases : Contains (taken_in (l ∷ ls) i) r
       → ((is_entry_told (answer l i) ≡ true) × (l.call.request ≡ r)) ⊎ Contains (taken_in ls (next l i)) r
   taken_cases taken = go (is_entry_told (answer l i)) refl taken
     where
@@ -148,7 +148,7 @@ one_of P x (e ∷ es) all (inr among) = one_of P x es all.1 among
 
 -- ---- receipts stay known
 
-some_none : {A : Type 0} (o : Option A) (x : A) → o ≡ Some x → o ≡ None → ⊥
+pub some_none : {A : Type 0} (o : Option A) (x : A) → o ≡ Some x → o ≡ None → ⊥
 some_none o x is none = cc
 
 module _ (l : Line) (i : Institution) (s : IsSound i) (range : AreInRange (l ∷ [])) where
@@ -258,7 +258,7 @@ module _ (l : Line) (i : Institution) (w : Enters l i) where
       rows_found x new i.offices ∙ ap (option_map (λ (g : Office). record g { rows = new })) w.office_is in
       ap (use_at x r) w.next_is ∙ ap (λ (o : Option Office). first_use r (uses_from 1 (rows_of o).loans)) here
 
-  own_use : use_at w.loan.office w.receipt (next l i) ≡ Some (use_now w.receipt w.loan.number made)
+  pub own_use : use_at w.loan.office w.receipt (next l i) ≡ Some (use_now w.receipt w.loan.number made)
   own_use = use_after w.receipt
       ∙ used_now w.loan.number made w.receipt w.office.rows.loans w.ledger w.receipt_is w.ledger_is w.free
 

@@ -1,7 +1,8 @@
 -- Runs that enter repayments with receipts, as from collection sheets.
 use Rattle.std.specs.Prelude.{◌≡◌, ℕ, Bool, true, false, cond, is_some, List, [], ◌∷◌, ◌++◌, codes, map}
 use Rattle.std.specs.Prelude.{Some, Result, Ok}
-use Rattle.std.specs.List.{Contains}
+use Rattle.std.specs.List.{Contains, count_by}
+use Rattle.std.specs.Str.{bytes_eq}
 use Rattle.mf_base.specs.declared.fault.Fault.{Fault}
 use Rattle.mf_office.specs.declared.account.Account.{Account}
 use Rattle.mf_office.specs.declared.staff.Role.TheVariants.{Teller}
@@ -16,7 +17,9 @@ use Rattle.mf_model.specs.declared.request.Request.{Request}
 use Rattle.mf_model.specs.declared.request.Request.TheVariants.{Loan, Office}
 use Rattle.mf_model.specs.Calls.{nothing_received}
 use Rattle.mf_model.specs.Institution.{Institution, newly_made}
+use Rattle.mf_model.specs.Receipts.{Use, uses_from}
 use Rattle.mf_model.specs.Run.{Line, answer, change_of_line, last, next}
+use Rattle.mf_model.specs.Store.{rows_at}
 use Rattle.mf_model.specs.WorkedAccounts.{common_start, repay_request, january, february, march}
 use Rattle.mf_model.specs.WorkedRows.{caller}
 
@@ -56,6 +59,10 @@ taken_in (l ∷ ls) i =
 pub record AreTheSame (xs ys : List Request) : Type 0 where
   pub first : (asked : Request) → Contains xs asked → Contains ys asked
   pub second : (asked : Request) → Contains ys asked → Contains xs asked
+
+-- how many entries of an office carry a receipt
+abbrev pub times_entered : ℕ → List ℕ → Institution → ℕ
+times_entered x receipt i = count_by (λ (u : Use). bytes_eq u.receipt receipt) (uses_from 1 (rows_at x i).loans)
 
 -- a line of a member of staff of the head office
 abbrev pub sheet_line : ℕ → Request → Line

@@ -2,7 +2,7 @@
 
 ghost use Rattle.std.specs.Prelude.{◌≡◌, ◌≢◌, ◌≤◌, ◌<◌, ◌+◌, ◌-◌, ◌++◌, ℕ, List, [], ◌∷◌, Some, None, true, false, pos};
 ghost use Rattle.std.specs.Prelude.{length, map, option_map, slice_get, sum};
-ghost use Rattle.std.specs.List.{AllZip, flat_map};
+ghost use Rattle.std.specs.List.{AllZip, Contains, flat_map};
 ghost use Rattle.mf_office.specs.declared.account.Account.{Account};
 ghost use Rattle.mf_account.specs.Balance.{balances_of};
 ghost use Rattle.mf_account.specs.Loan.{DisbursedLoan, IsSoundDisbursed, schedule_of, state_of_loan};
@@ -54,7 +54,7 @@ ghost use Rattle.mf_guarantees.specs.Penalties.{NoneBearsTwo, standing_penalties
 ghost use Rattle.mf_guarantees.specs.Reorder.{AreInAnyOrder, AreReordered, IsCutInTwo};
 ghost use Rattle.mf_guarantees.specs.Shares.{SettlesAtMostItsAmount};
 ghost use Rattle.mf_guarantees.specs.Sheets.{AreTheSame, OnlyReceipts, taken_in, first_receipt, second_receipt};
-ghost use Rattle.mf_guarantees.specs.Sheets.{worked_desk, worked_sheets};
+ghost use Rattle.mf_guarantees.specs.Sheets.{times_entered, worked_desk, worked_sheets};
 ghost use Rattle.mf_guarantees.specs.Sources.{HasSources};
 ghost use Rattle.mf_guarantees.specs.Sums.{paid_out_in, all_paid_out, AreAccountedFor};
 ghost use Rattle.mf_guarantees.specs.Roles.{is_repayment, is_concession};
@@ -256,7 +256,8 @@ pub fn the_order_of_entering_counts_nothing()
 /// A receipt counts once, whoever of those who see the loan sends it, and on however many collection sheets. The sheets
 /// may be merged in any order. Where two runs take the same repayments with receipts, in any order and each once or
 /// more often, every loan is shown alike after both: its status, its sums and its instalments. It is asked that no
-/// other line of the runs changes anything.
+/// other line of the runs changes anything. And whatever else is asked in a run, a receipt with which a repayment was
+/// taken stands on just one entry of the office afterwards.
 pub fn sheets_merge_in_any_order()
     ensures sums { (i : Institution) (lines others : List Line) (loan : Account) → IsSound i → AreInRange lines →
         AreInRange others → OnlyReceipts lines i → OnlyReceipts others i →
@@ -266,6 +267,9 @@ pub fn sheets_merge_in_any_order()
         AreInRange others → OnlyReceipts lines i → OnlyReceipts others i →
         AreTheSame (taken_in lines i) (taken_in others i) →
         instalments_at loan (last lines i) ≡ instalments_at loan (last others i) }
+    ensures once { (i : Institution) (lines : List Line) (loan : Account) (asked : Repayment) (receipt : List ℕ) →
+        IsSound i → AreInRange lines → Contains (taken_in lines i) (Loan loan (Repay asked)) →
+        asked.receipt ≡ Some receipt → times_entered loan.office receipt (last lines i) ≡ 1 }
 {}
 
 /// Who pays more never has more left to pay: where some repayments of a loan are of more, and all else that was entered
