@@ -255,9 +255,9 @@ pub fn the_order_of_entering_counts_nothing()
 
 /// A receipt counts once, whoever of those who see the loan sends it, and on however many collection sheets. The sheets
 /// may be merged in any order. Where two runs take the same repayments with receipts, in any order and each once or
-/// more often, every loan is shown alike after both: its status, its sums and its instalments. It is asked that no
-/// other line of the runs changes anything. And whatever else is asked in a run, a receipt with which a repayment was
-/// taken stands on just one entry of the office afterwards.
+/// more often, every loan is shown alike after both: its status, its sums and its instalments. The condition is that no
+/// other line of the two runs changes anything. In any run at all, a receipt with which a repayment was taken stands on
+/// just one entry of its office afterwards.
 pub fn sheets_merge_in_any_order()
     ensures sums { (i : Institution) (lines others : List Line) (loan : Account) → IsSound i → AreInRange lines →
         AreInRange others → OnlyReceipts lines i → OnlyReceipts others i →
