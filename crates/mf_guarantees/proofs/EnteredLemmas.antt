@@ -273,8 +273,8 @@ told_same i change x f loan (Ok (told, Some new)) there same h =
     let is : Rows_become x new ≡ change = cc in
     ap (λ (c : Change). entries_held (ledger_at loan (after c i))) (sym is) ∙ rows_same i x new f loan there same
 
-pub office_same : (i : Institution) (change : Change) (x : ℕ) (asked : OfficeRequest) (loan : Account) (o : Option Office)
-    → office_at x i.offices ≡ o
+pub office_same : (i : Institution) (change : Change) (x : ℕ) (asked : OfficeRequest) (loan : Account)
+    (o : Option Office) → office_at x i.offices ≡ o
     → change_in (in_office x (λ k f. on_office asked x k f.rows) i.catalogue o) ≡ Some change
     → entries_held (ledger_at loan (after change i)) ≡ entries_held (ledger_at loan i)
 office_same i change x asked loan None there h = absurd (cc)

@@ -19,3 +19,8 @@ pub mod OnePenaltyLemmas
 pub mod AgreedLemmas
 pub mod ShareLemmas
 pub mod ReshuffleLemmas
+pub mod ShuffleLemmas
+pub mod ReceiptSteps
+pub mod SheetLemmas
+pub mod MergeLemmas
+pub mod OneReceiptLemmas

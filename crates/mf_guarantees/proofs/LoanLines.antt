@@ -21,7 +21,8 @@ use Rattle.mf_model.specs.declared.request.Request.TheVariants as request
 use Rattle.mf_model.specs.Catalogue.{on_catalogue}
 use Rattle.mf_model.specs.Desk.{plan, change_in, sender_effect, outcome, on_office, of_office, in_office}
 use Rattle.mf_model.specs.Institution.{Institution, Catalogue, Office, Rows, Ledger, office_at, Change, Rows_become}
-use Rattle.mf_model.specs.Institution.{Office_added, after, after_line, item_numbered, new_office, product_in, with_rows}
+use Rattle.mf_model.specs.Institution.{Office_added, after, after_line, item_numbered, new_office, product_in}
+use Rattle.mf_model.specs.Institution.{with_rows}
 use Rattle.mf_model.specs.Loans.{LedgerChange, on_loan, loan_changed, loan_added, new_loan, lend}
 use Rattle.mf_model.specs.Offices.{staff_added, client_added}
 use Rattle.mf_model.specs.Outcomes.{next_of, with_value, with_found, where_found, unless_refused}

@@ -1,6 +1,7 @@
 -- On no instalment two penalties stand.
 use Rattle.std.proofs.Common.{◌≡◌, ◌≤◌, ◌+◌, ◌-◌, ℕ, Bool, true, false, cond, not, ◌||◌, List, [], ◌∷◌, ◌++◌}
-use Rattle.std.proofs.Common.{length, Option, Some, None, Result, Ok, Err, refl, sym, ap, ◌∙◌, subst, arith, inl, inr, eqb}
+use Rattle.std.proofs.Common.{length, Option, Some, None, Result, Ok, Err, refl, sym, ap, ◌∙◌, subst, arith, inl, inr}
+use Rattle.std.proofs.Common.{eqb}
 use Rattle.std.specs.Prelude.{◌==◌, is_some, nat_le}
 use Rattle.std.specs.List.{AllByRecursion}
 use Rattle.std.proofs.lemmas.Bool.{cases_lt, eqb-true}
@@ -203,13 +204,17 @@ stays_alone (ChargeFee charge due) by k rows n l becomes h = charged due by k (c
 stays_alone (Post asked) by k rows n l becomes h = posted asked by k l becomes h
 stays_alone (Reverse seq) by k rows n l becomes h =
     let made = reversed_is seq (account_in k l) becomes h in
-    subst (StaysAlone l) made.3 (λ x alone. let less = marked_no_more x l.entries (seq - 1) in omega (arith, less, alone))
+    subst (StaysAlone l) made.3
+    (λ x alone. let less = marked_no_more x l.entries (seq - 1) in omega (arith, less, alone))
 
 -- ---- a run
 
 line_alone : (l : Line) (i : Institution) → IsTree i.offices → NoneBearsTwo i → NoneBearsTwo (next l i)
 line_alone l i t alone loan x = elim (line_loan loan l i t) [
-  | inl stays ↦ let is = ap (standing_penalties x) stays.entries in let before = alone loan x in omega (arith, is, before)
+  | inl stays ↦
+      let is = ap (standing_penalties x) stays.entries in
+      let before = alone loan x in
+      omega (arith, is, before)
   | inr by ↦
       let old = ap (λ (o : Option Ledger). standing_penalties x (entries_held o)) by.before in
       let new = ap (λ (o : Option Ledger). standing_penalties x (entries_held o)) by.now in

@@ -1,6 +1,6 @@
 -- Equal parts differ by at most a cent, and only the last instalment that repays something isn't the fixed one.
-use Rattle.std.proofs.Common.{◌≡◌, ◌≢◌, ℕ, ◌+◌, ◌-◌, ◌*◌, ◌/◌, ◌<◌, ◌≤◌, leb, min, inl, inr, refl, arith, ap, sym, subst}
-use Rattle.std.proofs.Common.{◌∙◌, map, sum, zero, suc}
+use Rattle.std.proofs.Common.{◌≡◌, ◌≢◌, ℕ, ◌+◌, ◌-◌, ◌*◌, ◌/◌, ◌<◌, ◌≤◌, leb, min, inl, inr, refl, arith, ap, sym}
+use Rattle.std.proofs.Common.{subst, ◌∙◌, map, sum, zero, suc}
 use Rattle.std.proofs.Math.Nat.{div-mul-le_self, lt-div-mul-add}
 use Rattle.std.proofs.lemmas.Bool.{cases_lt, cond-false, cond-true, le-leb, lt-leb}
 use Rattle.std.proofs.lemmas.Nat.{le-div, div_below}
@@ -12,8 +12,8 @@ use Rattle.mf_catalog.specs.declared.terms.Method.TheVariants.{Flat, EqualPrinci
 use Rattle.mf_schedule.specs.Fixed.{balance_after, interest_on, next_balance}
 use Rattle.mf_schedule.specs.Fresh.{IsLoanWithinLimits, instalment_of, scheduled_interest}
 use Rattle.mf_schedule.specs.Plan.{balance_by, days_of, equal_principal, fixed_amount_of, fixed_balance}
-use Rattle.mf_schedule.specs.Plan.{fixed_principal, flat_interest, interest_by, interest_of, period_interest, principal_by}
-use Rattle.mf_schedule.specs.Plan.{principal_of}
+use Rattle.mf_schedule.specs.Plan.{fixed_principal, flat_interest, interest_by, interest_of, period_interest}
+use Rattle.mf_schedule.specs.Plan.{principal_by, principal_of}
 use Rattle.mf_schedule.proofs.GraceLemmas.{after_grace-beyond, held_before}
 use Rattle.mf_schedule.proofs.LoanLemmas.{fixed-interest-le, principal_of-step}
 use Rattle.mf_guarantees.specs.Parts.{BearsItsOwnInterest, ComesAfter, DifferByACentAtMost, principal_and_interest}

@@ -13,7 +13,8 @@ use Rattle.mf_account.specs.declared.entry.Entry.{Entry}
 use Rattle.mf_account.specs.declared.entry.Kind.TheVariants.{Repay}
 use Rattle.mf_account.specs.Account.{after_entries, first_state}
 use Rattle.mf_account.specs.Effect.{State, after_entry}
-use Rattle.mf_account.specs.Loan.{DisbursedLoan, IsSoundDisbursed, cell_places_of, orders_of, schedule_of, state_of_loan}
+use Rattle.mf_account.specs.Loan.{DisbursedLoan, IsSoundDisbursed, cell_places_of, orders_of, schedule_of}
+use Rattle.mf_account.specs.Loan.{state_of_loan}
 use Rattle.mf_account.specs.Safe.{IsBounded}
 use Rattle.mf_account.specs.Standing.{standing_entries}
 use Rattle.mf_account.specs.Told.{AreNumbered}
@@ -114,7 +115,8 @@ module _ (a b : Entry) (same : a.day ≡ b.day) where
       go true rest = record { front = x ∷ f ∷ front; back = back; one = refl; two = refl }
       go false rest = longer a b f (by_day x (front ++ a ∷ b ∷ back)) (by_day x (front ++ b ∷ a ∷ back)) rest
 
-  more_beside : (x : Entry) (xs ys : List Entry) → AreBeside a b xs ys → AreBeside a b (with_dated xs x) (with_dated ys x)
+  more_beside : (x : Entry) (xs ys : List Entry) → AreBeside a b xs ys
+      → AreBeside a b (with_dated xs x) (with_dated ys x)
   more_beside x xs ys beside = go x.reversed
     where
       go : (c : Bool) → AreBeside a b (cond c xs (by_day x xs)) (cond c ys (by_day x ys))

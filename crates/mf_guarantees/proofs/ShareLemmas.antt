@@ -30,7 +30,8 @@ use Rattle.mf_account.specs.Effect.{State, Part, after_entry, settle, settle_row
 use Rattle.mf_account.specs.Effect.{paid_at, parts_by, parts_cleared, parts_paid, parts_of, some_parts}
 use Rattle.mf_account.specs.Effect.{own_share, later_share, is_some_part}
 use Rattle.mf_account.specs.Kinds.{money_in}
-use Rattle.mf_account.specs.Loan.{DisbursedLoan, IsSoundDisbursed, orders_of, schedule_of, settled_of_loan, state_of_loan}
+use Rattle.mf_account.specs.Loan.{DisbursedLoan, IsSoundDisbursed, orders_of, schedule_of, settled_of_loan}
+use Rattle.mf_account.specs.Loan.{state_of_loan}
 use Rattle.mf_account.specs.Safe.{IsBounded}
 use Rattle.mf_account.specs.Standing.{is_before, order_with, standing_entries, with_entry}
 use Rattle.mf_account.specs.Told.{settled_amount}
@@ -120,7 +121,8 @@ settled_more n used order place entry before is has good =
     let charged : List Instalment = rows_charged entry before in
     let rows = ap total_settled (rows-after order entry before) in
     let settled = settled_in_rows charged (parts_of order entry before)
-    (whole-with_charge entry.kind entry before.rows good.whole) (settleable-after n order place entry before line has) in
+    (whole-with_charge entry.kind entry before.rows good.whole)
+    (settleable-after n order place entry before line has) in
     let charge = settled_by_charge entry.kind entry before.rows in
     omega (arith, rows, settled, charge)
 

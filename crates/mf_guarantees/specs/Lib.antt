@@ -14,3 +14,4 @@ pub mod Parts
 pub mod Penalties
 pub mod Agreed
 pub mod Shares
+pub mod Sheets

@@ -1,8 +1,8 @@
 //! Guarantees in plain words. Each function does nothing: its contract is the law that the sentence above it tells.
 
 ghost use Rattle.std.specs.Prelude.{◌≡◌, ◌≢◌, ◌≤◌, ◌<◌, ◌+◌, ◌-◌, ◌++◌, ℕ, List, [], ◌∷◌, Some, None, true, false, pos};
-ghost use Rattle.std.specs.Prelude.{length, map, slice_get, sum};
-ghost use Rattle.std.specs.List.{AllZip, flat_map};
+ghost use Rattle.std.specs.Prelude.{length, map, option_map, slice_get, sum};
+ghost use Rattle.std.specs.List.{AllZip, Contains, flat_map};
 ghost use Rattle.mf_office.specs.declared.account.Account.{Account};
 ghost use Rattle.mf_account.specs.Balance.{balances_of};
 ghost use Rattle.mf_account.specs.Loan.{DisbursedLoan, IsSoundDisbursed, schedule_of, state_of_loan};
@@ -42,7 +42,7 @@ ghost use Rattle.mf_guarantees.specs.Kept.{AllRemains};
 ghost use Rattle.mf_model.specs.Desk.{change_in, outcome, staff_at};
 ghost use Rattle.mf_model.specs.Run.{Line, last};
 ghost use Rattle.mf_model.specs.Sound.{IsSound, AreInRange};
-ghost use Rattle.mf_model.specs.Store.{ledger_at, account_of};
+ghost use Rattle.mf_model.specs.Store.{ledger_at, account_of, statement_at, instalments_at};
 ghost use Rattle.mf_guarantees.specs.Money.{IsAccountedFor};
 ghost use Rattle.mf_guarantees.specs.Entered.{AtSomeLine, IsEntered, IsTakenBack, entry_at_place, is_reversed};
 ghost use Rattle.mf_guarantees.specs.Moves.{Rises, repaid, paid_out};
@@ -53,6 +53,8 @@ ghost use Rattle.mf_guarantees.specs.Parts.{principal_and_interest};
 ghost use Rattle.mf_guarantees.specs.Penalties.{NoneBearsTwo, standing_penalties};
 ghost use Rattle.mf_guarantees.specs.Reorder.{AreInAnyOrder, AreReordered, IsCutInTwo};
 ghost use Rattle.mf_guarantees.specs.Shares.{SettlesAtMostItsAmount};
+ghost use Rattle.mf_guarantees.specs.Sheets.{AreTheSame, OnlyReceipts, taken_in, first_receipt, second_receipt};
+ghost use Rattle.mf_guarantees.specs.Sheets.{times_entered, worked_desk, worked_sheets};
 ghost use Rattle.mf_guarantees.specs.Sources.{HasSources};
 ghost use Rattle.mf_guarantees.specs.Sums.{paid_out_in, all_paid_out, AreAccountedFor};
 ghost use Rattle.mf_guarantees.specs.Roles.{is_repayment, is_concession};
@@ -227,8 +229,8 @@ pub fn a_reversal_is_as_never_entered()
 {}
 
 /// Entries of different days may be entered in any order, by anybody and with any receipts: the instalments and the
-/// sums of the loan are the same, since it is the days that count. Repayments of one day may change places too, where no
-/// other entry of that day stands between them. And a repayment comes to the same as two of the same day that follow
+/// sums of the loan are the same, since it is the days that count. Repayments of one day may change places too, where
+/// no other entry of that day stands between them. And a repayment comes to the same as two of the same day that follow
 /// each other and come to its amount.
 pub fn the_order_of_entering_counts_nothing()
     ensures instalments { (loan : DisbursedLoan) (entries : List Entry) → AreNumbered loan.entries →
@@ -249,6 +251,25 @@ pub fn the_order_of_entering_counts_nothing()
     ensures cut_sums { (loan : DisbursedLoan) (entries : List Entry) → IsSoundDisbursed loan →
         AreNumbered entries → IsCutInTwo loan.entries entries →
         balances_of (record loan { entries = entries }) ≡ balances_of loan }
+{}
+
+/// A receipt counts once, whoever of those who see the loan sends it, and on however many collection sheets. The sheets
+/// may be merged in any order. Where two runs take the same repayments with receipts, in any order and each once or
+/// more often, every loan is shown alike after both: its status, its sums and its instalments. The condition is that no
+/// other line of the two runs changes anything. In any run at all, a receipt with which a repayment was taken stands on
+/// just one entry of its office afterwards.
+pub fn sheets_merge_in_any_order()
+    ensures sums { (i : Institution) (lines others : List Line) (loan : Account) → IsSound i → AreInRange lines →
+        AreInRange others → OnlyReceipts lines i → OnlyReceipts others i →
+        AreTheSame (taken_in lines i) (taken_in others i) →
+        statement_at loan (last lines i) ≡ statement_at loan (last others i) }
+    ensures instalments { (i : Institution) (lines others : List Line) (loan : Account) → IsSound i → AreInRange lines →
+        AreInRange others → OnlyReceipts lines i → OnlyReceipts others i →
+        AreTheSame (taken_in lines i) (taken_in others i) →
+        instalments_at loan (last lines i) ≡ instalments_at loan (last others i) }
+    ensures once { (i : Institution) (lines : List Line) (loan : Account) (asked : Repayment) (receipt : List ℕ) →
+        IsSound i → AreInRange lines → Contains (taken_in lines i) (Loan loan (Repay asked)) →
+        asked.receipt ≡ Some receipt → times_entered loan.office receipt (last lines i) ≡ 1 }
 {}
 
 /// Who pays more never has more left to pay: where some repayments of a loan are of more, and all else that was entered
@@ -311,8 +332,8 @@ pub fn equal_parts_differ_by_at_most_a_cent()
 {}
 
 /// Where a loan is repaid in fixed instalments, each after the graces is of the fixed amount, but for the last that
-/// repays something; and none is of more. Left out is the first after a grace of interest, which bears that of the grace
-/// too.
+/// repays something; and none is of more. Left out is the first after a grace of interest, which bears that of the
+/// grace too.
 pub fn all_but_the_last_instalment_are_the_fixed_one()
     ensures fixed { (terms : Terms) (principal n day i j : ℕ) → IsLoanWithinLimits terms principal n →
         terms.method ≡ Fixed → ComesAfter terms.principal_grace n i → BearsItsOwnInterest terms i →
@@ -325,13 +346,16 @@ pub fn all_but_the_last_instalment_are_the_fixed_one()
 
 /// Worked out: of 100.00 that is 31 days overdue and 200.00 that is on time a third is at risk; a repayment is no
 /// concession, and a write-off is one; offices 2 and 20 are right below office 1, and office 5 is not. Two entries of
-/// different days may be entered the other way round, so may two repayments, and 1.00 that is repaid may be cut into 0.60
-/// and 0.40.
+/// different days may be entered the other way round, so may two repayments, and 1.00 that is repaid may be cut into
+/// 0.60 and 0.40.
 ///
 /// 1000.00 over three months is repaid in parts of 333.33, 333.33 and 333.34, or at 12 per cent in instalments of
 /// 340.03, 340.03 and 340.01. Of 0.04 at no interest the second instalment is the last that repays something. Of two
-/// penalties on an instalment, one of them reversed, one stands; a penalty and a repayment leave what was agreed; and of
-/// 1100.00 that is repaid where 1020.00 is owed, the shares come to 1020.00.
+/// penalties on an instalment, one of them reversed, one stands; a penalty and a repayment leave what was agreed; and
+/// of 1100.00 that is repaid where 1020.00 is owed, the shares come to 1020.00.
+///
+/// Of two sheets with the same two receipts, 200.00 and 500.00, all four lines are taken, and 700.00 is repaid: 20.00
+/// of interest and 680.00 of principal.
 pub fn worked_rows()
     ensures at_risk { par30_of (line_of_loans 1 worked_loans) ≡ 3333 }
     ensures on_time { on_time worked_loans ≡ 20000 }
@@ -343,8 +367,8 @@ pub fn worked_rows()
     ensures cut { (payment : Entry) → payment.kind ≡ kind.Repay → payment.amount ≡ 100 →
         IsCutInTwo (payment ∷ []) (record payment { amount = 60 }
         ∷ record payment { seq = payment.seq + 1; amount = 40; receipt = None } ∷ []) }
-    ensures equal_parts { map (λ i. (instalment_of (worked_loan []).terms 100000 3 january i).principal) (1 ∷ 2 ∷ 3 ∷ [])
-        ≡ 33333 ∷ 33333 ∷ 33334 ∷ [] }
+    ensures equal_parts { map (λ i. (instalment_of (worked_loan []).terms 100000 3 january i).principal)
+        (1 ∷ 2 ∷ 3 ∷ []) ≡ 33333 ∷ 33333 ∷ 33334 ∷ [] }
     ensures fixed { let terms : Terms = record (worked_loan []).terms { method = Fixed } in
         map (principal_and_interest terms 100000 3 january) (1 ∷ 2 ∷ 3 ∷ []) ≡ 34003 ∷ 34003 ∷ 34001 ∷ [] }
     ensures few_cents { let terms : Terms = record (worked_loan []).terms { method = Fixed; rate = 0 } in
@@ -355,6 +379,10 @@ pub fn worked_rows()
         ≡ map agreed_by (schedule_of (worked_loan [])) }
     ensures shares { map (λ told. amount_of_shares told.shares) (entries_of (worked_loan (overpayment ∷ [])))
         ≡ 102000 ∷ [] }
+    ensures taken { taken_in worked_sheets worked_desk
+        ≡ second_receipt ∷ first_receipt ∷ first_receipt ∷ second_receipt ∷ [] }
+    ensures merged { option_map (λ told. told.balances.paid) (statement_at (record { office = 1; number = 1 })
+        (last worked_sheets worked_desk)) ≡ Some (0 ∷ 0 ∷ 2000 ∷ 68000 ∷ []) }
     ensures repayment { (loan : Account) (asked : Repayment) →
         (is_repayment (Loan loan (Repay asked)) ≡ true) × (is_concession (Loan loan (Repay asked)) ≡ false) }
     ensures write_off { (loan : Account) →

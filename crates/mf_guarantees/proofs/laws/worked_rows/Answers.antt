@@ -1,4 +1,5 @@
 use Rattle.std.proofs.Common.{◌≡◌, [], arith, inr, refl, sym}
+use Rattle.mf_office.specs.Tree.{is_within, is_at_or_below}
 use Rattle.mf_schedule.specs.Fixed.{least_amount}
 use Rattle.mf_schedule.proofs.FixedLemmas.{first-from_too_low, least_amount-is}
 use Rattle.mf_guarantees.specs.Reorder.{what_counts, exchanged, swapped}
@@ -38,3 +39,11 @@ two_cents = sym (least_amount-is 0 30 4 3 2 (omega arith) refl
 
 pub returns-clause-few_cents : goal.returns-clause-few_cents
 returns-clause-few_cents c = rw two_cents refl
+
+pub returns-clause-taken : goal.returns-clause-taken
+unfolding is_at_or_below is_within
+returns-clause-taken c = refl
+
+pub returns-clause-merged : goal.returns-clause-merged
+unfolding is_at_or_below is_within
+returns-clause-merged c = refl
