@@ -1349,7 +1349,7 @@ class Kills(Case):
             self.send_all(it, zoe)
             cents = [int(amount.replace(".", "")) for amount in self.AMOUNTS]
             self.assertEqual(entered(it, rounds.COUNT), once(*cents))
-            print(f"    {zoe.kills} kills", end=" ")
+            print(f"    {zoe.kills} kills, {rounds.COUNT} lines, each once", end=" ")
 
     def type_all(self, zoe):
         """What the bar told before a kill is there after it; of the amount that was being typed, a beginning."""
