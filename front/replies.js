@@ -1,5 +1,7 @@
-// Keeps what the program replied to a message that writes, for the log of messages: the numbers in it tell in which order
-// messages were carried out, and who answers them once more can compare. It runs in nginx.
+// What nginx itself does with messages and replies, beside its settings. It runs in nginx.
+
+// Keeps what the program replied to a message that writes, for the log of messages: the numbers in it tell in which
+// order messages were carried out, and who answers them once more can compare.
 const MOST = 1000;  // characters that are kept: a reply to what writes has fewer
 
 function keep(request, part, flags) {
@@ -10,4 +12,15 @@ function keep(request, part, flags) {
     request.sendBuffer(part, flags);
 }
 
-export default {keep};
+// Answers several readings by one message: a list of what each is answered, as its status and its text.
+async function several(request) {
+    const routes = request.variables.several.split("&");
+    const replies = [];
+    for (let i = 0; i < routes.length; i++) {  // this engine knows no other loop in which it can wait
+        const reply = await request.subrequest(`/one-of-several${routes[i]}`);
+        replies.push({status: reply.status, text: reply.responseText});
+    }
+    request.return(200, JSON.stringify(replies));
+}
+
+export default {keep, several};

@@ -3,6 +3,7 @@
 Strangers come from addresses of loopback of their own (127.0.1.1 and so on), so that limits by address can be seen.
 """
 import contextlib
+import http.client
 import json
 import os
 import re
@@ -17,10 +18,11 @@ import unittest
 
 import desk
 import running
-from test_front import LARGEST, LINES, NORTH, PEOPLE, desk_wait, read_all
+from test_front import LARGEST, LINES, NORTH, PEOPLE, desk_wait, read_all, told_of
 
 HELD = 400  # messages that an attacker holds at once
 OF_ONE_PERSON = 40  # messages of one person that the front lets through at once
+SEVERAL_OF_ONE_PERSON = 4  # of them such as ask for several readings
 WHO = os.path.join(running.TOP, "package", "tools", "microloan-who")
 LOG_CHECK = os.path.join(running.FRONT, "log-check")
 FILTER = os.path.join(running.FRONT, "fail2ban", "filter.conf")
@@ -93,11 +95,19 @@ def unfinished(*fields):
     return "\r\n".join(lines).encode() + b"{"
 
 
-class Program:
-    """Something that stands where the program is, answers all by 200, and keeps what it got."""
+def replied(body, length=None):
+    """A reply of 200, which says so many bytes of its body."""
+    head = "HTTP/1.0 200 OK\r\nContent-Type: application/json\r\nContent-Length: {}\r\n\r\n"
+    return head.format(len(body) if length is None else length).encode() + body
 
-    def __init__(self, port):
+
+class Program:
+    """Something that stands where the program is, answers all by 200, or by these replies in turn, and keeps what it
+    got."""
+
+    def __init__(self, port, *replies):
         self.got = []
+        self.replies = list(replies)
         self.listener = socket.socket()
         self.listener.setsockopt(socket.SOL_SOCKET, socket.SO_REUSEADDR, 1)
         self.listener.bind(("127.0.0.1", port))
@@ -121,7 +131,7 @@ class Program:
                     stream.settimeout(5)
                     with contextlib.suppress(OSError):
                         self.got.append(stream.recv(1 << 20))
-                        stream.sendall(b"HTTP/1.0 200 OK\r\nContent-Type: application/json\r\nContent-Length: 2\r\n\r\n{}")
+                        stream.sendall(self.replies.pop(0) if self.replies else replied(b"{}"))
 
 
 class Spelling(OverTheProgram):
@@ -272,13 +282,14 @@ class Caller(OverTheProgram):
 
     def test_tricks(self):
         tricks = [message("tom", "GET", "/api/offices", fields=fields) for fields in self.FIELDS]
+        tricks += [message("tom", "GET", "/several?/offices&/offices", fields=fields) for fields in self.FIELDS]
         tricks += [text.replace("PROOF", proof("tom"), 1).encode() for text in self.LENGTHS]
         DESK.stop_serve()
         with Program(DESK.serve.port) as program:
             for place, trick in enumerate(tricks):
                 answered(trick, address=f"127.0.2.{place + 1}")
-        self.assertGreater(len(tricks), 45)
-        self.assertGreater(len(program.got), 15)
+        self.assertGreater(len(tricks), 70)
+        self.assertGreater(len(program.got), 45)
         for got in program.got:
             head = got.split(b"\r\n\r\n")[0].split(b"\r\n")
             self.assertRegex(head[0], rb"^(GET /offices|POST /clients) HTTP/1\.0$")
@@ -292,6 +303,100 @@ class Caller(OverTheProgram):
                 reply = answered(message("tom", "GET", "/api/offices", fields=fields))
                 if status_of(reply) == 200:
                     self.assertEqual(json.loads(reply.rsplit(b"\r\n", 1)[-1]), NORTH)
+
+
+class Several(OverTheProgram):
+    """Several readings by one message: each is what it is by itself, and nothing else is."""
+
+    PATHS = (
+        "/offices", "/clients/0002-000001", "/clients/0003-000001", "/products/2", "/nothing", "/staff",
+        "/lists/clients/2/0", "/business-day",
+    )
+    OTHERS = (
+        "/several", "/several?", "/several?offices", "/several?/offices&", "/several?&/offices",
+        "/several?/offices&&/offices", "/several?/offices?", "/several?/offices#x", "/several?/offices;/offices",
+        "/several?/./offices", "/several?/../offices", "/several?/%6fffices", "/several?//offices",
+        "/several?/offices/", "/several?/offices%26/offices", "/several?/" + "a" * 65, "/several?" + "/a" * 9,
+        "/several?" + "&".join(["/offices"] * 9), "/several/?/offices", "/several/offices", "//several?/offices",
+        "/me/../several?/offices", "/%73everal?/offices", "/SEVERAL?/offices", "/api/several?/offices",
+        "/one-of-several/offices", "/%6fne-of-several/offices", "/lib/../one-of-several/offices",
+    )
+    TOLD = ("from", "user", "staff", "method", "path", "body", "status", "upstream", "reply")
+
+    def ask(self, *paths, name="tom"):
+        return DESK.send(name, "GET", "/several?" + "&".join(paths))
+
+    def lines_since(self, logged, count):
+        """What the log tells of so many messages. Workers write it, each by itself."""
+        lines = desk_wait(lambda: len(DESK.log) >= logged + count and DESK.log[logged:])
+        return sorted([line[name] for name in self.TOLD] for line in lines)
+
+    def test_each_as_by_itself(self):
+        """For whoever asks: the reply, and the line of the log."""
+        for name in PEOPLE:
+            with self.subTest(name):
+                time.sleep(0.2)  # for a line that comes late
+                logged = len(DESK.log)
+                alone = [DESK.exchange(name, "GET", "/api" + path) for path in self.PATHS]
+                lines = self.lines_since(logged, len(self.PATHS))
+                logged = len(DESK.log)
+                status, told = self.ask(*self.PATHS, name=name)
+                self.assertEqual(status, 200)
+                self.assertEqual([(one["status"], one["text"]) for one in told],
+                                 [(status, data.decode()) for status, _, data in alone])
+                self.assertEqual(self.lines_since(logged, len(self.PATHS)), lines)
+
+    def test_no_stranger(self):
+        asked = "/several?/offices&/business-day"
+        for name, password in ((None, None), ("tom", "wrong"), ("nobody", "word")):
+            if name is None or not DESK.sign_in:
+                self.assertEqual(DESK.send(name, "GET", asked, password=password), (401, {"front": "password"}))
+
+    def test_no_other_spelling(self):
+        DESK.stop_serve()
+        with Program(DESK.serve.port) as program:
+            for target in self.OTHERS:
+                with self.subTest(target):
+                    self.assertIn(status_of(answered(message("tom", "GET", target))), (400, 404, 405))
+            for method in ("POST", "HEAD", "PUT", "DELETE", "OPTIONS"):
+                with self.subTest(method):
+                    self.assertEqual(status_of(answered(message("tom", method, "/several?/offices", b"{}"))), 404)
+        self.assertEqual(program.got, [])
+
+    def test_told_as_messages_are(self):
+        """Each carries who asks, when and from where."""
+        DESK.stop_serve()
+        with Program(DESK.serve.port) as program:
+            self.assertEqual(self.ask("/a", "/b", name="zoe"), (200, [{"status": 200, "text": "{}"}] * 2))
+        self.assertEqual([got.split(b" ", 2)[1] for got in program.got], [b"/a", b"/b"])
+        for got in program.got:
+            self.assertIn(b"X-Staff: 2/2\r\n", got)
+            self.assertEqual(told_of(got), ["127.0.0.1"])
+
+    def test_a_program_that_ends_in_the_midst(self):
+        """What is broken off is no JSON; where nothing is answered the front says so, and of that reading alone."""
+        DESK.stop_serve()
+        logged = len(DESK.log)
+        with Program(DESK.serve.port, replied(b'{"a":1}'), replied(b'{"a":', 7), b"", replied(b'{"b":2}')):
+            status, told = self.ask("/one", "/two", "/three", "/four")
+        self.assertEqual(status, 200)
+        self.assertEqual([(one["status"], one["text"]) for one in told],
+                         [(200, '{"a":1}'), (200, '{"a":'), (502, '{"front":"down"}'), (200, '{"b":2}')])
+        lines = self.lines_since(logged, 4)
+        self.assertEqual(sorted((line[4], line[6], line[7]) for line in lines),
+                         [("/api/four", 200, "200"), ("/api/one", 200, "200"), ("/api/three", 502, "502"),
+                          ("/api/two", 200, "200")])
+        self.assertEqual(self.ask("/one"), (200, [{"status": 502, "text": '{"front":"down"}'}]))
+
+    def test_large_replies(self):
+        """Half a megabyte of each is told. More ends the message without a reply, and harms no other."""
+        DESK.stop_serve()
+        large = json.dumps({"a": "x" * 500_000}).encode()
+        with Program(DESK.serve.port, *[replied(large)] * 8, replied(large + b" " * 500_000)):
+            self.assertEqual(self.ask(*["/a"] * 8), (200, [{"status": 200, "text": large.decode()}] * 8))
+            with self.assertRaises((http.client.HTTPException, ConnectionError)):
+                self.ask("/a", "/b")
+            self.assertEqual(self.ask("/a"), (200, [{"status": 200, "text": "{}"}]))
 
 
 def median_time(name, address="127.0.0.1", count=60):
@@ -376,6 +481,29 @@ class Holding(OverTheProgram):
             waiting = [client for client in clients if not readable(client)]
             self.assertEqual(len(waiting), OF_ONE_PERSON)
             for client in clients:
+                client.close()
+
+    def test_several_readings_take_one_place_in_the_queue(self):
+        """Of one person few such messages are passed on at once, each with one reading at a time."""
+        DESK.stop_serve()
+        with socket.socket() as listener:
+            listener.setsockopt(socket.SOL_SOCKET, socket.SO_REUSEADDR, 1)
+            listener.bind(("127.0.0.1", DESK.serve.port))
+            listener.listen(HELD)
+            clients = [connected() for _ in range(OF_ONE_PERSON)]
+            for client in clients:
+                client.sendall(message("zoe", "GET", "/several?" + "&".join(["/offices"] * 8)))
+            desk_wait(lambda: sum(map(readable, clients)) >= OF_ONE_PERSON - SEVERAL_OF_ONE_PERSON)
+            refused = [client for client in clients if readable(client)]
+            self.assertEqual({status_of(client.recv(1000)) for client in refused}, {429})
+            self.assertEqual(len(refused), OF_ONE_PERSON - SEVERAL_OF_ONE_PERSON)
+            listener.settimeout(1)
+            passed = []
+            with contextlib.suppress(TimeoutError):
+                while True:
+                    passed.append(listener.accept()[0])
+            self.assertEqual(len(passed), SEVERAL_OF_ONE_PERSON)
+            for client in [*clients, *passed]:
                 client.close()
 
 

@@ -650,6 +650,8 @@ class People(unittest.TestCase):
         before = count_clients()
         own = {"password": "password of one"}
         self.assertEqual(DESK.send("auditor", "GET", "/api/offices", **own), (200, NORTH))
+        several = DESK.send("auditor", "GET", "/several?/offices&/business-day", **own)
+        self.assertEqual((several[0], json.loads(several[1][0]["text"])), (200, NORTH))
         self.assertEqual(DESK.send("auditor", *add_client("Looked"), **own), (403, {"front": "reader"}))
         for method in ("PUT", "DELETE", "PATCH", "OPTIONS", "PROPFIND"):
             refused = DESK.send("auditor", method, "/api/business-day", {"day": "2024-01-02"}, **own)

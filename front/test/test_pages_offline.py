@@ -107,6 +107,19 @@ class Phone(reader.Reader):
         self.script("arguments[0].scrollIntoView({block: 'center'})", found)
         found.click()
 
+    def press_enter(self):
+        """Presses the button that enters a round, whatever number of repayments it tells just now. Whether it could."""
+        found = self.all(".round-enter")
+        if not found or not found[0].is_enabled():
+            return False
+        self.script("arguments[0].scrollIntoView({block: 'center'})", found[0])
+        found[0].click()
+        return True
+
+    def enter(self):
+        """Waits until the round can be entered, and presses."""
+        self.wait(self.press_enter, "the button that enters")
+
     def follow(self, words, within="main"):
         """Presses a link or a button, and waits for another page."""
         before = self.script("return location.hash")
@@ -380,7 +393,7 @@ class Round(Case):
             it.let_in(zoe.driver, "zoe")
             zoe.open_kept()
             self.assertEqual(zoe.results().get("lost"), 1)
-            zoe.press(zoe.text(".round-enter"))
+            zoe.enter()
             zoe.wait(lambda: zoe.bar() == "", "all results")
             self.assertEqual(entered(it, rounds.COUNT), once(*[68333] * rounds.COUNT))
 
@@ -1336,7 +1349,7 @@ class Kills(Case):
             self.send_all(it, zoe)
             cents = [int(amount.replace(".", "")) for amount in self.AMOUNTS]
             self.assertEqual(entered(it, rounds.COUNT), once(*cents))
-            print(f"    {zoe.kills} kills", end=" ")
+            print(f"    {zoe.kills} kills, {rounds.COUNT} lines, each once", end=" ")
 
     def type_all(self, zoe):
         """What the bar told before a kill is there after it; of the amount that was being typed, a beginning."""
@@ -1363,7 +1376,7 @@ class Kills(Case):
         for results, seconds in self.SENDING:
             zoe.network(SLOW)
             before = sum(zoe.results().get(one, 0) for one in ("entered", "repeated"))
-            zoe.press(zoe.all(".round-enter")[0].text)
+            zoe.enter()
             zoe.wait(lambda: not zoe.all(".round-enter")[0].is_enabled(), "the sending")
             done = "return document.querySelectorAll('[data-result=entered], [data-result=repeated]').length"
             zoe.wait(lambda wanted=before + results: zoe.script(done) >= wanted, "the results")
@@ -1378,7 +1391,7 @@ class Kills(Case):
             left = [text for text, count in zip(zoe.script(AMOUNTS), stands) if count == 0]
             self.assertEqual(left, [text for text, count in zip(self.AMOUNTS, stands) if count == 0])
         self.assertGreaterEqual(unknown, 1, "a line was on its way as it was killed")
-        zoe.press(zoe.all(".round-enter")[0].text)
+        zoe.enter()
         zoe.wait(lambda: zoe.bar() == "", "all results")
 
 

@@ -15,6 +15,7 @@ import test_pages_rounds as rounds
 import running
 
 FEW = 3
+LARGE = 3000  # loans of an office
 # of office 3: one loan of which nothing is due before 2024-04-03, and a client without any
 HILL = b"""1/1 PUT /business-day {"day":"2024-03-03"}
 2/1 POST /clients {"office":3,"name":"Amina Diallo"}
@@ -35,7 +36,31 @@ WEEKLY = b"""1/1 PUT /business-day {"day":"2024-03-14"}
 2/1 POST /loans/0003-000002/disburse {"day":"2024-03-14"}
 """
 FULL = "IDBObjectStore.prototype.put = () => { throw new DOMException('full', 'QuotaExceededError'); };"
-FIRST = re.compile(r"/(me|institution\.json|api/business-day|api/offices|api/lists/staff/2)$")
+# what a press sent, and the bytes that came with heads, as the browser counts them
+SENT = """
+const list = performance.getEntriesByType('resource').map(({name, transferSize}) => [new URL(name), transferSize])
+    .filter(([{pathname}]) => /^[/](api[/]|several$)/.test(pathname));
+return [list.map(([{pathname, search}]) => pathname + search), list.reduce((all, [, bytes]) => all + bytes, 0)];
+"""
+# a front of before, which has no message for several readings
+OLDER = """
+const real = window.fetch;
+window.fetch = (url, more) => url.includes('/several') ? Promise.resolve(new Response('<html>', {status: 404})) :
+    real(url, more);
+"""
+# breaks a part of the first replies to several readings off, as where the program ends in the midst
+BROKEN = """
+const real = window.fetch; window.broken = 0; window.most = 2;
+window.fetch = async (url, more) => {
+    const reply = await real(url, more);
+    if (!url.includes('/several') || window.broken >= window.most) { return reply; }
+    window.broken += 1;
+    const parts = await reply.json();
+    const end = parts.findIndex(({text}) => text.includes('"due"'));
+    parts[end].text = parts[end].text.slice(0, -9);
+    return new Response(JSON.stringify(parts));
+};
+"""
 # what stands in the browser's database, as bytes: none of it may be readable
 KEPT = """
 const done = arguments[0];
@@ -51,6 +76,23 @@ def institution(count=FEW, more=b""):
     made = rounds.lines_of(count)
     moved = b'1/1 PUT /business-day {"day":"%s"}\n' % DAY.encode()
     return made.replace(loans.LINES, LINES).replace(moved, HILL + more + moved)
+
+
+def large_office():
+    """The request lines of an office of 3,000 loans on 2024-03-31: of 300 something is due, of 600 on 2024-04-05."""
+    yield loans.LINES
+    days = ("2024-02-15", 300), ("2024-03-05", 600), ("2024-03-20", LARGE - 900)
+    made = [day for day, count in days for _ in range(count)]
+    for number, day in enumerate(made, 1):
+        if number == 1 or day != made[number - 2]:
+            yield b'1/1 PUT /business-day {"day":"%s"}\n' % day.encode()
+        values = number, number, number, number, day.encode()
+        yield (
+            b'2/2 POST /clients {"office":2,"name":"Client %d"}\n'
+            b'2/2 POST /loans {"client":"0002-%06d","product":1,"principal":100000,"periods":3}\n'
+            b'2/1 POST /loans/0002-%06d/approve\n2/1 POST /loans/0002-%06d/disburse {"day":"%s"}\n'
+        ) % values
+    yield b'1/1 PUT /business-day {"day":"%s"}\n' % DAY.encode()
 
 
 class Phone(offline.Phone):
@@ -252,28 +294,76 @@ class Pack(offline.Case):
             self.assertEqual(zoe.bar(), "1 not sent, 0.00, since HH:MM")
 
     def test_few_requests(self):
-        """The first press reads each client once; the next one reads what is new alone."""
+        """A press asks for the business day and then for much at once; the next one reads what is new alone."""
+        due = [f"/lists/due/2/{day}/0" for day in (DAY, "2024-04-07")]
         with loans.desk_with(institution(rounds.COUNT)) as it:
             zoe = self.phone(it, "zoe")
-            self.assertEqual(len(self.asked(it, zoe, True)), 5)  # due now, due soon, clients, a product, and no second
+            products = [f"/products/{number}" for number in range(1, 5)]  # a few ahead
+            self.assertEqual(self.asked(zoe, True)[0], self.at_once(*products, *due, "/lists/clients/2/0"))
             it.send("zoe", "POST", "/api/clients", {"office": 2, "name": "Bahati Mrema"})
-            asked = self.asked(it, zoe, False)
-            self.assertEqual(len(asked), 4, asked)
-            self.assertIn("/api/lists/clients/2/39", asked)  # from the last one that is known
-            self.assertIn("/api/products/2", asked)
+            products = [f"/products/{number}" for number in range(2, 6)]
+            # from the last client who is known
+            self.assertEqual(self.asked(zoe, False)[0], self.at_once(*products, *due, "/lists/clients/2/39"))
             zoe.follow("2 North")
             zoe.wait(lambda: zoe.table("Clients"), "the clients")
             zoe.fill("A name, a part of it, or a number", "bahati", within="main")
             zoe.wait(lambda: zoe.table("Clients")[0]["Number"] == "0002-000041", "the new client")
 
-    def asked(self, it, zoe, pin):
+    def at_once(self, *paths):
+        return ["/api/business-day", "/several?" + "&".join(paths)]
+
+    def asked(self, zoe, pin):
         zoe.go("pack")
         if not pin:
             zoe.unlock()
         zoe.wait(lambda: zoe.box("2 North"), "the offices")
-        before = len(it.log)
+        zoe.settle()
+        zoe.script("performance.clearResourceTimings()")
         zoe.take_here(pin=pin)
-        return [line["path"] for line in it.log[before:] if not FIRST.search(line["path"])]
+        return zoe.script(SENT)
+
+    def test_3000_loans(self):
+        """An office of 3,000 loans of 3,000 clients, a tenth of them overdue and a fifth due within the week. Wanted are
+        at most 12 requests and 300 kB."""
+        with loans.desk_with(b"".join(large_office())) as it:
+            zoe = self.phone(it, "zoe")
+            for pin, most in ((True, 60_000), (False, 40_000)):
+                asked, size = self.asked(zoe, pin)
+                self.assertLessEqual(len(asked), 8, asked)
+                self.assertLessEqual(size, most)
+                print(f"    {len(asked)} requests, {size} bytes", end=" ")
+            self.assertEqual(self.rows(zoe, "Day pack", "Office", "Clients"), [["2 North", "3,000"]])
+            known = "return (await (await load('views/pack-kept.js')).readPack()).offices[0]"
+            office = zoe.module(f"const {{lines, clients}} = (await (async () => {{ {known} }})());"
+                                "return [lines.map(({loan}) => loan), clients]")
+            self.assertEqual(office[0], [f"0002-{number:06}" for number in range(1, 901)])
+            self.assertEqual(office[1], [f"Client {number}" for number in range(1, 3001)])
+
+    def test_over_an_older_front(self):
+        """One that has no message for several readings is asked for each."""
+        with loans.desk_with(institution()) as it:
+            zoe = self.phone(it, "zoe")
+            zoe.go("pack")
+            zoe.wait(lambda: zoe.box("2 North"), "the offices")
+            zoe.script(OLDER)
+            zoe.take_here()
+            self.assertEqual(self.rows(zoe, "Day pack", "Office", "Clients"), [["2 North", str(FEW)]])
+
+    def test_broken_off(self):
+        """What comes broken off is asked for again; where it stays so the pack before stays, and that is told."""
+        with loans.desk_with(institution()) as it:
+            zoe = self.phone(it, "zoe")
+            zoe.go("pack")
+            zoe.wait(lambda: zoe.box("2 North"), "the offices")
+            zoe.script(BROKEN)
+            zoe.take_here()
+            self.assertEqual(zoe.script("return window.broken"), 2)
+            self.assertEqual(self.rows(zoe, "Day pack", "Office", "Clients"), [["2 North", str(FEW)]])
+            zoe.script("window.most = 1000")
+            zoe.press("Take the day along")
+            zoe.wait(lambda: zoe.all("main .alert-danger, main .alert-warning"), "that it wasn't taken along")
+            self.assertEqual(zoe.script("return window.broken"), 2 + 4)  # tries
+            self.age(zoe)
 
     def test_no_room(self):
         """Where the phone has no room the pack before stays, and what happened is told."""

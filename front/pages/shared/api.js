@@ -1,6 +1,7 @@
 // Sends requests to the desk. One queue for the whole page sends at most four at once.
 
 const MOST_AT_ONCE = 4;
+const MOST_TOGETHER = 8;
 const MOST_MILLISECONDS = 45_000;
 const WAITS_BETWEEN_TRIES = [300, 1000, 2000];
 
@@ -157,10 +158,48 @@ export async function look(path, body) {
     return (await tryAgain(() => send("POST", `/api${path}`, body, true))).body;
 }
 
+// Readings by one message, each with a reply of its own. Null where the front is an older one, without such a message.
+async function severalOnce(paths) {
+    const reply = await inTurn(true, () => fetchOnce("GET", `${location.origin}/several?${paths.join("&")}`));
+    if (reply.status === 404) {
+        return null;
+    }
+    const parts = await Promise.allSettled(judged(reply).body.map(async (part) => judged(part).body));
+    const lost = parts.find(({reason}) => reason instanceof Problem && reason.isLost);
+    if (lost !== undefined) {
+        throw lost.reason;
+    }
+    return parts;
+}
+
+const together = [];  // readings that wait for others of this moment
+let isByOne = false;  // an older front is asked for one after the other
+
+async function sendTogether(asked) {
+    const paths = asked.map(({path}) => path);
+    const parts = isByOne || paths.length < 2 ? null : await tryAgain(() => severalOnce(paths));
+    isByOne ||= parts === null && paths.length > 1;
+    asked.forEach(({path, found, refuse}, i) => {
+        const {status, value, reason} = parts?.[i] ?? {status: "fulfilled", value: read(path)};
+        status === "fulfilled" ? found(value) : refuse(reason);
+    });
+}
+
+// The same as `read`. What is asked for at one moment goes by few messages, and comes once all of one message is there.
+export function readTogether(path) {
+    return new Promise((found, refuse) => {
+        together.push({path, found, refuse});
+        setTimeout(() => {
+            const asked = together.splice(0, MOST_TOGETHER);
+            sendTogether(asked).catch((problem) => asked.forEach((one) => one.refuse(problem)));
+        });
+    });
+}
+
 // the body of the reply, or null where the thing isn't there or isn't seen
-export async function readIfThere(path) {
+export async function readIfThere(path, reading = read) {
     try {
-        return await read(path);
+        return await reading(path);
     } catch (problem) {
         if (problem.fault === "F4") {
             return null;

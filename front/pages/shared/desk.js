@@ -76,7 +76,7 @@ export function asTree(list) {
 
 // Reads things that are numbered from 1 without gaps, a few ahead, up to the first that is not there, and adds them to
 // the list.
-async function readOn(list, readOne, whenMore) {
+export async function readOn(list, readOne, whenMore = () => {}) {
     for (;;) {
         const numbers = Array.from({length: READ_AHEAD}, (_, i) => list.length + 1 + i);
         const things = await Promise.all(numbers.map(readOne));
@@ -207,7 +207,7 @@ const catalogue = {
 };
 
 export function charges() {
-    return readOn(catalogue.charges, (number) => readIfThere(`/charges/${number}`), () => {});
+    return readOn(catalogue.charges, (number) => readIfThere(`/charges/${number}`));
 }
 
 // Products are read anew where they must tell whether they are retired.
@@ -215,7 +215,7 @@ export async function products(isFresh = false) {
     if (isFresh) {
         catalogue.products = [];
     }
-    return readOn(catalogue.products, (number) => readIfThere(`/products/${number}`), () => {});
+    return readOn(catalogue.products, (number) => readIfThere(`/products/${number}`));
 }
 
 export async function product(number) {

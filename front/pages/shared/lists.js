@@ -59,8 +59,8 @@ async function listed(asking) {
 // clients
 
 // up to 500 clients of an office with numbers above one
-export async function clientsAfter(office, after) {
-    return (await listed(read(`/lists/clients/${office}/${after}`))).clients;
+export async function clientsAfter(office, after, reading = read) {
+    return (await listed(reading(`/lists/clients/${office}/${after}`))).clients;
 }
 
 async function find(office, part) {
@@ -99,8 +99,8 @@ async function allPages(first, readAfter, whenMore) {
 }
 
 // all active loans of an office of which something is due by a day and not settled
-export function dueBy(office, day, whenMore = () => {}) {
-    return allPages(0, async (after) => (await listed(read(`/lists/due/${office}/${day}/${after}`))).due, whenMore);
+export function dueBy(office, day, whenMore = () => {}, reading = read) {
+    return allPages(0, async (after) => (await listed(reading(`/lists/due/${office}/${day}/${after}`))).due, whenMore);
 }
 
 // up to 200 loans of a status

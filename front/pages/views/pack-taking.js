@@ -1,8 +1,9 @@
 // Takes a day along: of some offices what falls due within a week, with names and balances, their clients, and the
-// products. Names and terms never change, so those of the pack before aren't read again.
+// products. Names and terms never change, so those of the pack before aren't read again. What is asked for at one
+// moment goes by one message.
 import {alertBox, button, card, element, fill, freshId} from "../shared/elements.js";
-import {Problem, readIfThere} from "../shared/api.js";
-import {asTree, numberOf, offices, total} from "../shared/desk.js";
+import {Problem, readIfThere, readTogether} from "../shared/api.js";
+import {asTree, numberOf, offices, readOn, total} from "../shared/desk.js";
 import {dayOfNumber, LAST_DAY, numberOfDay} from "../shared/days.js";
 import {note} from "../shared/dialogs.js";
 import {CLIENTS_OF_A_PAGE, clientsAfter, dueBy, hasLists} from "../shared/lists.js";
@@ -20,7 +21,7 @@ const DAYS = 7;  // how far ahead
 async function clientsFrom(office, known) {
     const names = known.slice(0, -1);
     for (;;) {
-        const page = await clientsAfter(office, names.length);
+        const page = await clientsAfter(office, names.length, readTogether);
         if (names.length < known.length && page[0]?.name !== known.at(-1)) {
             return clientsFrom(office, []);
         }
@@ -47,8 +48,8 @@ function lineOf({loan, client, name, oldest, due, left, last}, dueNow, day) {
 }
 
 async function officePack({number, name}, day, until, known) {
-    const [now, soon, read] =
-        await Promise.all([dueBy(number, day), dueBy(number, until), clientsFrom(number, known)]);
+    const due = (last) => dueBy(number, last, () => {}, readTogether);
+    const [now, soon, read] = await Promise.all([due(day), due(until), clientsFrom(number, known)]);
     const dueNow = new Map(now.map(({loan, due}) => [loan, total(due)]));
     const clients = await clientsBeside(number, read, known, soon);
     return {number, name, clients, lines: soon.map((line) => lineOf(line, dueNow, day))};
@@ -63,15 +64,8 @@ function isSameDesk(before, packed) {
 
 // Products by number, from those that are known on. One that was retired since is told by the desk once its draft is
 // sent.
-async function productsFrom(known) {
-    const list = [...known];
-    for (;;) {
-        const next = await readIfThere(`/products/${list.length + 1}`);
-        if (next === null) {
-            return list;
-        }
-        list.push(next);
-    }
+function productsFrom(known) {
+    return readOn([...known], (number) => readIfThere(`/products/${number}`, readTogether));
 }
 
 // Reads what a pack of these offices has. before: the one that was taken along before, or null. Where the business day
@@ -82,9 +76,13 @@ async function readDay(offices, before) {
     window.dispatchEvent(new Event("desk-day"));
     const until = dayOfNumber(Math.min(numberOfDay(day) + DAYS, numberOfDay(LAST_DAY)));
     const mayEnter = may(OFFICER);
-    const packed = await Promise.all(
-        offices.map((office) => officePack(office, day, until, officeIn(before, office.number)?.clients ?? [])));
-    const products = mayEnter ? await productsFrom(isSameDesk(before, packed) ? before.products : []) : [];
+    const known = before?.products ?? [];
+    const [more, ...packed] = await Promise.all([
+        mayEnter ? productsFrom(known) : [],
+        ...offices.map((office) => officePack(office, day, until, officeIn(before, office.number)?.clients ?? []))
+    ]);
+    const isKnown = known.length === 0 || isSameDesk(before, packed);
+    const products = isKnown || !mayEnter ? more : await productsFrom([]);
     return {
         taken, businessDay: day, until, by: `${session.user} ${session.staff}`, mayEnter, products, offices: packed
     };
