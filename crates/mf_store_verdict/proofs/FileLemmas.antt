@@ -1,5 +1,5 @@
 -- What is said of a connection that shows a file is said of the database that the file held.
-use Rattle.std.proofs.Common.{◌≡◌, [], Option, None, Some, refl, sym, ap, ◌∙◌, subst}
+use Rattle.std.proofs.Common.{◌≡◌, List, [], Option, None, Some, refl, sym, ap, ◌∙◌, subst}
 use Rattle.sqlite.specs.Effect.{Database}
 use Rattle.sqlite.specs.Files.{HoldsDatabase}
 use Rattle.sqlite.specs.Schema.{Schema}
@@ -12,6 +12,10 @@ use Rattle.mf_store_schema.specs.Schemas.{IsKnown}
 use Rattle.mf_store_schema.specs.Versions.{IsOfVersion, schema_at}
 use Rattle.mf_store_schema.specs.declared.versions.Version.{Version}
 use Rattle.mf_store_schema.specs.declared.versions.Version.TheVariants.{Third}
+use Rattle.mf_journal.specs.declared.following.Head.{Head}
+use Rattle.mf_model.specs.Institution.{JournalLine}
+use Rattle.mf_store_journal.specs.Reading.{IsThird}
+use Rattle.mf_store_journal.specs.Written.{KeepsJournalFrom}
 use Rattle.mf_store_sound.specs.Files.{ShowsFile}
 use Rattle.mf_store_sound.proofs.FileLemmas.{under, seen}
 use Rattle.mf_store_sound.proofs.SchemaLemmas.{no_views}
@@ -21,6 +25,7 @@ use Rattle.mf_store_audit.specs.declared.audits.Audit.TheVariants.{NoTables, Oth
 use Rattle.mf_store_audit.specs.declared.audits.Audit.TheVariants as audit
 use Rattle.mf_store_played.specs.Answer.{IsAnswerOf}
 use Rattle.mf_store_played.specs.declared.played.Played.{Played}
+use Rattle.mf_store_verdict.specs.Heads.{StandsSo, IsHeadOf, IsHeadOfFile}
 use Rattle.mf_store_verdict.specs.Verdict.{IsPlayOf, IsVerdictOf, IsVerdictOfFile}
 use Rattle.mf_store_verdict.specs.declared.verdict.Verdict.{Verdict}
 use Rattle.mf_store_verdict.proofs.PlayLemmas.{third_there}
@@ -66,7 +71,25 @@ module _ (image : Image) (s : State) (shows : ShowsFile image s) (trees : Trees)
         answer,
   )
 
+  third_seen : IsThird k → IsThird s.now.schema
+  third_seen third = was_seen (schema_at Third) (no_views Third) third
+
+  -- where the journal stands is told of the tables that the file held
+  head_of : (told : Option Head) → IsHeadOf s.now told → IsHeadOf held told
+  head_of told is = record {
+    kept = λ third. subst (λ (db : Database). (begins : Head) (lines : List JournalLine)
+        → KeepsJournalFrom begins db.trees lines → StandsSo told begins lines)
+        (known_is_held Third (third_seen third)) (is.kept (third_seen third));
+    third = λ none. is.third
+        (λ here. none (subst (λ (db : Database). IsThird db.schema) (known_is_held Third here) here));
+  }
+
 module _ (image : Image) (s : State) (shows : ShowsFile image s) where
+  pub head_of_file : (told : Option Head) → IsHeadOf s.now told → IsHeadOfFile image told
+  head_of_file told is = record {
+    tables = λ trees k holds sound. head_of image s shows trees k holds sound told is;
+  }
+
   pub verdict_of_file : (v : Verdict) → IsVerdictOf s.now v → IsVerdictOfFile image v
   verdict_of_file v is = record {
     tables = λ trees k holds sound. record {

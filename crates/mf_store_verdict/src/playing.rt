@@ -17,7 +17,7 @@ use sqlite_schema::schema::Schema;
 use std::alloc::Global;
 
 /// Whether a schema is the one with a journal.
-fn is_third(found: &Schema) -> bool
+pub(crate) fn is_third(found: &Schema) -> bool
     ensures { IsTrue result ↔ IsThird found.now }
 {
     match version_of(found) {

@@ -6,6 +6,8 @@ use crate::places::{Place, place_at};
 use crate::telling::{FAULT, print_line};
 use mf_store_schema::{Version, has_log};
 use mf_store_sound::{Finding, look};
+use mf_store_verdict::head_of_file;
+use microloan_audit::head_text;
 
 /// What is said of a file with an institution that keeps no journal.
 pub const WITHOUT_JOURNAL: &str = "a sound institution, schema 2";
@@ -33,10 +35,41 @@ fn say(rt: &HostRuntime, file: &str, words: &str, more: &str) -> u8
     print_line(rt, format_args!("{file}: {words}{more}"))
 }
 
+/// Says where the journal of an institution stands, behind what is said of its file, and gives the status of printing it.
+fn say_journaled(rt: &HostRuntime, file: &str) -> u8
+    ensures { IsPrintStatus result }
+{
+    let told = match head_of_file(rt, file) {
+        Ok(Some(head)) => head_text(rt.alloc(), head).ok(),
+        _ => None,
+    };
+    match told {
+        Some(head) => {
+            let head = head.as_str();
+            print_line(rt, format_args!("{file}: {WITH_JOURNAL} ({head})"))
+        }
+        None => say(rt, file, WITH_JOURNAL, ""),
+    }
+}
+
+/// Whether a file holds an institution that keeps a journal.
+fn is_journaled(found: Finding) -> bool {
+    matches!(
+        found,
+        Finding::KnownTables {
+            version: Version::Third,
+            sound: true,
+        }
+    )
+}
+
 /// Says what was found in a database, and gives the program's status.
 fn say_found(rt: &HostRuntime, file: &str, found: Finding) -> u8
     ensures { IsPrintStatus result }
 {
+    if is_journaled(found) {
+        return say_journaled(rt, file);
+    }
     let by_log = is_torn(found) && matches!(has_log(rt, file), Ok(true));
     let more = if by_log {
         "; the log beside it may be another file's"

@@ -14,4 +14,5 @@ mod sums;
 mod text;
 mod unread;
 
+pub use played::head_text;
 pub use text::{audit_text, verdict_text};

@@ -1,0 +1,17 @@
+use Rattle.sqlite.specs.Files.{file_state}
+use Rattle.sqlite_wal.specs.Files.{image_at}
+use Rattle.mf_store_sound.proofs.FileLemmas.{left_as_held}
+use Rattle.mf_store_verdict.proofs.FileLemmas.{head_of_file}
+use Rattle.mf_store_verdict.proofs.heads.head_of_file_with.Goals as goal
+
+pub returns-in-Ok-clause-exact : goal.returns-in-Ok-clause-exact
+returns-in-Ok-clause-exact g c clean =
+    let told = c.in-Ok in
+    head_of_file (image_at g.S.Start) (file_state c.in_ok-connection.connection)
+    (c.in_ok-connection.ensures.shows (told.ensures.kept.premise clean)) told.head (told.ensures.exact clean)
+
+pub returns-in-Ok-clause-leaves : goal.returns-in-Ok-clause-leaves
+returns-in-Ok-clause-leaves g c clean trees holds left may =
+    let told = c.in-Ok in
+    left_as_held (image_at g.S.Start) (file_state c.in_ok-connection.connection) (c.in_ok-connection.ensures.shows
+    (told.ensures.kept.premise clean)) trees holds left (told.ensures.kept.stop clean (λ live. tt) left may)
