@@ -12,6 +12,8 @@ import tempfile
 import time
 import unittest
 
+from selenium.common.exceptions import ElementClickInterceptedException
+
 import desk
 import reader
 import running
@@ -113,7 +115,10 @@ class Phone(reader.Reader):
         if not found or not found[0].is_enabled():
             return False
         self.script("arguments[0].scrollIntoView({block: 'center'})", found[0])
-        found[0].click()
+        try:
+            found[0].click()
+        except ElementClickInterceptedException:  # it can't be pressed any more
+            return False
         return True
 
     def enter(self):
