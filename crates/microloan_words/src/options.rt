@@ -505,10 +505,10 @@ fn archive_command<'a>(alloc: Global) -> Result<Command<'a>, AllocError>
         alloc,
         "archive",
         "Move lines of closed days to an archive",
-        "The journal's lines of business days up to and with DAY move to a new file, whole,\n\
-         and then leave the institution's. DAY is before the business day. The line on\n\
-         standard output has the numbers of the lines and the chain after the last: note\n\
-         it elsewhere, and keep the archive.\n\n\
+        "The journal's lines of business days up to and with DAY move to a new file,\n\
+         whole, and then leave the institution's. DAY is before the business day. The\n\
+         line on standard output has the numbers of the lines and the chain after the\n\
+         last: note it elsewhere, and keep the archive.\n\n\
          Example:\n  microloan archive --existing --file desk.db --to 2024-12-31 --into 2024.db",
     );
     with_options(alloc, command, ARCHIVE_OPTIONS.as_slice())

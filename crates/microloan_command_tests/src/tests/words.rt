@@ -527,22 +527,13 @@ fn shows_help(rt: HostRuntime) -> Result<(), Fail> {
     let help = help_of(&rt, alloc, "microloan --help")?;
     assert!(rt; help.as_str().find("schedule").is_some());
     assert!(rt; help.as_str().lines().all(|line| line.len() <= 80));
-    // one line of the help of `archive` has two columns too many, which is known
-    for (command, widest) in [
-        ("batch", 80),
-        ("serve", 80),
-        ("collect", 80),
-        ("report", 80),
-        ("why", 80),
-        ("audit", 80),
-        ("upgrade", 80),
-        ("archive", 82),
-        ("ledger", 80),
+    for command in [
+        "batch", "serve", "collect", "report", "why", "audit", "upgrade", "archive", "ledger",
     ] {
         let line = format!(in alloc; "microloan {command} --help")?;
         let help = help_of(&rt, alloc, line.as_str())?;
         assert!(rt; help.as_str().find("Example:").is_some());
-        assert!(rt; help.as_str().lines().all(|line| line.len() <= widest));
+        assert!(rt; help.as_str().lines().all(|line| line.len() <= 80));
     }
     Ok(())
 }
