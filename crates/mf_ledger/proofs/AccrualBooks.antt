@@ -517,7 +517,7 @@ days_from a n first (suc count) i h =
     all-both (IsFrom a) (due_on n i first) (flat_map (due_on n i) (range_with_len (first + 1) count))
     (offices_from a n first i.catalogue i.offices h) (days_from a n (first + 1) count i (omega (arith, h)))
 
-line_from : (n : ℕ) (r : Request) (i j : Institution)
+pub line_from : (n : ℕ) (r : Request) (i j : Institution)
     → AllByRecursion (IsFrom i.catalogue.day) (adjustments_of n r i j)
 line_from n r i j =
     all-both (IsFrom i.catalogue.day) (adjusting_of n r i j) (due_between n i.catalogue.day j.catalogue.day j)

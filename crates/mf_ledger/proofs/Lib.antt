@@ -4,6 +4,7 @@ pub mod StepBooks
 pub mod RunBooks
 pub mod OpeningLemmas
 pub mod AccrualBooks
+pub mod BasisBooks
 pub mod TieLemmas
 pub mod RowLemmas
 pub mod SheetLemmas

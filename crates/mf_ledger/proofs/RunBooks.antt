@@ -184,7 +184,7 @@ later_from a b h (t ∷ ts) all = let first = all.0 in (omega (arith, h, first),
 pub day_grows : (l : Line) (i : Institution) → IsTree i.offices → i.catalogue.day ≤ (next l i).catalogue.day
 day_grows l i t = (run_keeps (l ∷ []) i t).catalogue.day
 
-request_from : (n : ℕ) (r : Request) (i j : Institution)
+pub request_from : (n : ℕ) (r : Request) (i j : Institution)
     → AllByRecursion (IsFrom i.catalogue.day) (transactions_of n r i j)
 request_from n (request.Unreadable flaw) i j = tt
 request_from n (request.Catalogue asked) i j = tt

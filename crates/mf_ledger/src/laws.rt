@@ -14,6 +14,8 @@ ghost use Rattle.mf_model.specs.Sound.{IsSound, AreInRange};
 ghost use Rattle.mf_model.specs.Tree.{IsTree};
 ghost use Rattle.mf_statement.specs.WorkedRows.{january, march};
 ghost use Rattle.mf_journal.specs.Journal.{writes_of};
+ghost use Rattle.mf_ledger.specs.declared.basis.Basis.{Basis};
+ghost use Rattle.mf_ledger.specs.declared.basis.Basis.TheVariants as basis;
 ghost use Rattle.mf_ledger.specs.declared.books.Posting.{Posting};
 ghost use Rattle.mf_ledger.specs.declared.books.Title.{Title};
 ghost use Rattle.mf_ledger.specs.declared.books.Title.TheVariants.{Cash, Principal, Interest, Fees, Penalties};
@@ -24,6 +26,7 @@ ghost use Rattle.mf_ledger.specs.declared.names.Program.TheVariants.{Hledger, Be
 ghost use Rattle.mf_ledger.specs.declared.occasion.Occasion.{Occasion};
 ghost use Rattle.mf_ledger.specs.Accrual.{accrued, accrued_in, office_accrued, due_open, adjustments};
 ghost use Rattle.mf_ledger.specs.Accrual.{receivable_of, waived_of, written_off_of, income_of};
+ghost use Rattle.mf_ledger.specs.Basis.{booked};
 ghost use Rattle.mf_ledger.specs.Books.{signed_sum, some_moves, titles, lent_on};
 ghost use Rattle.mf_ledger.specs.Runs.{Selection, everything, balance, office_balance, transactions, posted};
 ghost use Rattle.mf_ledger.specs.Runs.{posted_in_all, posted_by, between, at_end_of};
@@ -145,6 +148,19 @@ pub fn adjustments_come_to_the_accruals()
         ≡ adjustments n lines i ++ adjustments (n + length (writes_of lines i)) more (last lines i) }
     ensures dated { (i : Institution) (lines : List Line) (n : ℕ) → IsTree i.offices →
         AllByRecursion (λ (t : Transaction). i.catalogue.day ≤ t.day) (adjustments n lines i) }
+{}
+
+/// Books on a cash basis have the transactions of a run alone. On an accrual basis they have the adjusting ones beside
+/// them: in any span of days they move on each account what both move there. On either basis each transaction is dated
+/// no earlier than the business day on which its line comes.
+pub fn books_on_either_basis()
+    ensures cash { (i : Institution) (lines : List Line) (n : ℕ) → booked basis.Cash n lines i ≡ transactions n lines i }
+    ensures accrual { (i : Institution) (lines : List Line) (n first last : ℕ) (title : Title) (meant : Selection) →
+        posted title meant (between first last (booked basis.Accrual n lines i))
+        ≡ posted title meant (between first last (transactions n lines i))
+        +ℤ posted title meant (between first last (adjustments n lines i)) }
+    ensures dated { (kept_on : Basis) (i : Institution) (lines : List Line) (n : ℕ) → IsTree i.offices →
+        AllByRecursion (λ (t : Transaction). i.catalogue.day ≤ t.day) (booked kept_on n lines i) }
 {}
 
 /// What is receivable of a portion is what is outstanding of it in the instalments that fell due: at most what is

@@ -3,6 +3,7 @@
 #![tactic(auto)]
 
 mod accrual;
+mod basis;
 mod books;
 pub mod laws;
 mod names;
@@ -12,9 +13,10 @@ mod sheet;
 mod text;
 
 pub use accrual::{AccruedSums, adjusting_postings};
+pub use basis::Basis;
 pub use books::{BookAccount, LoanSums, Posting, Title, Transaction, postings};
 pub use names::{GivenName, Names, Program};
 pub use occasion::Occasion;
 pub use opening::opening_postings;
-pub use sheet::{opening_sheet, sheet_columns, transaction_sheet};
-pub use text::{opening_text, preamble, transaction_text};
+pub use sheet::{booked_sheet, opening_sheet, sheet_columns, transaction_sheet};
+pub use text::{booked_text, opening_text, preamble, transaction_text};

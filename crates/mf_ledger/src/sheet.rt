@@ -93,8 +93,8 @@ fn posting_line(
     }
 }
 
-/// The lines of postings: one for each whose amount isn't 0.
-fn sheet_of(
+/// The lines of postings in a sheet: one for each whose amount isn't 0. Its only error is F20, out of memory.
+pub fn booked_sheet(
     alloc: Global,
     names: &Names,
     occasion: &Occasion,
@@ -127,7 +127,7 @@ pub fn transaction_sheet(
     ensures only { IsOkUnless result Fault.F20 }
 {
     let occasion = transaction.occasion();
-    sheet_of(alloc, names, &occasion, &transaction.postings)
+    booked_sheet(alloc, names, &occasion, &transaction.postings)
 }
 
 /// The lines of the opening postings of a day, in the same way. Its only error is F20, out of memory.
@@ -141,7 +141,7 @@ pub fn opening_sheet(
         ≡ spec.sheet_text (spec.opening_rows names.now day postings.now)) }
     ensures only { IsOkUnless result Fault.F20 }
 {
-    sheet_of(alloc, names, &Occasion::opening(day), postings)
+    booked_sheet(alloc, names, &Occasion::opening(day), postings)
 }
 
 /// The first line of a sheet, which names its columns.

@@ -165,8 +165,9 @@ pub(crate) fn some_moves(postings: &[Posting]) -> bool
     postings.iter().any(|posting| posting.amount != 0)
 }
 
-/// Postings under a heading.
-fn booked_text(
+/// Postings under a heading, as the journal of a program has them; nothing where no amount is moved. Its only error is
+/// F20, out of memory.
+pub fn booked_text(
     alloc: Global,
     program: Program,
     names: &Names,

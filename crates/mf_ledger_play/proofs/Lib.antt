@@ -1,3 +1,5 @@
-pub mod LoanLemmas
 pub mod RunLemmas
+pub mod LoanLemmas
+pub mod HeldLemmas
+pub mod PassedLemmas
 pub mod LineLemmas

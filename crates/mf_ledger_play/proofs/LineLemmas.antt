@@ -9,40 +9,29 @@ use Rattle.std.proofs.lemmas.Option.{slice_get-map}
 use Rattle.mf_base.specs.declared.fault.Fault.{Fault}
 use Rattle.mf_journal.specs.Chain.{line_of_row}
 use Rattle.mf_journal.specs.declared.chain.JournalRow.{JournalRow}
-use Rattle.mf_ledger.specs.Runs.{between, loan_postings, transactions}
+use Rattle.mf_ledger.specs.Basis.{booked, booked_of}
+use Rattle.mf_ledger.specs.declared.basis.Basis.TheVariants.{Accrual}
 use Rattle.mf_ledger.specs.declared.books.Posting.{Posting}
-use Rattle.mf_ledger.specs.declared.books.Transaction.{Transaction}
-use Rattle.mf_office.specs.declared.account.Account.{Account}
+use Rattle.mf_ledger.specs.declared.occasion.Occasion.{Occasion}
+use Rattle.mf_ledger.specs.Runs.{between}
 use Rattle.mf_model.specs.Institution.{Institution, JournalLine}
 use Rattle.mf_model.specs.Store.{Reads}
 use Rattle.mf_model.specs.declared.store.InstitutionStore.{Ghosts}
 use Rattle.mf_play.specs.Play.{IsPlayed, PlaysTo}
 use Rattle.mf_play.specs.Playing.{PlaysLine}
 use Rattle.mf_play.specs.declared.stop.Stop.{Stop}
-use Rattle.mf_ledger_play.specs.Told.{form_text, loan_told, run_told, span_text, state_at, transaction_between}
-use Rattle.mf_ledger_play.specs.Playing.{BooksLine, BooksLines, IsBooked, MovesLine}
+use Rattle.mf_ledger_play.specs.Due.{passed_of}
+use Rattle.mf_ledger_play.specs.Told.{adjusted_postings, form_booked, form_text, loan_told, moved, moved_postings}
+use Rattle.mf_ledger_play.specs.Told.{run_told, span_text, state_at}
+use Rattle.mf_ledger_play.specs.Playing.{AddsPassed, BooksLine, BooksLines, IsBooked, MovesLine, OwnLine, own_of}
 use Rattle.mf_ledger_play.specs.declared.form.BooksAsked.{BooksAsked}
 use Rattle.mf_ledger_play.specs.declared.line.Booking.{Booking}
+use Rattle.mf_ledger_play.specs.declared.line.LoanMoved.{LoanMoved}
 use Rattle.mf_ledger_play.specs.declared.loans.LoanState.{LoanState}
-use Rattle.mf_ledger_play.proofs.RunLemmas.{no_transaction_told, none_outside, span_text_one, span_text_parted}
-use Rattle.mf_ledger_play.proofs.RunLemmas.{transaction_told, transactions_parted}
+use Rattle.mf_ledger_play.proofs.RunLemmas.{booked_alone, booked_by_parts, booked_parted, moved_within, named_told}
+use Rattle.mf_ledger_play.proofs.RunLemmas.{of_line, own_moved, own_none, own_outside, read_in, span_text_parted}
 
 -- ---- what is written
-
--- nothing
-none_booked : (asked : BooksAsked) (n : ℕ) (lines : List JournalLine) (i : Institution) (text : List ℕ)
-    → between asked.first asked.last (transactions n (run_told lines) i) ≡ [] → IsBooked asked n lines i text text
-none_booked asked n lines i text none = record {
-  text = sym (append-nil text) ∙ ap (λ ts. text ++ flat_map (form_text asked.form asked.names) ts) (sym none);
-}
-
--- one transaction
-one_booked : (asked : BooksAsked) (n : ℕ) (l : JournalLine) (i : Institution) (t : Transaction) (was now : List ℕ)
-    → transactions n (run_told (l ∷ [])) i ≡ t ∷ [] → (nat_le asked.first t.day && nat_le t.day asked.last) ≡ true
-    → now ≡ was ++ form_text asked.form asked.names t → IsBooked asked n (l ∷ []) i was now
-one_booked asked n l i t was now are within written = record {
-  text = written ∙ ap (λ text. was ++ text) (sym (ap (span_text asked) are ∙ span_text_one asked t within));
-}
 
 -- lines behind lines
 pub more_booked : (asked : BooksAsked) (n m : ℕ) (lines more : List JournalLine) (i j : Institution)
@@ -50,31 +39,48 @@ pub more_booked : (asked : BooksAsked) (n m : ℕ) (lines more : List JournalLin
     → IsBooked asked m more j mid now → IsBooked asked n (lines ++ more) i was now
 more_booked asked n m lines more i j was mid now number plays first second = record {
   text = second.text
-      ∙ ap₂ (λ text k. text ++ span_text asked (transactions k (run_told more) j)) first.text number
-      ∙ append_assoc was (span_text asked (transactions n (run_told lines) i))
-      (span_text asked (transactions (n + length lines) (run_told more) j))
-      ∙ ap (λ text. was ++ text) (sym (ap (span_text asked) (transactions_parted n i j lines more plays)
-      ∙ span_text_parted asked (transactions n (run_told lines) i)
-      (transactions (n + length lines) (run_told more) j)));
+      ∙ ap₂ (λ text k. text ++ span_text asked (booked asked.basis k (run_told more) j)) first.text number
+      ∙ append_assoc was (span_text asked (booked asked.basis n (run_told lines) i))
+      (span_text asked (booked asked.basis (n + length lines) (run_told more) j))
+      ∙ ap (λ text. was ++ text) (sym (ap (span_text asked) (booked_parted asked.basis n i j lines more plays)
+      ∙ span_text_parted asked (booked asked.basis n (run_told lines) i)
+      (booked asked.basis (n + length lines) (run_told more) j)));
 }
 
 pub no_lines_booked : (asked : BooksAsked) (n : ℕ) (i : Institution) (text : List ℕ) → IsBooked asked n [] i text text
-no_lines_booked asked n i text = none_booked asked n [] i text refl
+no_lines_booked asked n i text = record { text = sym (append-nil text) }
+
+-- what a line on a loan is of
+abbrev pub occasion_of_line : Booking → Occasion
+occasion_of_line b = record { day = b.day; number = b.number; loan = Some b.loan }
+
+-- the transaction of a line on a loan, and its adjusting one behind it
+pub both_written : (asked : BooksAsked) (b : Booking) (m : LoanMoved) (cash added : List Posting) (was mid now : List ℕ)
+    → cash ≡ moved_postings b m → added ≡ adjusted_postings b m
+    → mid ≡ was ++ form_booked asked.form asked.names (occasion_of_line b) cash
+    → now ≡ mid ++ form_booked asked.form asked.names (occasion_of_line b) added
+    → now ≡ was ++ flat_map (form_text asked.form asked.names) (moved Accrual b m)
+both_written asked b m cash added was mid now cash_is added_is first second =
+    let write : List Posting → List ℕ = form_booked asked.form asked.names (occasion_of_line b) in
+    let one = write (moved_postings b m) in
+    let two = write (adjusted_postings b m) in
+    second ∙ ap₂ (λ text ps. text ++ write ps) (first ∙ ap (λ ps. was ++ write ps) cash_is) added_is
+    ∙ append_assoc was one two ∙ ap (λ text. was ++ (one ++ text)) (sym (append-nil two))
 
 -- ---- a line
 
--- a transaction of these
-abbrev made : ℕ → ℕ → Account → List Posting → Transaction
-made number day loan postings = record { number = number; day = day; loan = loan; postings = postings }
+-- what was read before and after
+abbrev pair : LoanState → LoanState → LoanMoved
+pair before after = record { before = before; after = after }
 
 module _ {S : Type 0} (store : Ghosts S) where
   -- its loan was read before it and after it
-  pub line_moved : (l : JournalLine) (b : Booking) (t : Transaction) (before after : LoanState) (old mid late new : S)
-      → Reads store.stands store.clean store.leaves (state_at b.loan) old mid (Ok before)
+  pub line_moved : (l : JournalLine) (b : Booking) (m : LoanMoved) (old mid late new : S)
+      → Reads store.stands store.clean store.leaves (state_at b.day b.loan) old mid (Ok m.before)
       → PlaysLine store l mid late (Ok (Ok tt))
-      → Reads store.stands store.clean store.leaves (state_at b.loan) late new (Ok after)
-      → t ≡ transaction_between b before after → MovesLine store b l old new (Ok t)
-  line_moved l b t before after old mid late new first plays second is = record {
+      → Reads store.stands store.clean store.leaves (state_at b.day b.loan) late new (Ok m.after)
+      → MovesLine store b l old new (Ok m)
+  line_moved l b m old mid late new first plays second = record {
     premise = λ k. first.premise (plays.premise (second.premise k));
     came = λ k i s.
         let k-late = second.premise k in
@@ -84,89 +90,131 @@ module _ {S : Type 0} (store : Ghosts S) where
           j,
           went.1,
           second.same k j went.2,
-          λ n at today on. transaction_told n i j l b.loan went.1 on
-              ∙ ap (λ x. x ∷ []) (sym (is
-              ∙ ap₂ (transaction_between b) (first.value_is k-mid i s) (second.value_is k j went.2)
-              ∙ ap₂ (λ number day. made number day b.loan (loan_postings b.loan i j)) at today)),
+          first.value_is k-mid i s,
+          second.value_is k j went.2,
         );
   }
 
   -- it doesn't play
   pub line_stopped : (l : JournalLine) (b : Booking) (before : LoanState) (why : Stop) (old mid new : S)
-      → Reads store.stands store.clean store.leaves (state_at b.loan) old mid (Ok before)
+      → Reads store.stands store.clean store.leaves (state_at b.day b.loan) old mid (Ok before)
       → PlaysLine store l mid new (Ok (Err why)) → MovesLine store b l old new (Err why)
   line_stopped l b before why old mid new first plays = record {
     premise = λ k. first.premise (plays.premise k);
     came = λ k i s. (plays.came k i (first.same (plays.premise k) i s)).0;
   }
 
-  module _ (asked : BooksAsked) (n : ℕ) (l : JournalLine) (day : ℕ) (old mid : S)
-      (today : Reads store.stands store.clean store.leaves (λ i. i.catalogue.day) old mid (Ok day)) where
-    -- nothing is to be written of it
-    unbooked : (text : List ℕ) (new : S) (result : Result (Result (Unit {0}) Stop) Fault)
-        → ((i j : Institution) → day ≡ i.catalogue.day → IsPlayed i l j
-        → between asked.first asked.last (transactions n (run_told (l ∷ [])) i) ≡ [])
-        → PlaysLine store l mid new result → IfOk result (BooksLine store asked n l text text old new)
-    unbooked text new (Ok (Ok done)) none plays = record {
-      premise = λ k. today.premise (plays.premise k);
-      came = λ k i s.
-          let early = plays.premise k in
-          let went = plays.came k i (today.same early i s) in (
-            went.0,
-            went.1,
-            went.2,
-            none_booked asked n (l ∷ []) i text (none i went.0 (today.value_is early i s) went.1),
-          );
+  module _ (asked : BooksAsked) (number day : ℕ) (l : JournalLine) where
+    -- nothing is to be written of its request
+    unwritten : (text : List ℕ) (old new : S) (result : Result (Result (Unit {0}) Stop) Fault)
+        → ((i j : Institution) (p : IsPlayed i l j) → day ≡ i.catalogue.day
+        → between asked.first asked.last (own_of asked.basis number p.call.request i j) ≡ [])
+        → PlaysLine store l old new result → IfOk result (OwnLine store asked number day l text text old new)
+    unwritten text old new (Ok (Ok done)) none plays = record {
+      premise = plays.premise;
+      came = λ k i s. let went = plays.came k i s in (
+        went.0,
+        went.1,
+        went.2,
+        λ today. sym (append-nil text) ∙ ap (λ ts. text ++ flat_map (form_text asked.form asked.names) ts)
+            (sym (none i went.0 went.1 today)),
+      );
     }
-    unbooked text new (Ok (Err why)) none plays = record {
-      premise = λ k. today.premise (plays.premise k);
-      came = λ k i s. (plays.came k i (today.same (plays.premise k) i s)).0;
+    unwritten text old new (Ok (Err why)) none plays = record {
+      premise = plays.premise;
+      came = λ k i s. (plays.came k i s).0;
     }
-    unbooked text new (Err fault) none plays = tt
+    unwritten text old new (Err fault) none plays = tt
 
     -- its day isn't asked for
-    pub outside_booked : (text : List ℕ) (new : S) (result : Result (Result (Unit {0}) Stop) Fault)
-        → (nat_le asked.first day && nat_le day asked.last) ≡ false → PlaysLine store l mid new result
-        → IfOk result (BooksLine store asked n l text text old new)
-    outside_booked text new result outside plays =
-        unbooked text new result (λ i j is p. none_outside asked.first asked.last n i j l p
-        (ap (λ d. nat_le asked.first d && nat_le d asked.last) (sym is) ∙ outside)) plays
+    pub outside_written : (text : List ℕ) (old new : S) (result : Result (Result (Unit {0}) Stop) Fault)
+        → (nat_le asked.first day && nat_le day asked.last) ≡ false → PlaysLine store l old new result
+        → IfOk result (OwnLine store asked number day l text text old new)
+    outside_written text old new result outside plays =
+        unwritten text old new result (λ i j p is. own_outside asked.basis asked.first asked.last number
+        p.call.request i j (ap (λ d. nat_le asked.first d && nat_le d asked.last) (sym is) ∙ outside)) plays
 
     -- it is on no loan
-    pub on_none_booked : (text : List ℕ) (new : S) (result : Result (Result (Unit {0}) Stop) Fault)
-        → loan_told l ≡ None → PlaysLine store l mid new result
-        → IfOk result (BooksLine store asked n l text text old new)
-    on_none_booked text new result none plays =
-        unbooked text new result (λ i j is p. ap (between asked.first asked.last)
-        (no_transaction_told n i j l p none)) plays
+    pub none_written : (text : List ℕ) (old new : S) (result : Result (Result (Unit {0}) Stop) Fault)
+        → loan_told l ≡ None → PlaysLine store l old new result
+        → IfOk result (OwnLine store asked number day l text text old new)
+    none_written text old new result none plays =
+        unwritten text old new result (λ i j p is. ap (between asked.first asked.last)
+        (own_none asked.basis p.call.request number i j (named_told i j l p ∙ none))) plays
 
-    module _ (b : Booking) (number : b.number ≡ n + 1) (dated : b.day ≡ day) (on : loan_told l ≡ Some b.loan) where
+    module _ (b : Booking) (its : b ≡ of_line number day b.loan) (on : loan_told l ≡ Some b.loan) where
       -- it is on a loan
-      pub on_loan_booked : (t : Transaction) (was now : List ℕ) (new : S)
-          → (nat_le asked.first day && nat_le day asked.last) ≡ true → t.day ≡ b.day
-          → MovesLine store b l mid new (Ok t) → now ≡ was ++ form_text asked.form asked.names t
-          → BooksLine store asked n l was now old new (Ok tt)
-      on_loan_booked t was now new within its moves written = record {
-        premise = λ k. today.premise (moves.premise k);
-        came = λ k i s.
-            let early = moves.premise k in
-            let went = moves.came k i (today.same early i s) in
-            let are = went.3 n number (dated ∙ today.value_is early i s) on in (
-              went.0,
-              went.1,
-              went.2,
-              one_booked asked n l i t was now are
-                  (ap (λ d. nat_le asked.first d && nat_le d asked.last) (its ∙ dated) ∙ within) written,
-            );
+      pub loan_written : (m : LoanMoved) (was now : List ℕ) (old new : S)
+          → (nat_le asked.first day && nat_le day asked.last) ≡ true → MovesLine store b l old new (Ok m)
+          → now ≡ was ++ flat_map (form_text asked.form asked.names) (moved asked.basis b m)
+          → OwnLine store asked number day l was now old new (Ok tt)
+      loan_written m was now old new within moves written = record {
+        premise = moves.premise;
+        came = λ k i s. let went = moves.came k i s in (
+          went.0,
+          went.1,
+          went.2,
+          λ today.
+              let j = went.0 in
+              let dated : b.day ≡ i.catalogue.day = ap (λ (x : Booking). x.day) its ∙ today in
+              let own = own_moved asked.basis went.1.call.request b.loan number i j (named_told i j l went.1 ∙ on) in
+              let same : moved asked.basis b m
+              ≡ moved asked.basis (of_line number i.catalogue.day b.loan) (read_in i.catalogue.day b.loan i j) =
+              ap₂ (moved asked.basis) (its ∙ ap (λ d. of_line number d b.loan) today)
+              (ap₂ pair went.3 went.4
+              ∙ ap (λ d. read_in d b.loan i j) dated) in
+              written ∙ ap (λ ts. was ++ flat_map (form_text asked.form asked.names) ts) (
+              sym (moved_within asked.basis asked.first asked.last b m
+              (ap (λ (x : Booking). nat_le asked.first x.day && nat_le x.day asked.last) its ∙ within))
+              ∙ ap (between asked.first asked.last) (same ∙ sym own)),
+        );
       }
 
       -- it doesn't play
-      pub on_loan_stopped : (why : Stop) (was now : List ℕ) (new : S) → MovesLine store b l mid new (Err why)
-          → BooksLine store asked n l was now old new (Err why)
-      on_loan_stopped why was now new moves = record {
-        premise = λ k. today.premise (moves.premise k);
-        came = λ k i s. moves.came k i (today.same (moves.premise k) i s);
-      }
+      pub loan_stopped : (why : Stop) (was now : List ℕ) (old new : S) → MovesLine store b l old new (Err why)
+          → OwnLine store asked number day l was now old new (Err why)
+      loan_stopped why was now old new moves = record { premise = moves.premise; came = moves.came }
+
+  module _ (asked : BooksAsked) (n number day : ℕ) (l : JournalLine) (is : number ≡ n + 1) (old mid : S)
+      (today : Reads store.stands store.clean store.leaves (λ i. i.catalogue.day) old mid (Ok day)) where
+    -- the transactions of its request are written, and those of the days that pass
+    pub line_booked : (was text now : List ℕ) (late new : S)
+        → OwnLine store asked number day l was text mid late (Ok tt)
+        → AddsPassed store asked number day text now late new → BooksLine store asked n l was now old new (Ok tt)
+    line_booked was text now late new own adds = record {
+      premise = λ k. today.premise (own.premise (adds.premise k));
+      came = λ k i s.
+          let k-late = adds.premise k in
+          let k-mid = own.premise k-late in
+          let went = own.came k-late i (today.same k-mid i s) in
+          let dated = today.value_is k-mid i s in
+          let j = went.0 in
+          let r = went.1.call.request in
+          let first = own_of asked.basis number r i j in
+          let later = passed_of asked.basis number day j in (
+            j,
+            went.1,
+            adds.same k j went.2,
+            record {
+              text = adds.text k j went.2 ∙ ap (λ t. t ++ span_text asked later) (went.3 dated)
+                  ∙ append_assoc was (span_text asked first) (span_text asked later)
+                  ∙ ap (λ t. was ++ t) (sym (span_text_parted asked first later)
+                  ∙ ap (λ d. span_text asked (first ++ passed_of asked.basis number d j)) dated
+                  ∙ ap (span_text asked) (sym (booked_by_parts asked.basis number r i j))
+                  ∙ ap (λ m. span_text asked (booked_of asked.basis m r i j)) is
+                  ∙ ap (span_text asked) (sym (booked_alone asked.basis n i j l went.1)));
+            },
+          );
+    }
+
+    -- it doesn't play
+    pub line_unplayed : (why : Stop) (was text now : List ℕ) (new : S)
+        → OwnLine store asked number day l was text mid new (Err why)
+        → BooksLine store asked n l was now old new (Err why)
+    line_unplayed why was text now new own = record {
+      premise = λ k. today.premise (own.premise k);
+      came = λ k i s. own.came k i (today.same (own.premise k) i s);
+    }
 
 -- ---- line by line
 

@@ -16,13 +16,23 @@ use Rattle.mf_model.specs.Tree.{IsTree}
 use Rattle.mf_model.specs.Unseen.{call_from}
 use Rattle.mf_model.specs.declared.request.Request.{Request}
 use Rattle.mf_model.specs.declared.request.Request.TheVariants as request
-use Rattle.mf_ledger.specs.Runs.{between, loan_postings, transactions, transactions_of}
+use Rattle.mf_model.specs.declared.request.LoanRequest.{LoanRequest}
+use Rattle.mf_ledger.specs.Accrual.{adjusting_of, due_between}
+use Rattle.mf_ledger.specs.Basis.{booked, booked_of}
+use Rattle.mf_ledger.specs.Runs.{between, transactions_of}
+use Rattle.mf_ledger.specs.declared.basis.Basis.{Basis}
+use Rattle.mf_ledger.specs.declared.basis.Basis.TheVariants.{Cash, Accrual}
 use Rattle.mf_ledger.specs.declared.books.Transaction.{Transaction}
-use Rattle.mf_ledger.proofs.RunBooks.{each_from}
+use Rattle.mf_ledger.proofs.BasisBooks.{booked_dated}
 use Rattle.mf_play.specs.Play.{asked_by_text, call_told, caller_told, if_readable, text_told, IsPlayed, PlaysTo}
 use Rattle.mf_wire_requests.specs.Requests.{request_of}
-use Rattle.mf_ledger_play.specs.Told.{form_text, loan_named, loan_told, run_told, span_text}
+use Rattle.mf_ledger_play.specs.Due.{passed_of}
+use Rattle.mf_ledger_play.specs.Playing.{own_of}
+use Rattle.mf_ledger_play.specs.Told.{adjusted_postings, form_text, loan_named, loan_told, moved, moved_postings}
+use Rattle.mf_ledger_play.specs.Told.{run_told, span_text, state_at, transaction_with}
 use Rattle.mf_ledger_play.specs.declared.form.BooksAsked.{BooksAsked}
+use Rattle.mf_ledger_play.specs.declared.line.Booking.{Booking}
+use Rattle.mf_ledger_play.specs.declared.line.LoanMoved.{LoanMoved}
 
 -- ---- the request of a line
 
@@ -71,31 +81,46 @@ run_first : (i j : Institution) (l : JournalLine) (ls : List JournalLine) (p : I
 run_first i j l ls p = ap (λ c. cons_option (option_map line_answered c) (run_told ls)) p.told
 
 -- they are those of the first, and then those of the others
-pub transactions_first : (n : ℕ) (i j : Institution) (l : JournalLine) (ls : List JournalLine) (p : IsPlayed i l j)
-    → transactions n (run_told (l ∷ ls)) i
-    ≡ transactions_of (n + 1) p.call.request i j ++ transactions (n + 1) (run_told ls) j
-transactions_first n i j l ls p =
+pub booked_first : (basis : Basis) (n : ℕ) (i j : Institution) (l : JournalLine) (ls : List JournalLine)
+    (p : IsPlayed i l j) → booked basis n (run_told (l ∷ ls)) i
+    ≡ booked_of basis (n + 1) p.call.request i j ++ booked basis (n + 1) (run_told ls) j
+booked_first basis n i j l ls p =
     let one = line_answered p.call in
-    ap (λ run. transactions n run i) (run_first i j l ls p)
-    ∙ ap (λ c. cond (is_some c) (transactions_of (n + 1) p.call.request i (next one i)
-    ++ transactions (n + 1) (run_told ls) (next one i)) (transactions n (run_told ls) (next one i))) p.accepted
-    ∙ ap (λ m. transactions_of (n + 1) p.call.request i m ++ transactions (n + 1) (run_told ls) m) (after_told i j l p)
+    ap (λ run. booked basis n run i) (run_first i j l ls p)
+    ∙ ap (λ c. cond (is_some c) (booked_of basis (n + 1) p.call.request i (next one i)
+    ++ booked basis (n + 1) (run_told ls) (next one i)) (booked basis n (run_told ls) (next one i))) p.accepted
+    ∙ ap (λ m. booked_of basis (n + 1) p.call.request i m ++ booked basis (n + 1) (run_told ls) m)
+    (after_told i j l p)
+
+-- those of one line
+pub booked_alone : (basis : Basis) (n : ℕ) (i j : Institution) (l : JournalLine) (p : IsPlayed i l j)
+    → booked basis n (run_told (l ∷ [])) i ≡ booked_of basis (n + 1) p.call.request i j
+booked_alone basis n i j l p =
+    booked_first basis n i j l [] p ∙ append-nil (booked_of basis (n + 1) p.call.request i j)
 
 -- the transactions of lines in two parts
-pub transactions_parted : (n : ℕ) (i j : Institution) (lines more : List JournalLine) → PlaysTo i lines j
-    → transactions n (run_told (lines ++ more)) i
-    ≡ transactions n (run_told lines) i ++ transactions (n + length lines) (run_told more) j
-transactions_parted n i j [] more p =
-    ap₂ (λ m k. transactions m (run_told more) k) (omega arith) (sym p)
-transactions_parted n i j (l ∷ ls) more p =
+pub booked_parted : (basis : Basis) (n : ℕ) (i j : Institution) (lines more : List JournalLine) → PlaysTo i lines j
+    → booked basis n (run_told (lines ++ more)) i
+    ≡ booked basis n (run_told lines) i ++ booked basis (n + length lines) (run_told more) j
+booked_parted basis n i j [] more p =
+    ap₂ (λ m k. booked basis m (run_told more) k) (omega arith) (sym p)
+booked_parted basis n i j (l ∷ ls) more p =
     let mid = p.0 in
-    let rest = transactions_parted (n + 1) mid j ls more p.2 in
+    let rest = booked_parted basis (n + 1) mid j ls more p.2 in
     let number : (n + 1) + length ls ≡ n + length (l ∷ ls) = omega arith in
-    transactions_first n i mid l (ls ++ more) p.1
-    ∙ ap (λ ts. transactions_of (n + 1) p.1.call.request i mid ++ ts) rest
-    ∙ sym (append_assoc (transactions_of (n + 1) p.1.call.request i mid) (transactions (n + 1) (run_told ls) mid)
-    (transactions (n + 1 + length ls) (run_told more) j))
-    ∙ ap₂ (λ ts m. ts ++ transactions m (run_told more) j) (sym (transactions_first n i mid l ls p.1)) number
+    booked_first basis n i mid l (ls ++ more) p.1
+    ∙ ap (λ ts. booked_of basis (n + 1) p.1.call.request i mid ++ ts) rest
+    ∙ sym (append_assoc (booked_of basis (n + 1) p.1.call.request i mid) (booked basis (n + 1) (run_told ls) mid)
+    (booked basis (n + 1 + length ls) (run_told more) j))
+    ∙ ap₂ (λ ts m. ts ++ booked basis m (run_told more) j) (sym (booked_first basis n i mid l ls p.1)) number
+
+-- the transactions of a line are those of its request, and those of the passing of days
+pub booked_by_parts : (basis : Basis) (n : ℕ) (r : Request) (i j : Institution)
+    → booked_of basis n r i j ≡ own_of basis n r i j ++ passed_of basis n i.catalogue.day j
+booked_by_parts Cash n r i j = refl
+booked_by_parts Accrual n r i j =
+    sym (append_assoc (transactions_of n r i j) (adjusting_of n r i j)
+    (due_between n i.catalogue.day j.catalogue.day j))
 
 -- the run leads where the lines play to
 pub last_told : (i j : Institution) (lines : List JournalLine) → PlaysTo i lines j → last (run_told lines) i ≡ j
@@ -106,76 +131,86 @@ last_told i j (l ∷ ls) p =
 
 -- ---- on a loan or not
 
-on_loan : (r : Request) (loan : Account) (m : ℕ) (i j : Institution) → loan_named r ≡ Some loan
-    → transactions_of m r i j
-    ≡ record { number = m; day = i.catalogue.day; loan = loan; postings = loan_postings loan i j } ∷ []
-on_loan (request.Loan x asked) loan m i j h =
-    ap (λ (y : Account). record {
-      number = m;
-      day = i.catalogue.day;
-      loan = y;
-      postings = loan_postings y i j;
-    } ∷ []) (some_same x loan h)
-on_loan (request.Unreadable flaw) loan m i j h = absurd (none≢some loan h)
-on_loan (request.Catalogue asked) loan m i j h = absurd (none≢some loan h)
-on_loan (request.Office office asked) loan m i j h = absurd (none≢some loan h)
-on_loan request.SeenOffices loan m i j h = absurd (none≢some loan h)
-on_loan request.SeenArrears loan m i j h = absurd (none≢some loan h)
-on_loan (request.NewOffice number parent name) loan m i j h = absurd (none≢some loan h)
+-- what is of a line on a loan
+abbrev pub of_line : ℕ → ℕ → Account → Booking
+of_line number day loan = record { number = number; day = day; loan = loan }
 
-on_none : (r : Request) (m : ℕ) (i j : Institution) → loan_named r ≡ None → transactions_of m r i j ≡ []
-on_none (request.Loan x asked) m i j h = absurd (none≢some x (sym h))
-on_none (request.Unreadable flaw) m i j h = refl
-on_none (request.Catalogue asked) m i j h = refl
-on_none (request.Office office asked) m i j h = refl
-on_none request.SeenOffices m i j h = refl
-on_none request.SeenArrears m i j h = refl
-on_none (request.NewOffice number parent name) m i j h = refl
+-- what the books read of a loan at the end of a day, in two institutions
+abbrev pub read_in : ℕ → Account → Institution → Institution → LoanMoved
+read_in day loan i j = record { before = state_at day loan i; after = state_at day loan j }
 
--- the transaction of a line on a loan
-pub transaction_told : (n : ℕ) (i j : Institution) (l : JournalLine) (loan : Account) → IsPlayed i l j
-    → loan_told l ≡ Some loan → transactions n (run_told (l ∷ [])) i
-    ≡ record { number = n + 1; day = i.catalogue.day; loan = loan; postings = loan_postings loan i j } ∷ []
-transaction_told n i j l loan p on =
-    let its = ap loan_named (sym (told_request l p.call p.told)) ∙ on in
-    transactions_first n i j l [] p ∙ append-nil (transactions_of (n + 1) p.call.request i j)
-    ∙ on_loan p.call.request loan (n + 1) i j its
+on_loan : (basis : Basis) (loan : Account) (asked : LoanRequest) (m : ℕ) (i j : Institution)
+    → own_of basis m (request.Loan loan asked) i j
+    ≡ moved basis (of_line m i.catalogue.day loan) (read_in i.catalogue.day loan i j)
+on_loan Cash loan asked m i j = refl
+on_loan Accrual loan asked m i j = refl
 
--- a line on no loan has none
-pub no_transaction_told : (n : ℕ) (i j : Institution) (l : JournalLine) → IsPlayed i l j → loan_told l ≡ None
-    → transactions n (run_told (l ∷ [])) i ≡ []
-no_transaction_told n i j l p on =
-    let its = ap loan_named (sym (told_request l p.call p.told)) ∙ on in
-    transactions_first n i j l [] p ∙ append-nil (transactions_of (n + 1) p.call.request i j)
-    ∙ on_none p.call.request (n + 1) i j its
+-- the transactions of a request on a loan
+pub own_moved : (basis : Basis) (r : Request) (loan : Account) (m : ℕ) (i j : Institution)
+    → loan_named r ≡ Some loan → own_of basis m r i j
+    ≡ moved basis (of_line m i.catalogue.day loan) (read_in i.catalogue.day loan i j)
+own_moved basis (request.Loan x asked) loan m i j h =
+    on_loan basis x asked m i j
+    ∙ ap (λ (y : Account). moved basis (of_line m i.catalogue.day y) (read_in i.catalogue.day y i j))
+    (some_same x loan h)
+own_moved basis (request.Unreadable flaw) loan m i j h = absurd (none≢some loan h)
+own_moved basis (request.Catalogue asked) loan m i j h = absurd (none≢some loan h)
+own_moved basis (request.Office office asked) loan m i j h = absurd (none≢some loan h)
+own_moved basis request.SeenOffices loan m i j h = absurd (none≢some loan h)
+own_moved basis request.SeenArrears loan m i j h = absurd (none≢some loan h)
+own_moved basis (request.NewOffice number parent name) loan m i j h = absurd (none≢some loan h)
+
+-- those of a request on none
+pub own_none : (basis : Basis) (r : Request) (m : ℕ) (i j : Institution) → loan_named r ≡ None
+    → own_of basis m r i j ≡ []
+own_none basis (request.Loan x asked) m i j h = absurd (none≢some x (sym h))
+own_none Cash (request.Unreadable flaw) m i j h = refl
+own_none Accrual (request.Unreadable flaw) m i j h = refl
+own_none Cash (request.Catalogue asked) m i j h = refl
+own_none Accrual (request.Catalogue asked) m i j h = refl
+own_none Cash (request.Office office asked) m i j h = refl
+own_none Accrual (request.Office office asked) m i j h = refl
+own_none Cash request.SeenOffices m i j h = refl
+own_none Accrual request.SeenOffices m i j h = refl
+own_none Cash request.SeenArrears m i j h = refl
+own_none Accrual request.SeenArrears m i j h = refl
+own_none Cash (request.NewOffice number parent name) m i j h = refl
+own_none Accrual (request.NewOffice number parent name) m i j h = refl
+
+-- the loan that a line is on is that of its request
+pub named_told : (i j : Institution) (l : JournalLine) (p : IsPlayed i l j) → loan_named p.call.request ≡ loan_told l
+named_told i j l p = ap loan_named (sym (told_request l p.call p.told))
 
 -- ---- dated in a span or not
 
--- of one transaction
-pub between_one : (first last : ℕ) (t : Transaction) → (nat_le first t.day && nat_le t.day last) ≡ true
-    → between first last (t ∷ []) ≡ t ∷ []
-between_one first last t within = ap (λ b. cond b (t ∷ []) []) within
+-- all of a line on a loan, where its day is
+pub moved_within : (basis : Basis) (first last : ℕ) (b : Booking) (m : LoanMoved)
+    → (nat_le first b.day && nat_le b.day last) ≡ true → between first last (moved basis b m) ≡ moved basis b m
+moved_within Cash first last b m within = ap (λ c. cond c (moved Cash b m) []) within
+moved_within Accrual first last b m within =
+    let own = transaction_with b (moved_postings b m) in
+    let added = transaction_with b (adjusted_postings b m) in
+    ap (λ c. cond c (own ∷ cond c (added ∷ []) []) (cond c (added ∷ []) [])) within
 
-between_none : (first last : ℕ) (t : Transaction) → (nat_le first t.day && nat_le t.day last) ≡ false
-    → between first last (t ∷ []) ≡ []
-between_none first last t without = ap (λ b. cond b (t ∷ []) []) without
+moved_outside : (basis : Basis) (first last : ℕ) (b : Booking) (m : LoanMoved)
+    → (nat_le first b.day && nat_le b.day last) ≡ false → between first last (moved basis b m) ≡ []
+moved_outside Cash first last b m outside = ap (λ c. cond c (moved Cash b m) []) outside
+moved_outside Accrual first last b m outside =
+    let own = transaction_with b (moved_postings b m) in
+    let added = transaction_with b (adjusted_postings b m) in
+    ap (λ c. cond c (own ∷ cond c (added ∷ []) []) (cond c (added ∷ []) [])) outside
 
--- a line outside has none
-pub none_outside : (first last n : ℕ) (i j : Institution) (l : JournalLine) → IsPlayed i l j
+-- none of a request on a day that isn't
+pub own_outside : (basis : Basis) (first last m : ℕ) (r : Request) (i j : Institution)
     → (nat_le first i.catalogue.day && nat_le i.catalogue.day last) ≡ false
-    → between first last (transactions n (run_told (l ∷ [])) i) ≡ []
-none_outside first last n i j l p outside = by (loan_told l) refl
+    → between first last (own_of basis m r i j) ≡ []
+own_outside basis first last m r i j outside = by (loan_named r) refl
   where
-    by : (o : Option Account) → loan_told l ≡ o → between first last (transactions n (run_told (l ∷ [])) i) ≡ []
-    by None on = ap (between first last) (no_transaction_told n i j l p on)
+    by : (o : Option Account) → loan_named r ≡ o → between first last (own_of basis m r i j) ≡ []
+    by None on = ap (between first last) (own_none basis r m i j on)
     by (Some loan) on =
-        ap (between first last) (transaction_told n i j l loan p on)
-        ∙ between_none first last (record {
-          number = n + 1;
-          day = i.catalogue.day;
-          loan = loan;
-          postings = loan_postings loan i j;
-        }) outside
+        ap (between first last) (own_moved basis r loan m i j on)
+        ∙ moved_outside basis first last (of_line m i.catalogue.day loan) (read_in i.catalogue.day loan i j) outside
 
 -- ---- the text of transactions
 
@@ -187,14 +222,6 @@ span_text_parted asked xs ys =
     ap (flat_map (form_text asked.form asked.names)) (filter-append within xs ys)
     ∙ flat_map-append (form_text asked.form asked.names) (between asked.first asked.last xs)
     (between asked.first asked.last ys)
-
--- of one
-pub span_text_one : (asked : BooksAsked) (t : Transaction)
-    → (nat_le asked.first t.day && nat_le t.day asked.last) ≡ true
-    → span_text asked (t ∷ []) ≡ form_text asked.form asked.names t
-span_text_one asked t within =
-    ap (flat_map (form_text asked.form asked.names)) (between_one asked.first asked.last t within)
-    ∙ append-nil (form_text asked.form asked.names t)
 
 -- ---- closed days
 
@@ -216,13 +243,13 @@ none_later first last day (t ∷ ts) low all =
 -- lines that come after the last day that is asked for add nothing
 pub closed_text : (asked : BooksAsked) (n : ℕ) (i j : Institution) (lines more : List JournalLine)
     → IsTree j.offices → PlaysTo i lines j → asked.last < j.catalogue.day
-    → span_text asked (transactions n (run_told (lines ++ more)) i)
-    ≡ span_text asked (transactions n (run_told lines) i)
+    → span_text asked (booked asked.basis n (run_told (lines ++ more)) i)
+    ≡ span_text asked (booked asked.basis n (run_told lines) i)
 closed_text asked n i j lines more tree plays low =
-    let early = transactions n (run_told lines) i in
-    let late = transactions (n + length lines) (run_told more) j in
+    let early = booked asked.basis n (run_told lines) i in
+    let late = booked asked.basis (n + length lines) (run_told more) j in
     let none = none_later asked.first asked.last j.catalogue.day late low
-    (each_from (run_told more) (n + length lines) j tree) in
-    ap (span_text asked) (transactions_parted n i j lines more plays) ∙ span_text_parted asked early late
+    (booked_dated asked.basis (run_told more) (n + length lines) j tree) in
+    ap (span_text asked) (booked_parted asked.basis n i j lines more plays) ∙ span_text_parted asked early late
     ∙ ap (λ ts. span_text asked early ++ flat_map (form_text asked.form asked.names) ts) none
     ∙ append-nil (span_text asked early)

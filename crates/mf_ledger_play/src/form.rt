@@ -1,13 +1,13 @@
-//! What is asked of the books, and the text of a transaction.
+//! What is asked of the books, and the text of postings.
 
 ghost use Rattle.std.specs.Prelude.{◌≡◌, ◌++◌, OnOk, IsOkUnless};
-ghost use Rattle.mf_ledger.specs.Sheet.{sheet_text, transaction_rows};
+ghost use Rattle.mf_ledger.specs.Sheet.{rows_of, sheet_text};
 ghost use Rattle.mf_ledger.specs.Text as spec;
-ghost use Rattle.mf_ledger_play.specs.Told.{form_head, form_text};
+ghost use Rattle.mf_ledger_play.specs.Told.{form_booked, form_head};
 
 use mf_base::{Day, Fault};
 use mf_ledger::{
-    Names, Program, Transaction, preamble, sheet_columns, transaction_sheet, transaction_text,
+    Basis, Names, Occasion, Posting, Program, booked_sheet, booked_text, preamble, sheet_columns,
 };
 use std::alloc::Global;
 
@@ -26,6 +26,8 @@ pub enum BooksForm {
 #[derive(Drop)]
 pub struct BooksAsked {
     pub form: BooksForm,
+    /// When interest, fees and penalties are income.
+    pub basis: Basis,
     /// The first business day whose transactions are written.
     pub first: Day,
     /// The last one.
@@ -61,54 +63,64 @@ impl BooksForm {
     }
 }
 
-/// Writes a transaction for a program.
+/// Writes postings for a program.
 fn put_text(
     alloc: Global,
     program: Program,
     names: &Names,
-    transaction: &Transaction,
+    occasion: &Occasion,
+    postings: &[Posting],
     text: &mut Vec<u8>,
 ) -> Result<(), Fault>
     ensures text { OnOk result (text.new.items
-        ≡ text.old.items ++ spec.transaction_text program names.now transaction.now) }
+        ≡ text.old.items ++ spec.booked_text program names.now occasion.now postings.now) }
     ensures only { IsOkUnless result Fault.F20 }
 {
-    let written = transaction_text(alloc, program, names, transaction)?;
+    let written = booked_text(alloc, program, names, occasion, postings)?;
     text.extend_from_slice(written.as_bytes())?;
     Ok(())
 }
 
-/// Writes the lines of a transaction in a sheet.
+/// Writes the lines of postings in a sheet.
 fn put_rows(
     alloc: Global,
     names: &Names,
-    transaction: &Transaction,
+    occasion: &Occasion,
+    postings: &[Posting],
     text: &mut Vec<u8>,
 ) -> Result<(), Fault>
     ensures text { OnOk result (text.new.items
-        ≡ text.old.items ++ sheet_text (transaction_rows names.now transaction.now)) }
+        ≡ text.old.items ++ sheet_text (rows_of names.now occasion.now postings.now)) }
     ensures only { IsOkUnless result Fault.F20 }
 {
-    let written = transaction_sheet(alloc, names, transaction)?;
+    let written = booked_sheet(alloc, names, occasion, postings)?;
     text.extend_from_slice(written.as_slice())?;
     Ok(())
 }
 
-/// Writes a transaction.
-pub(crate) fn put_transaction(
+/// Writes the transaction of some postings.
+pub(crate) fn put_postings(
     alloc: Global,
     asked: &BooksAsked,
-    transaction: &Transaction,
+    occasion: &Occasion,
+    postings: &[Posting],
     text: &mut Vec<u8>,
 ) -> Result<(), Fault>
     ensures text { OnOk result (text.new.items
-        ≡ text.old.items ++ form_text asked.now.form asked.now.names transaction.now) }
+        ≡ text.old.items ++ form_booked asked.now.form asked.now.names occasion.now postings.now) }
     ensures only { IsOkUnless result Fault.F20 }
 {
     let names = &asked.names;
     match asked.form {
-        BooksForm::Hledger => put_text(alloc, Program::Hledger, names, transaction, text),
-        BooksForm::Beancount => put_text(alloc, Program::Beancount, names, transaction, text),
-        BooksForm::Sheet => put_rows(alloc, names, transaction, text),
+        BooksForm::Hledger => put_text(alloc, Program::Hledger, names, occasion, postings, text),
+        BooksForm::Beancount => put_text(
+            alloc,
+            Program::Beancount,
+            names,
+            occasion,
+            postings,
+            text,
+        ),
+        BooksForm::Sheet => put_rows(alloc, names, occasion, postings, text),
     }
 }

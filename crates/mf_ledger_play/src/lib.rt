@@ -2,10 +2,12 @@
 #![tactic(auto)]
 
 mod form;
+mod held;
 pub mod laws;
 mod line;
 mod lines;
 mod loans;
+mod passed;
 
 pub use form::{BooksAsked, BooksForm};
 pub use lines::book_lines;

@@ -11,19 +11,21 @@ ghost use Rattle.mf_office.specs.declared.account.Account as office;
 ghost use Rattle.mf_ledger_play.specs.Told.{loan_named, loan_told, state_at};
 
 use mf_account::{Balances, LoanAccount};
-use mf_base::Fault;
+use mf_base::{Day, Fault};
 use mf_journal::JournalRow;
-use mf_ledger::LoanSums;
+use mf_ledger::{AccruedSums, LoanSums};
 use mf_model::{InstitutionStore, Loan, Request};
 use mf_office::Account;
 use mf_wire_requests::{Routes, read_request};
 use std::alloc::Global;
 
-/// What the books read of a loan, and the product on whose accounts it stands.
+/// What the books read of a loan at the end of a day, and the product on whose accounts it stands.
 #[derive(Clone, Copy)]
 pub struct LoanState {
     pub product: u32,
     pub sums: LoanSums,
+    /// What accrual adds to these.
+    pub accrued: AccruedSums,
 }
 
 /// The loan that a request is on.
@@ -69,9 +71,9 @@ fn no_balances() -> Balances
 }
 
 /// What the books read of a loan that was found, or wasn't.
-fn state_of(found: &Option<(Loan, Option<LoanAccount>)>) -> LoanState
+fn state_of(found: &Option<(Loan, Option<LoanAccount>)>, day: Day) -> LoanState
     ensures { (loan : office.Account) (i : Institution) → IsSound i → found.now ≡ loan_with_account_at loan i
-        → result ≡ state_at loan i }
+        → result ≡ state_at day loan i }
 {
     match found {
         None => LoanState {
@@ -81,24 +83,31 @@ fn state_of(found: &Option<(Loan, Option<LoanAccount>)>) -> LoanState
                 repaid: 0,
                 balances: no_balances(),
             },
+            accrued: AccruedSums {
+                due: [0; 4],
+                waived: [0; 4],
+                written_off: [0; 4],
+            },
         },
         Some((loan, account)) => LoanState {
             product: loan.product,
             sums: LoanSums::of(loan, account),
+            accrued: AccruedSums::of(account, day),
         },
     }
 }
 
-/// What the books read of a loan of a store. The error is F20.
+/// What the books read of a loan of a store at the end of a day. The error is F20.
 pub(crate) fn loan_state<S: InstitutionStore>(
     alloc: Global,
     store: &mut S,
     loan: Account,
+    day: Day,
 ) -> Result<LoanState, Fault>
-    ensures { Reads S.stands S.clean S.leaves (state_at loan) store.old store.new result }
+    ensures { Reads S.stands S.clean S.leaves (state_at day loan) store.old store.new result }
 {
     match store.ledger(alloc, loan) {
-        Ok(found) => Ok(state_of(&found)),
+        Ok(found) => Ok(state_of(&found, day)),
         Err(fault) => Err(fault),
     }
 }

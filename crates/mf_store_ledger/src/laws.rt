@@ -15,11 +15,11 @@ ghost use Rattle.mf_store_ledger.specs.Journal.{books_text, journal_transactions
 pub fn books_as_a_sheet()
     ensures { (asked : BooksAsked) (day : ℕ) (lines : List JournalLine) → asked.form ≡ Sheet
         → books_text asked day lines ≡ sheet_text (columns ∷ flat_map (transaction_rows asked.names)
-        (between asked.first asked.last (journal_transactions day lines))) }
+        (between asked.first asked.last (journal_transactions asked.basis day lines))) }
 {}
 
 /// The books of closed days never move: once the business day is later than the last that is asked for, whatever lines
-/// are added to the journal leave their text as it was.
+/// are added to the journal leave their text as it was, on either basis.
 pub fn closed_books_never_move()
     ensures { (asked : BooksAsked) (day : ℕ) (lines more : List JournalLine) (i : Institution)
         → PlaysTo (founded day) lines i → asked.last < i.catalogue.day

@@ -6,7 +6,7 @@ ghost use Rattle.microloan.specs.Status.{IsPrintStatus};
 use crate::telling::{print_bytes, tell_no_founding, tell_refusal, tell_stop};
 use crate::working::let_go;
 use mf_base::{Cause, Fault};
-use mf_ledger::Names;
+use mf_ledger::{Basis, Names};
 use mf_ledger_play::{BooksAsked, BooksForm};
 use mf_store::Store;
 use mf_store_ledger::{Books, write_books};
@@ -23,6 +23,11 @@ pub fn form_asked(form: LedgerForm) -> BooksForm {
         LedgerForm::Beancount => BooksForm::Beancount,
         LedgerForm::Sheet => BooksForm::Sheet,
     }
+}
+
+/// The basis that the words ask for.
+pub fn basis_asked(accrual: bool) -> Basis {
+    if accrual { Basis::Accrual } else { Basis::Cash }
 }
 
 /// The names that a file gives, or none where no file is named. What fails is the reading of it, or memory.

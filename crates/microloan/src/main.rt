@@ -19,7 +19,7 @@ ghost use Rattle.microloan.specs.Status.{IsPrintStatus};
 use crate::archiving::Archiving;
 use crate::auditing::say_audit;
 use crate::following::Following;
-use crate::ledger::{form_asked, names_in};
+use crate::ledger::{basis_asked, form_asked, names_in};
 use crate::places::place_at;
 use crate::telling::{
     print_made, refuse_words, tell_cause, tell_checking, tell_no_institution, tell_no_journal,
@@ -206,6 +206,7 @@ fn print_ledger(rt: &HostRuntime, asked: &LedgerWords<'_>) -> u8
     };
     let work = Work::Ledger(BooksAsked {
         form: form_asked(asked.form),
+        basis: basis_asked(asked.accrual),
         first: asked.first,
         last: asked.last,
         names,

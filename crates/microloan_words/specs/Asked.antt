@@ -173,6 +173,7 @@ pub record AreLedgerWords (rows : List Row) (asked : LedgerWords) : Type 0 where
   pub existing : first_of (codes "existing") rows ≡ Some (flag_text asked.existing)
   pub span : IsSpanAt rows asked.first asked.last
   pub form : IsFormAt rows asked.form
+  pub accrual : first_of (codes "accrual") rows ≡ Some (flag_text asked.accrual)
   pub names : first_of (codes "names") rows ≡ asked.names
 
 -- the options of `schedule`

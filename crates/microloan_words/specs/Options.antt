@@ -117,6 +117,7 @@ ledger_app = app_with (codes "ledger") (
     ∷ required_rule (codes "to")
     ∷ flag_rule (codes "csv")
     ∷ flag_rule (codes "beancount")
+    ∷ flag_rule (codes "accrual")
     ∷ option_rule (codes "names")
     ∷ [])
 

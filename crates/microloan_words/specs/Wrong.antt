@@ -16,7 +16,7 @@ use Rattle.microloan_words.specs.declared.reading.Wrong.TheVariants.{Patience, S
 use Rattle.microloan_words.specs.declared.reading.Wrong.TheVariants.{Rate, Periods, Day, Frequency, Every}
 use Rattle.microloan_words.specs.declared.reading.Wrong.TheVariants.{PrincipalGrace, InterestGrace, Told, ToldOfLines}
 use Rattle.microloan_words.specs.declared.reading.Wrong.TheVariants.{Lists, Into}
-use Rattle.microloan_words.specs.declared.reading.Wrong.TheVariants.{From, To, Span, Csv, Beancount, Form}
+use Rattle.microloan_words.specs.declared.reading.Wrong.TheVariants.{From, To, Span, Csv, Beancount, Form, Accrual}
 
 -- a flag is given or not
 abbrev pub IsFlag : List Row → Text → Type 0
@@ -45,6 +45,7 @@ IsRight rows Span = (first : ℕ) × (last : ℕ) × IsSpanAt rows first last
 IsRight rows Csv = IsFlag rows (codes "csv")
 IsRight rows Beancount = IsFlag rows (codes "beancount")
 IsRight rows Form = (form : LedgerForm) × IsFormAt rows form
+IsRight rows Accrual = IsFlag rows (codes "accrual")
 IsRight rows Port = IsSomeNumber rows (codes "port") 1 65535
 IsRight rows Count = (count : ℕ) × IsCountAt rows (codes "count") count
 IsRight rows Patience = IsSomeNumber rows (codes "patience") 1 most_patience
@@ -105,7 +106,7 @@ form_options = Csv ∷ Beancount ∷ Form ∷ []
 
 -- of `ledger`
 abbrev pub ledger_options : List Wrong
-ledger_options = File ∷ Existing ∷ From ∷ To ∷ Span ∷ Csv ∷ Beancount ∷ Form ∷ []
+ledger_options = File ∷ Existing ∷ From ∷ To ∷ Span ∷ Csv ∷ Beancount ∷ Form ∷ Accrual ∷ []
 
 -- of `schedule`
 abbrev pub schedule_options : List Wrong

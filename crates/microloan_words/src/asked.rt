@@ -225,6 +225,8 @@ pub struct LedgerWords<'a> {
     /// The last one, which isn't before it.
     pub last: Day,
     pub form: LedgerForm,
+    /// Whether `--accrual` is given: interest, fees and penalties are income once they fall due.
+    pub accrual: bool,
     /// The file with the names of accounts, where one is named.
     pub names: Option<FilePath<'a>>,
 }

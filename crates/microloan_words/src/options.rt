@@ -188,7 +188,7 @@ const ARCHIVE_OPTIONS: [CommandOption; 4] = [
 ];
 
 /// The options of `ledger`.
-const LEDGER_OPTIONS: [CommandOption; 7] = [
+const LEDGER_OPTIONS: [CommandOption; 8] = [
     FILE,
     EXISTING,
     CommandOption {
@@ -213,6 +213,12 @@ const LEDGER_OPTIONS: [CommandOption; 7] = [
         id: "beancount",
         value_name: "",
         help: "A journal of beancount",
+        need: Need::Flag,
+    },
+    CommandOption {
+        id: "accrual",
+        value_name: "",
+        help: "Income once it falls due; see below",
         need: Need::Flag,
     },
     CommandOption {
@@ -527,6 +533,8 @@ fn ledger_command<'a>(alloc: Global) -> Result<Command<'a>, AllocError>
          principal, income and the other accounts, dated with the business day on which\n\
          it was accepted. It is read off the institution's journal, and a day that is\n\
          closed never moves. docs/books.md tells the accounts.\n\n\
+         Interest, fees and penalties are income once they are paid. With --accrual they\n\
+         are once they fall due; what is due, waived or written off has accounts.\n\n\
          A line of the file of names gives an account its name in your chart:\n  \
          assets:cash=1010 Cash\n\n\
          Example:\n  microloan ledger --file desk.db --from 2024-01-01 --to 2024-01-31",

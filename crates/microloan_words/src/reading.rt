@@ -55,6 +55,7 @@ pub(crate) enum Wrong {
     Beancount,
     /// Two forms are named.
     Form,
+    Accrual,
     Port,
     Count,
     Patience,
@@ -308,6 +309,7 @@ pub(crate) fn ledger_words<'a>(options: &ArgMatches<'a>) -> Result<LedgerWords<'
         Ok(form) => form,
         Err(wrong) => return Err(wrong),
     };
+    let accrual = flag_at(options, "accrual").ok_or(Wrong::Accrual)?;
     let names = path_at(options, "names");
     Ok(LedgerWords {
         file,
@@ -315,6 +317,7 @@ pub(crate) fn ledger_words<'a>(options: &ArgMatches<'a>) -> Result<LedgerWords<'
         first,
         last,
         form,
+        accrual,
         names,
     })
 }

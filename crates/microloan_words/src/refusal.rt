@@ -37,6 +37,7 @@ fn wants(wrong: Wrong) -> &'static str {
         Wrong::Csv => "--csv has no value",
         Wrong::Beancount => "--beancount has no value",
         Wrong::Form => "--csv and --beancount are two forms; name one of them",
+        Wrong::Accrual => "--accrual has no value",
         Wrong::Day => "--day wants a day from 2000-01-01 to 2099-12-31, as 2024-01-31",
         Wrong::Frequency => "--frequency wants weeks or months",
         Wrong::Every => "--every wants 1 to 52 weeks or 1 to 12 months",

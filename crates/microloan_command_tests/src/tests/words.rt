@@ -283,20 +283,29 @@ fn reads_which_lines_to_archive(rt: HostRuntime) -> Result<(), Fail> {
 #[test]
 fn reads_which_books_to_write(rt: HostRuntime) -> Result<(), Fail> {
     let alloc = rt.alloc();
-    for (line, form, names) in [
+    for (line, form, accrual, names) in [
         (
             "microloan ledger --file desk.db --from 2024-01-01 --to 2024-01-31",
             LedgerForm::Hledger,
+            false,
             None,
         ),
         (
             "microloan ledger --csv --to 2024-01-31 --from 2024-01-01 --existing --file=desk.db",
             LedgerForm::Sheet,
+            false,
+            None,
+        ),
+        (
+            "microloan ledger --accrual --file desk.db --from 2024-01-01 --to 2024-01-31",
+            LedgerForm::Hledger,
+            true,
             None,
         ),
         (
             "microloan ledger --file desk.db --from 2024-01-01 --to 2024-01-31 --beancount --names chart",
             LedgerForm::Beancount,
+            false,
             Some("chart"),
         ),
     ] {
@@ -308,13 +317,14 @@ fn reads_which_books_to_write(rt: HostRuntime) -> Result<(), Fail> {
         assert_eq!(rt; Some(asked.first), Day::parse(b"2024-01-01"));
         assert_eq!(rt; Some(asked.last), Day::parse(b"2024-01-31"));
         assert!(rt; asked.form == form);
+        assert_eq!(rt; asked.accrual, accrual);
         assert_eq!(rt; asked.names.map(|names| names.as_str()), names);
     }
     Ok(())
 }
 
 /// Words that are wrong, and what is said of them.
-const WRONG: [(&str, &str); 30] = [
+const WRONG: [(&str, &str); 31] = [
     (
         "microloan",
         "microloan: name a command: batch, serve, collect, report, schedule, why, audit, upgrade, archive \
@@ -331,6 +341,10 @@ const WRONG: [(&str, &str); 30] = [
     (
         "microloan ledger --file f --from 2024-01-01 --to 2024-01-31 --csv --beancount",
         "microloan: --csv and --beancount are two forms; name one of them; see 'microloan ledger --help'",
+    ),
+    (
+        "microloan ledger --file f --from 2024-01-01 --to 2024-01-31 --accrual=yes",
+        "microloan: --accrual has no value; see 'microloan ledger --help'",
     ),
     (
         "microloan archive --file f --to 2024-02-30 --into g",

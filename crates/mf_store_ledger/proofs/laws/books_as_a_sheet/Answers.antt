@@ -20,6 +20,6 @@ rows_of_all gs (t ∷ ts) =
 
 pub returns : goal.returns
 returns c asked day lines is =
-    let ts = between asked.first asked.last (journal_transactions day lines) in
+    let ts = between asked.first asked.last (journal_transactions asked.basis day lines) in
     ap (λ form. form_head form ++ flat_map (form_text form asked.names) ts) is
     ∙ ap (λ text. row_text sheet_writer columns ++ text) (rows_of_all asked.names ts)

@@ -1,6 +1,6 @@
 use Rattle.std.proofs.Common.{◌≡◌, ◌++◌, drop}
 use Rattle.mf_ledger.specs.Sheet as spec
-use Rattle.mf_ledger.proofs.sheet.sheet_of.Given as goal
+use Rattle.mf_ledger.proofs.sheet.booked_sheet.Given as goal
 
 abbrev pub invariant-loop-posting : goal.invariant-loop-posting
 invariant-loop-posting l =
