@@ -1,6 +1,7 @@
 //! The books of an institution that keeps a journal, written on standard output.
 
-ghost use Rattle.std.specs.Prelude.{◌≡◌, false};
+ghost use Rattle.std.specs.Prelude.{◌≡◌, cond, false};
+ghost use Rattle.mf_ledger.specs.declared.basis.Basis.TheVariants.{Cash, Accrual};
 ghost use Rattle.microloan.specs.Status.{IsPrintStatus};
 
 use crate::telling::{print_bytes, tell_no_founding, tell_refusal, tell_stop};
@@ -26,7 +27,9 @@ pub fn form_asked(form: LedgerForm) -> BooksForm {
 }
 
 /// The basis that the words ask for.
-pub fn basis_asked(accrual: bool) -> Basis {
+pub fn basis_asked(accrual: bool) -> Basis
+    ensures { result ≡ cond accrual Accrual Cash }
+{
     if accrual { Basis::Accrual } else { Basis::Cash }
 }
 
