@@ -898,6 +898,28 @@ class Sending(Case):
             zoe.driver.switch_to.window(first)
             self.assertEqual(entered(it, rounds.COUNT), once(*[68333] * rounds.COUNT))
 
+    def test_a_window_that_is_gone(self):
+        """One that goes as it sends tells nobody: the button of another one can be pressed all the same."""
+        with loans.desk_with(FEW) as it:
+            zoe = self.phone(it, "zoe")
+            zoe.take_along()
+            zoe.press("Fill in what is due")
+            zoe.wait(lambda: zoe.bar().startswith("5 not sent"), "it")
+            first = zoe.driver.current_window_handle
+            zoe.driver.switch_to.new_window("tab")
+            zoe.driver.get(f"{it.url}/#/today")
+            zoe.settle()
+            zoe.script("navigator.locks.request('kept sending', () => new Promise(() => {}))")
+            second = zoe.driver.current_window_handle
+            zoe.driver.switch_to.window(first)
+            zoe.open_kept()
+            zoe.wait(lambda: not zoe.all(".round-enter")[0].is_enabled(), "that another one sends")
+            zoe.driver.switch_to.window(second)
+            zoe.driver.close()
+            zoe.driver.switch_to.window(first)
+            zoe.enter()
+            zoe.wait(lambda: zoe.results() == {"entered": COUNT}, "the results")
+
     def test_a_flapping_network(self):
         """The network comes and goes twenty times while forty lines are sent by itself: each is entered once."""
         with loans.desk_with(rounds.FORTY) as it:

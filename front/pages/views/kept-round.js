@@ -19,6 +19,8 @@ import {lineTable} from "./round-lines.js";
 import {askBefore} from "./round-sheet.js";
 import {beginFurther} from "./round-state.js";
 
+const LOOK_MILLISECONDS = 3000;
+
 // The line as it is shown: what was sent and has no answer says so, whatever ended the page that sent it, unless it is
 // on its way still.
 function shownLine({office, day}, line, isRunning = false) {
@@ -163,7 +165,8 @@ function typeLine(made, line) {
     return keep(made, line);
 }
 
-// What was changed by a sending, or in another window of this browser, is shown here.
+// What was changed by a sending, or in another window of this browser, is shown here. While a sending runs it is looked
+// for its end too: a window that is gone tells nobody.
 function followOthers(made) {
     const ends = [
         whenKeptChanges((id) => ["", idOf(made.round)].includes(id) && follow()),
@@ -171,6 +174,7 @@ function followOthers(made) {
     ];
     let isFollowing = false;
     let isLate = false;  // changed again while it was looked
+    let looking = null;
     const follow = async () => {
         isLate = isFollowing;
         if (!made.table.node.isConnected) {
@@ -179,6 +183,8 @@ function followOthers(made) {
             isFollowing = true;
             await takeOver(made).catch(() => {});  // it was locked meanwhile
             isFollowing = false;
+            clearTimeout(looking);
+            looking = made.isSending ? setTimeout(follow, LOOK_MILLISECONDS) : null;
             return isLate && follow();
         }
     };
