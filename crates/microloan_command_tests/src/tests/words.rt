@@ -324,7 +324,7 @@ fn reads_which_books_to_write(rt: HostRuntime) -> Result<(), Fail> {
 }
 
 /// Words that are wrong, and what is said of them.
-const WRONG: [(&str, &str); 31] = [
+const WRONG: [(&str, &str); 30] = [
     (
         "microloan",
         "microloan: name a command: batch, serve, collect, report, schedule, why, audit, upgrade, archive \
@@ -341,10 +341,6 @@ const WRONG: [(&str, &str); 31] = [
     (
         "microloan ledger --file f --from 2024-01-01 --to 2024-01-31 --csv --beancount",
         "microloan: --csv and --beancount are two forms; name one of them; see 'microloan ledger --help'",
-    ),
-    (
-        "microloan ledger --file f --from 2024-01-01 --to 2024-01-31 --accrual=yes",
-        "microloan: --accrual has no value; see 'microloan ledger --help'",
     ),
     (
         "microloan archive --file f --to 2024-02-30 --into g",
@@ -462,7 +458,12 @@ fn says_what_is_wanted(rt: HostRuntime) -> Result<(), Fail> {
 }
 
 /// Words that are wrong, a part of what is said of them, and the command whose help it names.
-const UNCLEAR: [(&str, &str, &str); 16] = [
+const UNCLEAR: [(&str, &str, &str); 17] = [
+    (
+        "microloan ledger --file f --from 2024-01-01 --to 2024-01-31 --accrual=yes",
+        "unexpected value 'yes' for '--accrual' found",
+        "ledger",
+    ),
     ("microloan serve --port 80", "--file", "serve "),
     ("microloan serve --file f", "--port", "serve "),
     ("microloan collect --staff 1/1", "--file", "collect "),
