@@ -462,7 +462,7 @@ const UNCLEAR: [(&str, &str, &str); 17] = [
     (
         "microloan ledger --file f --from 2024-01-01 --to 2024-01-31 --accrual=yes",
         "unexpected value 'yes' for '--accrual' found",
-        "ledger",
+        "ledger ",
     ),
     ("microloan serve --port 80", "--file", "serve "),
     ("microloan serve --file f", "--port", "serve "),
