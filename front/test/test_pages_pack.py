@@ -2,6 +2,7 @@
 loans are those of the tests of rounds (on 2024-03-31 each has 683.33 due: 343.33 since 2024-02-29, and 340.00 since
 that day); in office 3, below theirs, a loan falls due within the week."""
 import json
+import random
 import re
 import unittest
 
@@ -60,6 +61,23 @@ window.fetch = async (url, more) => {
     parts[end].text = parts[end].text.slice(0, -9);
     return new Response(JSON.stringify(parts));
 };
+"""
+# asks for all loans of an office whose numbers are these, as the desk tells them: 200 a page
+PAGES = """
+const {dueByAtOnce} = await load('shared/lists.js');
+const told = [];
+for (const numbers of NUMBERS) {
+    let pages = 0;
+    const reading = async (path) => {
+        pages += 1;
+        const after = Number(path.split('/').at(-1));
+        const due = numbers.filter((one) => one > after).slice(0, 200);
+        return {due: due.map((one) => ({loan: `0002-${String(one).padStart(6, '0')}`}))};
+    };
+    const lines = await dueByAtOnce(2, '2024-03-31', reading);
+    told.push([lines.map(({loan}) => Number(loan.slice(5))), pages]);
+}
+return told;
 """
 # what stands in the browser's database, as bytes: none of it may be readable
 KEPT = """
@@ -295,7 +313,7 @@ class Pack(offline.Case):
 
     def test_few_requests(self):
         """A press asks for the business day and then for much at once; the next one reads what is new alone."""
-        due = [f"/lists/due/2/{day}/0" for day in (DAY, "2024-04-07")]
+        due = [f"/lists/due/2/{day}/0" for day in (DAY, "2024-04-07", "2099-12-31")]
         with loans.desk_with(institution(rounds.COUNT)) as it:
             zoe = self.phone(it, "zoe")
             products = [f"/products/{number}" for number in range(1, 5)]  # a few ahead
@@ -323,11 +341,11 @@ class Pack(offline.Case):
         return zoe.script(SENT)
 
     def test_3000_loans(self):
-        """An office of 3,000 loans of 3,000 clients, a tenth of them overdue and a fifth due within the week. Wanted are
-        at most 12 requests and 300 kB."""
+        """An office of 3,000 loans of 3,000 clients, a tenth of them overdue and a fifth due within the week: all of them
+        are in the pack. Wanted are at most 12 requests and 300 kB."""
         with loans.desk_with(b"".join(large_office())) as it:
             zoe = self.phone(it, "zoe")
-            for pin, most in ((True, 60_000), (False, 40_000)):
+            for pin, most in ((True, 120_000), (False, 100_000)):
                 asked, size = self.asked(zoe, pin)
                 self.assertLessEqual(len(asked), 8, asked)
                 self.assertLessEqual(size, most)
@@ -336,8 +354,49 @@ class Pack(offline.Case):
             known = "return (await (await load('views/pack-kept.js')).readPack()).offices[0]"
             office = zoe.module(f"const {{lines, clients}} = (await (async () => {{ {known} }})());"
                                 "return [lines.map(({loan}) => loan), clients]")
-            self.assertEqual(office[0], [f"0002-{number:06}" for number in range(1, 901)])
+            self.assertEqual(office[0], [f"0002-{number:06}" for number in range(1, LARGE + 1)])
             self.assertEqual(office[1], [f"Client {number}" for number in range(1, 3001)])
+
+    def test_all_pages_of_loans(self):
+        """Loans whose numbers lie close together or far apart: each once and in order, by few pages more than they fill."""
+        draw = random.Random(3)
+        cases = [
+            [], [7], list(range(1, 200)), list(range(1, 201)), list(range(1, 202)), list(range(1, 3001)),
+            list(range(1, 9000, 3)), [*range(1, 4000, 10), *range(4000, 5000)], [*range(1, 1001), *range(1001, 9000, 10)],
+            sorted(draw.sample(range(1, 9999), 3000)), [1, *range(5000, 5500), *range(9000, 9400)],
+        ]
+        with loans.desk_with(institution()) as it:
+            told = self.phone(it, "zoe").module(PAGES.replace("NUMBERS", json.dumps(cases)))
+        for numbers, (lines, pages) in zip(cases, told):
+            with self.subTest(len(numbers)):
+                self.assertEqual(lines, numbers)
+                self.assertLessEqual(pages, 1.5 * len(numbers) / 200 + 12)
+
+    def test_a_loan_with_nothing_due(self):
+        """Its client pays early: the loan gets a line in the round of the pack's day, which is sent as any other."""
+        with loans.desk_with(institution()) as it:
+            zoe = self.phone(it, "zoe")
+            zoe.take_day("3 Hill")
+            zoe.script("localStorage.setItem('kept-by-itself', 'no')")
+            zoe.network(offline.CUT)
+            zoe.open_pack("pack/3/0003-000001")
+            zoe.follow("Enter a repayment")
+            zoe.wait(lambda: zoe.script("return document.activeElement.matches('.paid-field')"), "the line")
+            zoe.script("return document.activeElement").send_keys("50")
+            zoe.wait(lambda: zoe.bar() == "1 not sent, 50.00, since HH:MM", "what waits")
+            zoe.look("pack-early")
+            zoe.open_pack("pack/3/0003-000001")
+            zoe.follow("Enter a repayment")  # the same line once more, with what was typed
+            zoe.wait(lambda: zoe.script(offline.AMOUNTS) == ["50"], "what was typed")
+            zoe.network(offline.OPEN)
+            it.let_in(zoe.driver, "zoe")
+            zoe.open_kept(f"3/{DAY}")
+            zoe.press("Enter 1 repayment")
+            zoe.wait(lambda: zoe.results() == {"entered": 1}, "it")
+            entries = it.send("head", "GET", "/api/loans/0003-000001/entries")[1]["entries"]
+            self.assertEqual([(one["amount"], one["receipt"]) for one in entries], [(5000, "3-20240331-000001")])
+            zoe.open_pack("pack/3/0003-000002")
+            zoe.wait(lambda: "No active loan." in zoe.text("main"), "who has no loan")
 
     def test_over_an_older_front(self):
         """One that has no message for several readings is asked for each."""

@@ -8,6 +8,14 @@ import unittest
 sys.path.insert(0, os.path.dirname(os.path.dirname(os.path.abspath(__file__))))
 import running
 
+BROWSER = {
+    "chromium": "chromium",
+    "chromedriver": "chromium-driver",
+    "/usr/lib/python3/dist-packages/selenium": "python3-selenium",
+    "pdftotext": "poppler-utils",
+    "zbarimg": "zbar-tools",
+}
+
 
 def install_missing(name, needed):
     """Installs Debian's packages that are missing, as root; ends and names them where somebody else runs this."""

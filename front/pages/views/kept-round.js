@@ -29,7 +29,8 @@ function shownLine({office, day}, line, isRunning = false) {
     return {...line, office, day, result, isLocked: line.isSent, isSending};
 }
 
-export function showKeptRound(page, round) {
+// loan: whose line one came for, or undefined
+export function showKeptRound(page, round, loan) {
     const lines = round.lines.map((line) => shownLine(round, line));
     const made = {page, round, lines, changed: new Set(), keeping: Promise.resolve(), version: 0};
     made.table = lineTable(made.lines, {
@@ -65,6 +66,10 @@ export function showKeptRound(page, round) {
         end);
     followOthers(made);
     showState(made);
+    const meant = lines.find((line) => line.loan === loan);
+    if (meant !== undefined) {
+        made.table.focus(meant);
+    }
 }
 
 // how many drafts wait, beside the word

@@ -126,6 +126,13 @@ export async function changeLine({office, day}, loan, change) {
     return made;
 }
 
+// Adds a line to a round that is kept, unless it has one of its loan.
+export function addLine(round, line) {
+    const hasIt = ({lines}) => lines.some(({loan}) => loan === line.loan);
+    return changed(idOf(round), (kept) => kept && !hasIt(kept) ? {...kept, lines: [...kept.lines, bareLine(line)]} :
+                                                                undefined);
+}
+
 // what is kept of a round beside its lines
 export function changeRound(round, change) {
     return changed(idOf(round), (kept) => kept && {...kept, ...change(kept)});

@@ -83,18 +83,18 @@ export function linesOn(pack, office, day) {
     return office.lines.map((line) => ({...line, due: dueOn(pack, line, day)})).filter(({due}) => isAskedFor(due));
 }
 
-// The round of an office and a day, as it is kept on the phone: of its loans nothing is known but what is in the pack.
-// seen: how many entries of a loan the pack knows of.
-export function roundFrom(pack, office, day) {
-    const place = {office: office.number, day};
-    const lines = linesOn(pack, office, day).map(({loan, client, name, since, due, owed, last}) => ({
+// A line of a round of the pack: of its loan nothing is known but what is in the pack. seen: how many entries of the
+// loan the pack knows of.
+export function roundLine(pack, place, line) {
+    const {loan, client, name, since, owed, last} = line;
+    return {
         ...place,
         loan,
         client,
         name,
         since,
-        days: Math.max(0, daysBetween(since, day)),
-        due,
+        days: Math.max(0, daysBetween(since, place.day)),
+        due: dueOn(pack, line, place.day),
         owed,
         seen: last?.entry ?? 0,
         known: null,
@@ -106,7 +106,14 @@ export function roundFrom(pack, office, day) {
         receipt: nextReceipt({...place, loan}, []),
         typed: null,
         isSent: false
-    }));
+    };
+}
+
+// The round of an office and a day, as it is kept on the phone.
+export function roundFrom(pack, office, day) {
+    const place = {office: office.number, day};
+    const asked = office.lines.filter((line) => isAskedFor(dueOn(pack, line, day)));
+    const lines = asked.map((line) => roundLine(pack, place, line));
     const {taken, businessDay, until, by, mayEnter} = pack;
     const products = pack.products.filter(({retired}) => !retired);
     const undated = {count: undatedOn(pack, office, day), until};

@@ -1,12 +1,12 @@
-// Takes a day along: of some offices what falls due within a week, with names and balances, their clients, and the
-// products. Names and terms never change, so those of the pack before aren't read again. What is asked for at one
-// moment goes by one message.
+// Takes a day along: of some offices all active loans, what falls due of them within a week and what is left to pay,
+// their clients, and the products. Names and terms never change, so those of the pack before aren't read again. What is
+// asked for at one moment goes by one message.
 import {alertBox, button, card, element, fill, freshId} from "../shared/elements.js";
 import {Problem, readIfThere, readTogether} from "../shared/api.js";
 import {asTree, numberOf, offices, readOn, total} from "../shared/desk.js";
 import {dayOfNumber, LAST_DAY, numberOfDay} from "../shared/days.js";
 import {note} from "../shared/dialogs.js";
-import {CLIENTS_OF_A_PAGE, clientsAfter, dueBy, hasLists} from "../shared/lists.js";
+import {CLIENTS_OF_A_PAGE, clientsAfter, dueBy, dueByAtOnce, hasLists} from "../shared/lists.js";
 import {refusalBox} from "../shared/refusals.js";
 import {may, OFFICER, renewDay, session} from "../shared/session.js";
 import {say} from "../shared/words.js";
@@ -39,20 +39,30 @@ async function clientsBeside(office, clients, known, lines) {
     return isOther ? clientsFrom(office, []) : clients;
 }
 
-// A payment that is entered as this is read may stand in one list and not yet in the other.
-function lineOf({loan, client, name, oldest, due, left, last}, dueNow, day) {
-    const all = total(due);
-    const told = oldest > day ? 0n : dueNow.get(loan) ?? 0n;
-    const now = told > all ? all : told;
-    return {loan, client, name, since: oldest, due: now, later: all - now, owed: BigInt(left), last};
+const NOTHING = {now: 0n, soon: 0n};
+
+// What is due of each loan by the business day, and by the pack's end. A payment that is entered as this is read may
+// stand in one list and not yet in the other.
+function dueOfEach(now, soon, day) {
+    const dueNow = new Map(now.map(({loan, due}) => [loan, total(due)]));
+    return new Map(soon.map(({loan, oldest, due}) => {
+        const all = total(due);
+        const told = oldest > day ? 0n : dueNow.get(loan) ?? 0n;
+        return [loan, {now: told > all ? all : told, soon: all}];
+    }));
 }
 
 async function officePack({number, name}, day, until, known) {
     const due = (last) => dueBy(number, last, () => {}, readTogether);
-    const [now, soon, read] = await Promise.all([due(day), due(until), clientsFrom(number, known)]);
-    const dueNow = new Map(now.map(({loan, due}) => [loan, total(due)]));
-    const clients = await clientsBeside(number, read, known, soon);
-    return {number, name, clients, lines: soon.map((line) => lineOf(line, dueNow, day))};
+    const [now, soon, active, read] = await Promise.all(
+        [due(day), due(until), dueByAtOnce(number, LAST_DAY, readTogether), clientsFrom(number, known)]);
+    const dueOf = dueOfEach(now, soon, day);
+    const clients = await clientsBeside(number, read, known, active);
+    const lines = active.map(({loan, client, name, oldest, left, last}) => {
+        const {now, soon} = dueOf.get(loan) ?? NOTHING;
+        return {loan, client, name, since: oldest, due: now, later: soon - now, owed: BigInt(left), last};
+    });
+    return {number, name, clients, lines};
 }
 
 // Whether the desk is that of the pack before: there are clients that were known, and they are the same.

@@ -1,5 +1,5 @@
-// The day pack: what an officer takes along in the morning by one press, and finds here without a network: what falls
-// due within a week, office by office, with names and balances, and all clients.
+// The day pack: what an officer takes along in the morning by one press, and finds here without a network: office by
+// office all active loans, what falls due of them within a week and what is left to pay, and all clients.
 import {alertBox, button, card, element, emptyState, fill, freshId, link} from "../shared/elements.js";
 import {dayOfNumber, numberOfDay} from "../shared/days.js";
 import {idOf, keptRound, keptRounds} from "../shared/kept.js";
@@ -10,7 +10,7 @@ import {amount, amountOrDash, day as dayCell, facts, pageHead, row, table} from 
 import {say, sayCount, showAge, showCount, showDay, showMoment, showMoney} from "../shared/words.js";
 import {showLocked} from "./kept-asking.js";
 import {canSeal, isLocked, lock, Locked, whenLocked} from "./kept-pin.js";
-import {readRound, takeRound} from "./kept-rounds.js";
+import {addLine, readRound, takeRound} from "./kept-rounds.js";
 import {
     clientFinder,
     dueInAll,
@@ -21,6 +21,7 @@ import {
     officeIn,
     readPack,
     roundFrom,
+    roundLine,
     undatedOn
 } from "./pack-kept.js";
 import {dropPack} from "./pack-record.js";
@@ -203,19 +204,31 @@ function showClients(place, kept, office, all) {
         element("p", {class: "text-muted mt-2 mb-0", role: "status"}, words, more));
 }
 
-// One client: the loans of which something falls due within the week. The title begins with the number, since the
-// browser keeps its beginning in its history, in clear (app.js).
+// One client, with all active loans. The title begins with the number, since the browser keeps its beginning in its
+// history, in clear (app.js).
 function showClient(page, kept, office, client) {
     const name = namesIn(office).get(client);
     const lines = office.lines.filter((line) => line.client === client);
-    const loans = lines.map((line) => card(`${say("loan")} ${line.loan}`, facts(pairsOf(kept, line))));
-    const none = say(name === undefined ? "clients.not-found" : "pack.nothing-due", {day: showDay(kept.until)});
+    const loans = lines.map((line) => card(
+        `${say("loan")} ${line.loan}`, facts(pairsOf(kept, line)),
+        element("div", {class: "page-actions"}, payButton(kept, office, line))));
+    const none = say(name === undefined ? "clients.not-found" : "pack.no-loan");
     const actions = name === undefined ? [] : [
         kept.mayEnter && draftButton(kept, office, client, "loan"), draftButton(kept, office, client, "note")
     ];
     fill(
         page, pageHead({title: client, badge: name, trail: trailOf(office), actions}), ageLine(kept),
         loans.length === 0 ? card(null, emptyState(none)) : loans);
+}
+
+// leads to the loan's line in the round of the pack's day, which gets one where nothing is due
+function payButton(kept, office, line) {
+    const place = {office: office.number, day: kept.businessDay};
+    return button(say("do.repayment"), async () => {
+        await keptOrMade(kept, office, place.day);
+        await addLine(place, roundLine(kept, place, line));
+        location.hash = `#/kept/${place.office}/${place.day}/pay/${line.loan}`;
+    }, QUIET);
 }
 
 // leads to the drafts of the round of the pack's day, and there to one about this client

@@ -388,8 +388,8 @@ export default {
     "pack.here": "A day pack is on this phone.",
     "pack.take": "Take the day along",
     "pack.take-anew": "Take the day along anew",
-    "pack.what": "One press keeps on this phone what falls due within a week, with names and what is left to pay, " +
-        "and all clients of these offices. It opens without a network.",
+    "pack.what": "One press keeps on this phone all active loans of these offices, with what falls due within a " +
+        "week and what is left to pay, and all clients. It opens without a network.",
     "pack.choose": "Choose at least one office.",
     "pack.taken": "The day is on this phone. It opens here without a network.",
     "pack.age": "Taken along {time} ({age}) by {by}, on business day {day}. What was entered since is not in it.",
@@ -405,7 +405,7 @@ export default {
         "on {day} alone.",
     "pack.undated.other": "{count} overdue loans have one more instalment by {day}. Its day isn't known here: it " +
         "counts on {day} alone.",
-    "pack.nothing-due": "Nothing falls due by {day}. Loans with nothing due by then are not in the day pack.",
+    "pack.no-loan": "No active loan.",
     "pack.lost": "The day pack goes too. It is a copy: take it along anew.",
     "pack.last": "Last entry",
     "slip.of": "Receipt: {client}, {amount}",

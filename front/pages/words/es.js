@@ -390,8 +390,8 @@ export default {
     "pack.here": "Un paquete del día está en este teléfono.",
     "pack.take": "Llevar el día",
     "pack.take-anew": "Llevar el día de nuevo",
-    "pack.what": "Con una pulsación, este teléfono guarda lo que vence en una semana, con nombres y lo que queda por " +
-        "pagar, y todos los clientes de estas oficinas. Se abre sin red.",
+    "pack.what": "Con una pulsación, este teléfono guarda todos los préstamos activos de estas oficinas, con lo " +
+        "que vence en una semana y lo que queda por pagar, y todos los clientes. Se abre sin red.",
     "pack.choose": "Elija al menos una oficina.",
     "pack.taken": "El día está en este teléfono. Se abre aquí sin red.",
     "pack.age": "Llevado {time} ({age}) por {by}, en el día contable {day}. Lo registrado desde entonces no está.",
@@ -409,8 +409,7 @@ export default {
         "cuenta el {day}.",
     "pack.undated.other": "{count} préstamos en mora tienen otra cuota hasta el {day}. Aquí no se sabe su día: solo " +
         "cuenta el {day}.",
-    "pack.nothing-due": "Nada vence hasta el {day}. Los préstamos sin cuota hasta entonces no están en el paquete " +
-        "del día.",
+    "pack.no-loan": "Ningún préstamo activo.",
     "pack.lost": "El paquete del día también se pierde. Es una copia: llévelo de nuevo.",
     "pack.last": "Último asiento",
     "slip.of": "Recibo: {client}, {amount}",

@@ -391,8 +391,8 @@ export default {
     "pack.here": "Un dossier du jour est sur ce téléphone.",
     "pack.take": "Emporter la journée",
     "pack.take-anew": "Emporter la journée à nouveau",
-    "pack.what": "D’une pression, ce téléphone garde ce qui échoit dans la semaine, avec les noms et ce qui reste à " +
-        "payer, et tous les clients de ces agences. Cela s’ouvre sans réseau.",
+    "pack.what": "D’une pression, ce téléphone garde tous les prêts actifs de ces agences, avec ce qui échoit dans " +
+        "la semaine et ce qui reste à payer, et tous les clients. Cela s’ouvre sans réseau.",
     "pack.choose": "Choisissez au moins une agence.",
     "pack.taken": "La journée est sur ce téléphone. Elle s’ouvre ici sans réseau.",
     "pack.age": "Emporté {time} ({age}) par {by}, au jour comptable {day}. Ce qui a été saisi depuis n’y est pas.",
@@ -411,8 +411,7 @@ export default {
         "elle ne compte qu’au {day}.",
     "pack.undated.other": "{count} prêts en retard ont encore une échéance d’ici au {day}. Son jour n’est pas connu " +
         "ici : elle ne compte qu’au {day}.",
-    "pack.nothing-due": "Rien n’échoit d’ici au {day}. Les prêts sans échéance d’ici là ne sont pas dans le dossier " +
-        "du jour.",
+    "pack.no-loan": "Aucun prêt actif.",
     "pack.lost": "Le dossier du jour part aussi. C’est une copie : emportez-le à nouveau.",
     "pack.last": "Dernière écriture",
     "slip.of": "Reçu : {client}, {amount}",

@@ -386,8 +386,8 @@ export default {
     "pack.here": "Mzigo wa siku uko kwenye simu hii.",
     "pack.take": "Chukua siku nzima",
     "pack.take-anew": "Chukua siku nzima upya",
-    "pack.what": "Kwa kubonyeza mara moja simu hii inatunza kinachodaiwa ndani ya wiki, pamoja na majina na " +
-        "kilichobaki kulipwa, na wateja wote wa ofisi hizi. Inafunguka bila mtandao.",
+    "pack.what": "Kwa kubonyeza mara moja simu hii inatunza mikopo yote hai ya ofisi hizi, kinachodaiwa ndani ya " +
+        "wiki na kilichobaki kulipwa, na wateja wote. Inafunguka bila mtandao.",
     "pack.choose": "Chagua angalau ofisi moja.",
     "pack.taken": "Siku iko kwenye simu hii. Inafunguka hapa bila mtandao.",
     "pack.age": "Umechukuliwa {time} ({age}) na {by}, siku ya kazi {day}. Kilichoingizwa baadaye hakimo.",
@@ -405,8 +405,7 @@ export default {
         "inahesabiwa {day} tu.",
     "pack.undated.other": "Mikopo {count} iliyochelewa ina awamu nyingine kufikia {day}. Siku yake haijulikani hapa: " +
         "inahesabiwa {day} tu.",
-    "pack.nothing-due": "Hakuna kinachodaiwa kufikia {day}. Mikopo isiyo na awamu hadi siku hiyo haimo kwenye mzigo " +
-        "wa siku.",
+    "pack.no-loan": "Hakuna mkopo hai.",
     "pack.lost": "Mzigo wa siku unaondoka pia. Ni nakala: uchukue upya.",
     "pack.last": "Ingizo la mwisho",
     "slip.of": "Risiti: {client}, {amount}",
