@@ -34,6 +34,14 @@ FACTS = """
 return [...document.querySelectorAll('.sheet .fact')].map((one) =>
     [...one.children].map((part) => part.innerText.replaceAll('\\u00a0', ' ')))
 """
+# shifts the clock of a page
+SHIFT = """
+const real = Date;
+window.Date = class extends real {
+    constructor(...given) { super(...(given.length ? given : [real.now() + SHIFT])); }
+    static now() { return real.now() + SHIFT; }
+};
+"""
 # what stands in the browser's database, as bytes: none of it may be readable
 KEPT = """
 const done = arguments[0];
@@ -59,6 +67,17 @@ class Phone(reader.Reader):
     def network(self, conditions):
         """Sets the page's network; the worker's is that of the machine."""
         self.driver.execute_cdp_cmd("Network.emulateNetworkConditions", conditions)
+
+    @contextlib.contextmanager
+    def clock_set(self, days):
+        """The clock of each page that is opened within the block is so many days ahead."""
+        shift = {"source": SHIFT.replace("SHIFT", str(days * 86_400_000))}
+        self.driver.execute_cdp_cmd("Page.enable", {})
+        added = self.driver.execute_cdp_cmd("Page.addScriptToEvaluateOnNewDocument", shift)
+        try:
+            yield
+        finally:
+            self.driver.execute_cdp_cmd("Page.removeScriptToEvaluateOnNewDocument", added)
 
     def is_kept(self):
         """Waits until the pages' worker is there and has their files."""
@@ -448,6 +467,29 @@ class Round(Case):
             zoe.press("Enter 1 repayment", ".modal.show")
             zoe.wait(lambda: zoe.results() == {"entered": 1}, "the result")
             self.assertEqual(entered(it, 1), once(10000))
+
+    def test_over_the_end_of_the_month(self):
+        """What waits stays for 30 days, also over the end of the month: the bar tells since which day. It isn't sent by
+        itself any more, since somebody has to say why so late."""
+        with loans.desk_with(FEW) as it:
+            zoe = self.phone(it, "zoe")
+            zoe.take_along(by_itself=True)
+            zoe.network(CUT)
+            zoe.type(1, "100")
+            zoe.wait(lambda: zoe.bar().startswith("1 not sent"), "it")
+            self.assertEqual(it.send("head", "PUT", "/api/business-day", {"day": "2024-04-30"})[0], 200)
+            zoe.network(OPEN)
+            with zoe.clock_set(30):
+                zoe.open_kept()
+                self.assertRegex(zoe.bar(), r"^1 not sent, 100\.00, since [A-Z][a-z]{2} \d\d?, \d{4} HH:MM$")
+                self.assertIn("30 days", zoe.text(".kept-age"))
+                time.sleep(7)  # twice as long as it takes to look for what waits
+                self.assertEqual(zoe.results(), {})
+                zoe.open_dialog("Enter 1 repayment")
+                zoe.fill("Reason", "no network in the village")
+                zoe.press("Enter 1 repayment", ".modal.show")
+                zoe.wait(lambda: zoe.results() == {"entered": 1}, "the result")
+                self.assertEqual(entered(it, 1), once(10000))
 
     def test_a_round_of_a_day_to_come(self):
         with loans.desk_with(FEW) as it:
