@@ -910,6 +910,21 @@ class Sending(Case):
             zoe.wait(lambda: zoe.results() == {"entered": 1}, "the result")
             self.assertEqual(entered(it, 2), once(10000) + [[]])
 
+    def test_the_desk_comes_back_for_a_press(self):
+        """It is looked for also where nothing is sent by itself: the button that enters can be pressed then."""
+        with loans.desk_with(FEW) as it:
+            zoe = self.phone(it, "zoe")
+            zoe.take_along()
+            it.nginx.stop()
+            zoe.open_kept()
+            zoe.type(1, "100")
+            zoe.wait(lambda: zoe.bar() == "1 not sent, 100.00, since HH:MM", "it")
+            zoe.script("document.activeElement.blur()")
+            self.assertFalse(zoe.all(".round-enter")[0].is_enabled())
+            it.nginx.start()
+            zoe.enter()
+            zoe.wait(lambda: zoe.results() == {"entered": 1}, "the result")
+
     def test_two_windows(self):
         """Two windows of one browser, both open, over a slow network: each line goes to the desk once."""
         with loans.desk_with(rounds.FORTY) as it:
@@ -1443,11 +1458,11 @@ class Kills(Case):
         zoe.open_kept()
         unknown = 0
         for results, seconds, hangs in self.SENDING:
-            if zoe.bar() == "":
-                break  # a browser that was killed late had sent all of it
             zoe.network(SLOW)
             before = sum(zoe.results().get(one, 0) for one in ("entered", "repeated"))
-            zoe.enter()
+            zoe.wait(lambda: zoe.bar() == "" or zoe.press_enter(), "the button that enters")
+            if zoe.bar() == "":
+                break  # a browser that was killed late had sent all of it
             zoe.wait(lambda: not zoe.all(".round-enter")[0].is_enabled(), "the sending")
             done = "return document.querySelectorAll('[data-result=entered], [data-result=repeated]').length"
             zoe.wait(lambda wanted=before + results: zoe.script(done) >= wanted, "the results")
@@ -1458,6 +1473,7 @@ class Kills(Case):
             it.serve.process.send_signal(signal.SIGCONT)
             stands = [len(one) for one in entered(it, rounds.COUNT)]
             self.assertLessEqual(max(stands), 1)
+            print(f" ({sum(stands)})", end="", flush=True)
             it.let_in(zoe.driver, "zoe")
             zoe.open_kept()
             unknown += zoe.results().get("lost", 0)

@@ -160,8 +160,9 @@ let losses = 0;
 let waitUntil = 0;  // these by the time since the page began: the clock may be set
 let lookedForDesk = -LOOK_FOR_DESK;
 
+// Where something waits the desk is looked for, also if it is sent by a press alone: without the desk there is none.
 async function look() {
-    if (isLooking || isLocked() || !sendsByItself() || !navigator.onLine || performance.now() < waitUntil) {
+    if (isLooking || isLocked() || !navigator.onLine || performance.now() < waitUntil) {
         return;
     }
     isLooking = true;
@@ -169,7 +170,7 @@ async function look() {
         const waiting = (await keptRounds()).filter(({count}) => count > 0);
         if (waiting.length > 0 && session.staff === "") {
             lookForDesk();
-        } else {
+        } else if (sendsByItself()) {
             await sendWaiting(waiting);
         }
     } catch (problem) {
