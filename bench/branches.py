@@ -99,16 +99,17 @@ def copy_rows(database, table, count):
     database.execute("DROP TABLE own")
 
 
-def grow(path, branches, clients=CLIENTS, loans=LOANS):
-    """Opens so many branches, from number 2 on, in a file that has the first lines and perhaps more of office 1, and
+def grow(path, branches, clients=CLIENTS, loans=LOANS, first=2):
+    """Opens so many branches, from a number on, in a file that has the first lines and perhaps more of office 1, and
     fills each with so many clients and loans."""
-    entered(path, [line for number in range(2, branches + 2) for line in branch_lines(number)])
+    offices = range(first, first + branches)
+    entered(path, [line for number in offices for line in branch_lines(number)])
     with contextlib.closing(sqlite3.connect(path, isolation_level=None)) as database:
         for pragma in ("journal_mode = OFF", "synchronous = OFF", "temp_store = MEMORY", "cache_size = -1000000"):
             database.execute(f"PRAGMA {pragma}")
         database.execute("BEGIN")
         database.execute("CREATE TEMP TABLE place (office INTEGER, number INTEGER)")
-        places = ((office, number) for number in range(1, clients + 1) for office in range(2, branches + 2))
+        places = ((office, number) for number in range(1, clients + 1) for office in offices)
         database.executemany("INSERT INTO place VALUES (?, ?)", places)
         for table in OWN:
             copy_rows(database, table, clients if table == "clients" else loans)

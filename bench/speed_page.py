@@ -46,6 +46,7 @@ class Results:
     sizes: list  # of the files, each with its `counts`, `bytes`, `opened`, `costs` and `peak`
     alone: tuple  # the counts, the bytes and the openings of the file that was opened and no more
     messages: dict  # by kind how many a second, and the microseconds of processor time of each
+    lists: str  # the table of the lists of one office
     minutes: float
     load: tuple  # of the machine, at the beginning and at the end
 
@@ -293,4 +294,5 @@ and writes nothing.
 
 def page(results):
     """The whole page."""
-    return head(results) + table(results) + legend(results) + growing(results) + carried(results) + compared(results)
+    text = head(results) + table(results) + legend(results) + growing(results) + results.lists
+    return text + carried(results) + compared(results)

@@ -70,8 +70,8 @@ class Worker:
 class Desk(Worker):
     """The program over a file that holds an institution. `opened`: the processor seconds until it answers."""
 
-    def __init__(self, path, folder):
-        super().__init__([files.PROGRAM, "batch", "--existing", "--file", path], folder)
+    def __init__(self, path, folder, more=()):
+        super().__init__([files.PROGRAM, "batch", "--existing", "--file", path, *more], folder)
         self.answered(["1/1 GET /business-day\n"])
         self.opened = processor_time(self.process.pid)
 
@@ -83,6 +83,11 @@ class Desk(Worker):
         if refused:
             sys.exit(f"the program refuses {len(refused)} of {len(lines)} lines, the first with {refused[0][:100]}")
         return seconds, replies
+
+
+    def replied(self, line):
+        """The reply to a line, whatever it is."""
+        return self.fed(line.encode(), lambda found: found.endswith(b"\n"))[1].decode()
 
 
 class Shell(Worker):
