@@ -34,7 +34,10 @@ def find(part):
 
 def readings():
     """Each list, at its place in the middle or at its end where there are several pages."""
-    loan = lambda k: account((OFFICE, 1 + k * 37 % LOANS))  # noqa: E731
+
+    def loan(k):
+        return account((OFFICE, 1 + k * 37 % LOANS))
+
     last = account((OFFICE, CLIENTS))
     return [
         Reading("500 clients", lambda k: get(f"clients/{OFFICE}/{500 * (k % 20)}"), 5),
@@ -44,7 +47,7 @@ def readings():
         Reading("a client's loans", lambda k: get(f"loans/{loan(k)}"), 5),
         Reading("200 loans with something due", lambda k: get(f"due/{OFFICE}/{NEXT_DAY}/{200 * (k % 15)}"), 5),
         Reading("200 active loans", lambda k: get(f"stages/{OFFICE}/300/{200 * (k % 15)}"), 5),
-        Reading("loans that wait, of which there are none", lambda _: get(f"stages/{OFFICE}/100/0"), 5),
+        Reading("loans that wait: none", lambda _: get(f"stages/{OFFICE}/100/0"), 5),
         Reading("staff", lambda _: get(f"staff/{OFFICE}"), 50),
         Reading("what a loan would be", lambda _: get(f"schedule/1/120000/12/{NEXT_DAY}"), 50),
         Reading("history of a loan, by the journal", lambda k: get(f"history/{loan(k % 8)}"), 2),
