@@ -12,9 +12,18 @@ function keep(request, part, flags) {
     request.sendBuffer(part, flags);
 }
 
+// the routes of the readings that a message names, or those of each loan that it names
+function routesOf(variables) {
+    if (variables.several !== "") {
+        return variables.several.split("&");
+    }
+    const twoOf = (loan) => `/loans/${loan}&/loans/${loan}/entries`;
+    return variables.accounts.split("&").map(twoOf).join("&").split("&");
+}
+
 // Answers several readings by one message: a list of what each is answered, as its status and its text.
 async function several(request) {
-    const routes = request.variables.several.split("&");
+    const routes = routesOf(request.variables);
     const replies = [];
     for (let i = 0; i < routes.length; i++) {  // this engine knows no other loop in which it can wait
         const reply = await request.subrequest(`/one-of-several${routes[i]}`);

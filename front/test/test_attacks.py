@@ -23,6 +23,7 @@ from test_front import LARGEST, LINES, NORTH, PEOPLE, desk_wait, read_all, told_
 HELD = 400  # messages that an attacker holds at once
 OF_ONE_PERSON = 40  # messages of one person that the front lets through at once
 SEVERAL_OF_ONE_PERSON = 4  # of them such as ask for several readings
+ACCOUNTS_OF_ONE_PERSON = 2  # of these such as ask for accounts
 WHO = os.path.join(running.TOP, "package", "tools", "microloan-who")
 LOG_CHECK = os.path.join(running.FRONT, "log-check")
 FILTER = os.path.join(running.FRONT, "fail2ban", "filter.conf")
@@ -320,7 +321,14 @@ class Several(OverTheProgram):
         "/several?" + "&".join(["/offices"] * 9), "/several/?/offices", "/several/offices", "//several?/offices",
         "/me/../several?/offices", "/%73everal?/offices", "/SEVERAL?/offices", "/api/several?/offices",
         "/one-of-several/offices", "/%6fne-of-several/offices", "/lib/../one-of-several/offices",
+        "/accounts", "/accounts?", "/accounts?0002-000001&", "/accounts?&0002-000001", "/accounts?2-1",
+        "/accounts?0002-000001?", "/accounts?0002-000001#x", "/accounts?0002-000001;0002-000002",
+        "/accounts?0002-000001&&0002-000002", "/accounts?0002-000001%260002-000002", "/accounts?0002-%30000001",
+        "/accounts?0002-000001/entries", "/accounts?/loans/0002-000001", "/accounts?../offices-1", "/accounts/?0002-000001",
+        "/accounts?" + "&".join(["0002-000001"] * 321), "/ACCOUNTS?0002-000001", "/%61ccounts?0002-000001",
+        "/api/accounts?0002-000001", "/several?0002-000001", "/accounts?/offices",
     )
+    LOANS = ("0002-000001", "0003-000001", "0009-000009")
     TOLD = ("from", "user", "staff", "method", "path", "body", "status", "upstream", "reply")
 
     def ask(self, *paths, name="tom"):
@@ -333,24 +341,41 @@ class Several(OverTheProgram):
 
     def test_each_as_by_itself(self):
         """For whoever asks: the reply, and the line of the log."""
+        self.as_by_itself("/several?" + "&".join(self.PATHS), self.PATHS)
+
+    def test_each_account_as_by_itself(self):
+        paths = [path for loan in self.LOANS for path in (f"/loans/{loan}", f"/loans/{loan}/entries")]
+        self.as_by_itself("/accounts?" + "&".join(self.LOANS), paths)
+
+    def as_by_itself(self, target, paths):
         for name in PEOPLE:
             with self.subTest(name):
                 time.sleep(0.2)  # for a line that comes late
                 logged = len(DESK.log)
-                alone = [DESK.exchange(name, "GET", "/api" + path) for path in self.PATHS]
-                lines = self.lines_since(logged, len(self.PATHS))
+                alone = [DESK.exchange(name, "GET", "/api" + path) for path in paths]
+                lines = self.lines_since(logged, len(paths))
                 logged = len(DESK.log)
-                status, told = self.ask(*self.PATHS, name=name)
+                status, told = DESK.send(name, "GET", target)
                 self.assertEqual(status, 200)
                 self.assertEqual([(one["status"], one["text"]) for one in told],
                                  [(status, data.decode()) for status, _, data in alone])
-                self.assertEqual(self.lines_since(logged, len(self.PATHS)), lines)
+                self.assertEqual(self.lines_since(logged, len(paths)), lines)
+
+    def test_as_many_accounts_as_can_be(self):
+        """320 loans by one message: each is read, in the order of the message."""
+        loans = [f"0002-{number:06}" for number in range(1, 321)]
+        DESK.stop_serve()
+        with Program(DESK.serve.port) as program:
+            status, told = DESK.send("zoe", "GET", "/accounts?" + "&".join(loans))
+        self.assertEqual((status, told), (200, [{"status": 200, "text": "{}"}] * 640))
+        asked = [path.encode() for loan in loans for path in (f"/loans/{loan}", f"/loans/{loan}/entries")]
+        self.assertEqual([got.split(b" ", 2)[1] for got in program.got], asked)
 
     def test_no_stranger(self):
-        asked = "/several?/offices&/business-day"
-        for name, password in ((None, None), ("tom", "wrong"), ("nobody", "word")):
-            if name is None or not DESK.sign_in:
-                self.assertEqual(DESK.send(name, "GET", asked, password=password), (401, {"front": "password"}))
+        for asked in ("/several?/offices&/business-day", "/accounts?0002-000001"):
+            for name, password in ((None, None), ("tom", "wrong"), ("nobody", "word")):
+                if name is None or not DESK.sign_in:
+                    self.assertEqual(DESK.send(name, "GET", asked, password=password), (401, {"front": "password"}))
 
     def test_no_other_spelling(self):
         DESK.stop_serve()
@@ -359,8 +384,9 @@ class Several(OverTheProgram):
                 with self.subTest(target):
                     self.assertIn(status_of(answered(message("tom", "GET", target))), (400, 404, 405))
             for method in ("POST", "HEAD", "PUT", "DELETE", "OPTIONS"):
-                with self.subTest(method):
-                    self.assertEqual(status_of(answered(message("tom", method, "/several?/offices", b"{}"))), 404)
+                for target in ("/several?/offices", "/accounts?0002-000001"):
+                    with self.subTest(f"{method} {target}"):
+                        self.assertEqual(status_of(answered(message("tom", method, target, b"{}"))), 404)
         self.assertEqual(program.got, [])
 
     def test_told_as_messages_are(self):
@@ -485,6 +511,12 @@ class Holding(OverTheProgram):
 
     def test_several_readings_take_one_place_in_the_queue(self):
         """Of one person few such messages are passed on at once, each with one reading at a time."""
+        self.few_are_passed_on("/several?" + "&".join(["/offices"] * 8), SEVERAL_OF_ONE_PERSON)
+
+    def test_messages_for_accounts_are_fewer_still(self):
+        self.few_are_passed_on("/accounts?" + "&".join(["0002-000001"] * 320), ACCOUNTS_OF_ONE_PERSON)
+
+    def few_are_passed_on(self, target, most):
         DESK.stop_serve()
         with socket.socket() as listener:
             listener.setsockopt(socket.SOL_SOCKET, socket.SO_REUSEADDR, 1)
@@ -492,17 +524,17 @@ class Holding(OverTheProgram):
             listener.listen(HELD)
             clients = [connected() for _ in range(OF_ONE_PERSON)]
             for client in clients:
-                client.sendall(message("zoe", "GET", "/several?" + "&".join(["/offices"] * 8)))
-            desk_wait(lambda: sum(map(readable, clients)) >= OF_ONE_PERSON - SEVERAL_OF_ONE_PERSON)
+                client.sendall(message("zoe", "GET", target))
+            desk_wait(lambda: sum(map(readable, clients)) >= OF_ONE_PERSON - most)
             refused = [client for client in clients if readable(client)]
             self.assertEqual({status_of(client.recv(1000)) for client in refused}, {429})
-            self.assertEqual(len(refused), OF_ONE_PERSON - SEVERAL_OF_ONE_PERSON)
+            self.assertEqual(len(refused), OF_ONE_PERSON - most)
             listener.settimeout(1)
             passed = []
             with contextlib.suppress(TimeoutError):
                 while True:
                     passed.append(listener.accept()[0])
-            self.assertEqual(len(passed), SEVERAL_OF_ONE_PERSON)
+            self.assertEqual(len(passed), most)
             for client in [*clients, *passed]:
                 client.close()
 

@@ -119,6 +119,13 @@ class Phone(reader.Reader):
         field.clear()
         field.send_keys(amount)
 
+    def draft(self, kind, **values):
+        """Writes a draft on the page of drafts."""
+        self.open_dialog(kind)
+        for label, value in values.items():
+            self.fill(label, value)
+        self.send("Keep on this phone")
+
     def bar(self):
         return re.sub(r"\d\d:\d\d$", "HH:MM", self.text(".unsent"))
 
@@ -608,8 +615,8 @@ class Receipts(Case):
             self.assertEqual(code[-3:], ["left: 0.00", "overpaid: 80.50", "entered: no"])
 
 
-class Left(Case):
-    """What a payment leaves, worked out on the phone, is what the desk answers once the payment is entered."""
+class AsTheDesk:
+    """What a payment leaves, as a receipt shows it, beside what the desk answers once the payment is entered."""
 
     # A charge with each instalment, another strategy; on the loans a fee, a waiver, a penalty, and what is overpaid.
     CHARGED = loans.LINES.replace(loans.PRODUCT, b"") + (
@@ -624,11 +631,6 @@ class Left(Case):
         b'2/1 POST /loans/0002-000004/entries/1/reverse\n'
     )
     AMOUNTS = ("100", "683.33", "41.20", "0.01", "1100.50")
-    WITHOUT_THE_FILE = """
-        const real = window.fetch;
-        window.fetch = (url, ...more) =>
-            String(url).endsWith(".wasm") ? Promise.reject(new TypeError("lost")) : real(url, ...more);
-    """
     PORTIONS = ("principal", "interest", "fees", "penalties")
 
     def facts(self, phone, line):
@@ -638,14 +640,10 @@ class Left(Case):
         phone.wait(lambda: phone.all(".code") and f"0002-{line:06}" in phone.text(".slip"), "the receipt")
         return dict(phone.script(FACTS))
 
-    def typed(self, it, who="zoe"):
-        phone = self.phone(it, who)
-        phone.take_along()
-        phone.network(CUT)
+    def type_all(self, phone):
         for line, amount in enumerate(self.AMOUNTS, 1):
             phone.type(line, amount)
         phone.wait(lambda: phone.bar().startswith(f"{len(self.AMOUNTS)} not sent"), "it")
-        return phone
 
     def answered(self, it, line):
         """What the desk answers of a loan, as a receipt shows it."""
@@ -664,19 +662,36 @@ class Left(Case):
         }
         return {name: value for name, value in wanted.items() if value is not None}
 
+    def compare(self, it, phone):
+        """Each line's receipt, and then the desk's answer to the same payment."""
+        told = {line: self.facts(phone, line) for line in range(1, COUNT + 1)}
+        self.assertIn("was worked out on this phone, as the desk works it out", phone.text(".slip"))
+        for line, (amount, facts) in enumerate(zip(self.AMOUNTS, told.values()), 1):
+            paid = {"amount": round(float(amount) * 100), "day": "2024-03-31", "receipt": f"2-20240331-{line:06}"}
+            status, _ = it.send("tom", "POST", f"/api/loans/0002-{line:06}/repayments", paid)
+            self.assertEqual(status, 201)
+            names = ("Left to pay", "Of it", "Due by now", "Next instalment", "Overpaid")
+            shown = {name: facts[name].replace("1,0", "10") for name in names if name in facts}
+            self.assertEqual(shown, self.answered(it, line), line)
+        self.assertEqual(it.send("head", "GET", "/api/loans/0002-000005")[1]["status"], 700)
+
+
+class Left(AsTheDesk, Case):
+    """Of a round that was taken along the phone works it out; where it can't it shows what is certain."""
+
+    WITHOUT_THE_FILE = """
+        const real = window.fetch;
+        window.fetch = (url, ...more) =>
+            String(url).endsWith(".wasm") ? Promise.reject(new TypeError("lost")) : real(url, ...more);
+    """
+
     def test_as_the_desk_answers(self):
         with loans.desk_with(self.LINES) as it:
-            zoe = self.typed(it)
-            told = {line: self.facts(zoe, line) for line in range(1, COUNT + 1)}
-            self.assertIn("was worked out on this phone, as the desk works it out", zoe.text(".slip"))
-            for line, (amount, facts) in enumerate(zip(self.AMOUNTS, told.values()), 1):
-                paid = {"amount": round(float(amount) * 100), "day": "2024-03-31", "receipt": f"2-20240331-{line:06}"}
-                status, _ = it.send("tom", "POST", f"/api/loans/0002-{line:06}/repayments", paid)
-                self.assertEqual(status, 201)
-                names = ("Left to pay", "Of it", "Due by now", "Next instalment", "Overpaid")
-                shown = {name: facts[name].replace("1,0", "10") for name in names if name in facts}
-                self.assertEqual(shown, self.answered(it, line), line)
-            self.assertEqual(it.send("head", "GET", "/api/loans/0002-000005")[1]["status"], 700)
+            zoe = self.phone(it, "zoe")
+            zoe.take_along()
+            zoe.network(CUT)
+            self.type_all(zoe)
+            self.compare(it, zoe)
 
     def test_a_browser_without_memory64(self):
         """It shows what is certain, as it does where the file didn't come."""
@@ -796,6 +811,29 @@ class HandOver(Case):
             zoe.wait(lambda: zoe.results() == {"entered": 2}, "the results")
             zoe.follow("Hand-over of cash")
             self.assertEqual(self.figures(zoe)[:2], ["150.00 (2 payments)", none])
+
+    def test_notes_of_visits(self):
+        """They stand on the sheet that both sign: the desk has no place for them."""
+        with loans.desk_with(FEW) as it:
+            zoe = self.phone(it, "zoe")
+            zoe.take_along()
+            zoe.network(CUT)
+            zoe.follow("Drafts")
+            for words in ("Not at home, her sister promised Friday", "Wants a larger loan"):
+                zoe.draft("Note of a visit", Client="Client 2 · 0002-000002", Note=words)
+            zoe.driver.get("about:blank")
+            zoe.driver.get(f"{it.url}/#/kept/{PLACE}/cash")
+            zoe.unlock()
+            zoe.wait(lambda: "Notes of visits" in zoe.text(".handover"), "the notes")
+            told = [words for words in zoe.script(FACTS) if words[0].startswith("Client")]
+            self.assertEqual(told, [["Client 2 · 0002-000002", "Not at home, her sister promised Friday"],
+                                    ["Client 2 · 0002-000002", "Wants a larger loan"]])
+            zoe.look("hand-over-notes")
+            zoe.script("window.print = () => {}")
+            zoe.press("Print on A4")
+            _, pages, text, _ = zoe.printed("hand-over-notes-210")
+            self.assertEqual(pages, 1)
+            self.assertIn("her sister promised Friday", text)
 
     def prints(self, zoe):
         zoe.script("window.print = () => {}")
@@ -1046,12 +1084,6 @@ class Drafts(Case):
         zoe.follow("Drafts")
         return zoe
 
-    def draft(self, zoe, kind, **values):
-        zoe.open_dialog(kind)
-        for label, value in values.items():
-            zoe.fill(label, value)
-        zoe.send("Keep on this phone")
-
     def card(self, zoe, kind):
         """The newest draft of a kind."""
         return zoe.wait(lambda: next((one for one in zoe.all(".draft") if one.text.startswith(kind)), None), kind)
@@ -1083,9 +1115,9 @@ class Drafts(Case):
         with loans.desk_with(FEW) as it:
             zoe = self.on_phone(it)
             zoe.network(CUT)
-            self.draft(zoe, "New client", Name="Bahati Mrema")
-            self.draft(zoe, "Application", Client="Bahati Mrema", Principal="500", Instalments="3")
-            self.draft(zoe, "Note of a visit", Client="Client 2 · 0002-000002", Note="the roof leaks")
+            zoe.draft("New client", Name="Bahati Mrema")
+            zoe.draft("Application", Client="Bahati Mrema", Principal="500", Instalments="3")
+            zoe.draft("Note of a visit", Client="Client 2 · 0002-000002", Note="the roof leaks")
             self.assertEqual(zoe.bar(), "2 not sent, 0.00, since HH:MM")
             zoe.driver.get("about:blank")
             zoe.driver.get(f"{it.url}/#/kept/{PLACE}/drafts")
@@ -1116,14 +1148,14 @@ class Drafts(Case):
 
     def alike(self, it, zoe):
         """The same name in other letters, and the same sum for the same client."""
-        self.draft(zoe, "New client", Name="bahati  mrema".replace("  ", " "))
+        zoe.draft("New client", Name="bahati  mrema".replace("  ", " "))
         self.press(zoe, "New client")
         self.told(zoe, "New client", "0002-000006 Bahati Mrema")
         zoe.look("draft-alike")
         self.press(zoe, "New client", "It is the same")
         self.told(zoe, "New client", "Client 0002-000006 is entered.")
         self.assertEqual(self.clients(it), ["Bahati Mrema"])
-        self.draft(zoe, "Application", Client="bahati mrema", Principal="500", Instalments="6")
+        zoe.draft("Application", Client="bahati mrema", Principal="500", Instalments="6")
         self.press(zoe, "Application")
         self.told(zoe, "Application", "0002-000006 · 500.00 · Waits for approval")
         self.press(zoe, "Application", "It is another one: send it")
@@ -1134,13 +1166,13 @@ class Drafts(Case):
         """What was carried out is found, also after the page was left; what wasn't is sent again once it can't come."""
         with loans.desk_with(FEW) as it:
             zoe = self.on_phone(it)
-            self.draft(zoe, "New client", Name="Bahati")
+            zoe.draft("New client", Name="Bahati")
             self.lose(zoe, "/clients", True)
             self.press(zoe, "New client")
             self.told(zoe, "New client", "Client 0002-000006 is entered.")
             zoe.open_kept()
             zoe.follow("Drafts")
-            self.draft(zoe, "Application", Client="Bahati", Principal="500", Instalments="3")
+            zoe.draft("Application", Client="Bahati", Principal="500", Instalments="3")
             self.lose(zoe, "/loans", False)
             for _ in range(2):
                 self.press(zoe, "Application")
@@ -1160,7 +1192,7 @@ class Drafts(Case):
         """The request is carried out and the page is gone: it is found when it is sent again, by whatever page."""
         with loans.desk_with(FEW) as it:
             zoe = self.on_phone(it)
-            self.draft(zoe, "New client", Name="Bahati")
+            zoe.draft("New client", Name="Bahati")
             zoe.script(self.HANGING)
             self.press(zoe, "New client")
             zoe.wait(lambda: self.clients(it) == ["Bahati"], "the client")

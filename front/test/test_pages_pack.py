@@ -40,13 +40,13 @@ FULL = "IDBObjectStore.prototype.put = () => { throw new DOMException('full', 'Q
 # what a press sent, and the bytes that came with heads, as the browser counts them
 SENT = """
 const list = performance.getEntriesByType('resource').map(({name, transferSize}) => [new URL(name), transferSize])
-    .filter(([{pathname}]) => /^[/](api[/]|several$)/.test(pathname));
+    .filter(([{pathname}]) => /^[/](api[/]|several$|accounts$)/.test(pathname));
 return [list.map(([{pathname, search}]) => pathname + search), list.reduce((all, [, bytes]) => all + bytes, 0)];
 """
-# a front of before, which has no message for several readings
+# a front of before, which has no message for several readings, nor for accounts
 OLDER = """
 const real = window.fetch;
-window.fetch = (url, more) => url.includes('/several') ? Promise.resolve(new Response('<html>', {status: 404})) :
+window.fetch = (url, more) => /[/](several|accounts)[?]/.test(url) ? Promise.resolve(new Response('<html>', {status: 404})) :
     real(url, more);
 """
 # breaks a part of the first replies to several readings off, as where the program ends in the midst
@@ -97,9 +97,9 @@ def institution(count=FEW, more=b""):
 
 
 def large_office():
-    """The request lines of an office of 3,000 loans on 2024-03-31: of 300 something is due, of 600 on 2024-04-05."""
+    """The request lines of an office of 3,000 loans on 2024-03-31: of 400 something is due, of 700 on 2024-04-05."""
     yield loans.LINES
-    days = ("2024-02-15", 300), ("2024-03-05", 600), ("2024-03-20", LARGE - 900)
+    days = ("2024-02-15", 400), ("2024-03-05", 700), ("2024-03-20", LARGE - 1100)
     made = [day for day, count in days for _ in range(count)]
     for number, day in enumerate(made, 1):
         if number == 1 or day != made[number - 2]:
@@ -317,11 +317,14 @@ class Pack(offline.Case):
         with loans.desk_with(institution(rounds.COUNT)) as it:
             zoe = self.phone(it, "zoe")
             products = [f"/products/{number}" for number in range(1, 5)]  # a few ahead
-            self.assertEqual(self.asked(zoe, True)[0], self.at_once(*products, *due, "/lists/clients/2/0"))
+            accounts = "/accounts?" + "&".join(f"0002-{number:06}" for number in range(1, rounds.COUNT + 1))
+            at_once = self.at_once(*products, *due, "/lists/clients/2/0")
+            self.assertEqual(self.asked(zoe, True)[0], [*at_once, accounts])
             it.send("zoe", "POST", "/api/clients", {"office": 2, "name": "Bahati Mrema"})
             products = [f"/products/{number}" for number in range(2, 6)]
             # from the last client who is known
-            self.assertEqual(self.asked(zoe, False)[0], self.at_once(*products, *due, "/lists/clients/2/39"))
+            at_once = self.at_once(*products, *due, "/lists/clients/2/39")
+            self.assertEqual(self.asked(zoe, False)[0], [*at_once, accounts])
             zoe.follow("2 North")
             zoe.wait(lambda: zoe.table("Clients"), "the clients")
             zoe.fill("A name, a part of it, or a number", "bahati", within="main")
@@ -341,21 +344,23 @@ class Pack(offline.Case):
         return zoe.script(SENT)
 
     def test_3000_loans(self):
-        """An office of 3,000 loans of 3,000 clients, a tenth of them overdue and a fifth due within the week: all of them
-        are in the pack. Wanted are at most 12 requests and 300 kB."""
+        """An office of 3,000 loans of 3,000 clients, 400 of them overdue and 700 due within the week: all of them are in the
+        pack, and the accounts of 960, those first that are due. Wanted are at most 12 requests and 300 kB."""
         with loans.desk_with(b"".join(large_office())) as it:
             zoe = self.phone(it, "zoe")
-            for pin, most in ((True, 120_000), (False, 100_000)):
+            for pin in (True, False):
                 asked, size = self.asked(zoe, pin)
-                self.assertLessEqual(len(asked), 8, asked)
-                self.assertLessEqual(size, most)
+                self.assertLessEqual(len(asked), 11, asked)
+                self.assertLessEqual(size, 300_000)
                 print(f"    {len(asked)} requests, {size} bytes", end=" ")
             self.assertEqual(self.rows(zoe, "Day pack", "Office", "Clients"), [["2 North", "3,000"]])
             known = "return (await (await load('views/pack-kept.js')).readPack()).offices[0]"
             office = zoe.module(f"const {{lines, clients}} = (await (async () => {{ {known} }})());"
-                                "return [lines.map(({loan}) => loan), clients]")
+                                "return [lines.map(({loan}) => loan), clients,"
+                                "lines.filter(({account}) => account).map(({loan}) => Number(loan.slice(5)))]")
             self.assertEqual(office[0], [f"0002-{number:06}" for number in range(1, LARGE + 1)])
             self.assertEqual(office[1], [f"Client {number}" for number in range(1, 3001)])
+            self.assertEqual(office[2], list(range(1, 961)))
 
     def test_all_pages_of_loans(self):
         """Loans whose numbers lie close together or far apart: each once and in order, by few pages more than they fill."""
@@ -399,7 +404,8 @@ class Pack(offline.Case):
             zoe.wait(lambda: "No active loan." in zoe.text("main"), "who has no loan")
 
     def test_over_an_older_front(self):
-        """One that has no message for several readings is asked for each."""
+        """One that has no message for several readings is asked for each, and for no accounts: a receipt tells what is
+        certain."""
         with loans.desk_with(institution()) as it:
             zoe = self.phone(it, "zoe")
             zoe.go("pack")
@@ -407,6 +413,12 @@ class Pack(offline.Case):
             zoe.script(OLDER)
             zoe.take_here()
             self.assertEqual(self.rows(zoe, "Day pack", "Office", "Clients"), [["2 North", str(FEW)]])
+            zoe.follow("2 North")
+            zoe.open_round()
+            zoe.type(1, "100")
+            zoe.follow("Receipt", ".round-lines")
+            zoe.wait(lambda: zoe.all(".code"), "the receipt")
+            self.assertEqual(dict(zoe.script(offline.FACTS))["Left for certain: before, less paid"], "920.00")
 
     def test_broken_off(self):
         """What comes broken off is asked for again; where it stays so the pack before stays, and that is told."""
@@ -770,3 +782,20 @@ class WithoutLists(offline.Case):
             zoe.go("pack")
             zoe.settle()
             self.assertIn("This desk has no lists", zoe.text("main"))
+
+
+@unittest.skipUnless(running.has_lists(), "the program has no lists")
+class Left(offline.AsTheDesk, offline.Case):
+    """In a round of the day pack too a receipt tells what the desk will say."""
+
+    def test_as_the_desk_answers(self):
+        with loans.desk_with(self.LINES) as it:
+            zoe = Phone(it, "zoe")
+            self.addCleanup(zoe.close)
+            zoe.take_day()
+            zoe.network(offline.CUT)
+            zoe.open_pack("pack/2")
+            zoe.open_round()
+            self.type_all(zoe)
+            self.compare(it, zoe)
+            zoe.look("pack-receipt")

@@ -2,6 +2,7 @@
 
 const MOST_AT_ONCE = 4;
 const MOST_TOGETHER = 8;
+const LOANS_TOGETHER = 320;
 const MOST_MILLISECONDS = 45_000;
 const WAITS_BETWEEN_TRIES = [300, 1000, 2000];
 
@@ -159,8 +160,8 @@ export async function look(path, body) {
 }
 
 // Readings by one message, each with a reply of its own. Null where the front is an older one, without such a message.
-async function severalOnce(paths) {
-    const reply = await inTurn(true, () => fetchOnce("GET", `${location.origin}/several?${paths.join("&")}`));
+async function severalOnce(message) {
+    const reply = await inTurn(true, () => fetchOnce("GET", location.origin + message));
     if (reply.status === 404) {
         return null;
     }
@@ -177,7 +178,7 @@ let isByOne = false;  // an older front is asked for one after the other
 
 async function sendTogether(asked) {
     const paths = asked.map(({path}) => path);
-    const parts = isByOne || paths.length < 2 ? null : await tryAgain(() => severalOnce(paths));
+    const parts = isByOne || paths.length < 2 ? null : await tryAgain(() => severalOnce(`/several?${paths.join("&")}`));
     isByOne ||= parts === null && paths.length > 1;
     asked.forEach(({path, found, refuse}, i) => {
         const {status, value, reason} = parts?.[i] ?? {status: "fulfilled", value: read(path)};
@@ -194,6 +195,23 @@ export function readTogether(path) {
             sendTogether(asked).catch((problem) => asked.forEach((one) => one.refuse(problem)));
         });
     });
+}
+
+async function someLoans(loans) {
+    const parts = await tryAgain(() => severalOnce(`/accounts?${loans.join("&")}`)) ?? [];
+    const isRead = (i) => parts[i]?.status === "fulfilled";
+    const told = (i) => [loans[i / 2], {loan: parts[i].value, entries: parts[i + 1].value.entries}];
+    return parts.flatMap((_, i) => (i % 2 === 0 && isRead(i) && isRead(i + 1) ? [told(i)] : []));
+}
+
+// Of many loans what the desk tells of each, and its entries, by number: one message after another, since the front
+// holds a whole one in its memory. Without those that aren't seen, and without any where the front is an older one.
+export async function readLoans(loans) {
+    const told = new Map();
+    for (let i = 0; i < loans.length; i += LOANS_TOGETHER) {
+        (await someLoans(loans.slice(i, i + LOANS_TOGETHER))).forEach(([loan, its]) => told.set(loan, its));
+    }
+    return told;
 }
 
 // the body of the reply, or null where the thing isn't there or isn't seen

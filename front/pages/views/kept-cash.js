@@ -6,8 +6,10 @@ import {idOf, whenKeptChanges} from "../shared/kept.js";
 import {sum} from "../shared/money.js";
 import {facts, pageHead} from "../shared/tables.js";
 import {readMoney, say, sayCount, showCount, showDated, showDay, showMoney} from "../shared/words.js";
+import {notesOf} from "./kept-drafts.js";
 import {ownPayments} from "./kept-receipt.js";
 import {changeRound, readRound} from "./kept-rounds.js";
+import {namesIn, officeIn, readPack} from "./pack-kept.js";
 
 const MOST = 99_999;  // of one coin or note
 
@@ -36,8 +38,9 @@ function isCount(text) {
     return /^\d{1,5}$/.test(text) && Number(text) <= MOST;
 }
 
-export function showCash(page, round) {
-    const made = {round, cash: {counts: {}, other: "", ...round.cash}, keeping: Promise.resolve()};
+export async function showCash(page, round) {
+    const names = namesIn(officeIn(await readPack(), round.office));
+    const made = {round, names, cash: {counts: {}, other: "", ...round.cash}, keeping: Promise.resolve()};
     made.sheet = element("article", {class: "sheet handover", "data-paper": "a4"});
     made.trouble = element("div", {"aria-live": "assertive", class: "d-print-none"});
     const fields = [...institution.cash.map((size) => sizeField(made, size)), otherField(made)];
@@ -112,7 +115,7 @@ function keep(made) {
 }
 
 // the sheet, as it is printed
-function show({round, cash, sheet}) {
+function show({round, names, cash, sheet}) {
     const {entered, waiting, unread} = takenOf(round.lines);
     const expected = entered.cents + waiting.cents;
     const counted = countedOf(cash);
@@ -132,9 +135,15 @@ function show({round, cash, sheet}) {
         ]),
         facts(sizePairs(cash)), facts(figures),
         unread > 0 && element("p", {class: "cash-gap"}, sayCount("cash.unread", unread)),
+        noteNodes(notesOf(round, names)),
         element(
             "div", {class: "sign"}, element("div", {}, say("cash.signed-giver")),
             element("div", {}, say("cash.signed-taker"))));
+}
+
+// The desk has no place for notes of visits: they go to the office on this sheet.
+function noteNodes(notes) {
+    return notes.length > 0 && [element("p", {class: "h6"}, say("cash.notes")), facts(notes)];
 }
 
 function gapWords(gap) {

@@ -68,6 +68,12 @@ function clientWords({round, names}, client) {
     return name ? `${name} · ${client}` : draft?.name ?? (client === "none" ? "–" : client);
 }
 
+// The notes of a round: of which client, and their words. names: of the day pack's clients.
+export function notesOf(round, names) {
+    const notes = (round.drafts ?? []).filter(({kind}) => kind === "note");
+    return notes.map(({client, words}) => [clientWords({round, names}, client), words]);
+}
+
 // making them
 
 async function add(made, draft) {

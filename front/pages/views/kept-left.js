@@ -10,12 +10,15 @@ function only(names, thing) {
     return Object.fromEntries(names.map((name) => [name, thing[name]]));
 }
 
-// the terms of the products of loans, by number
-export async function termsOf(lines) {
+// The terms of the products of loans, by number. known: those that needn't be read. reading: how the others are.
+export async function termsOf(lines, known = {}, reading = {product, charge}) {
     const numbers = [...new Set(lines.map(({account}) => account?.product).filter(Boolean))];
     const read = async (number) => {
-        const told = await product(number);
-        const taken = told.instalment_charge ? await charge(told.instalment_charge) : null;
+        if (known[number]) {
+            return [number, known[number]];
+        }
+        const told = await reading.product(number);
+        const taken = told.instalment_charge ? await reading.charge(told.instalment_charge) : null;
         return [number, {...only(TERMS, told), charge: taken && only(["calc", "value"], taken)}];
     };
     return Object.fromEntries(await Promise.all(numbers.map(read)));

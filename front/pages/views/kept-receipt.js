@@ -30,7 +30,7 @@ function certainAfter({cents, before}) {
 async function tellAfter(round, line, payment) {
     const payments = ownPayments(line);
     const upTo = payments.slice(0, payments.findIndex(({number}) => number === payment.number) + 1);
-    const told = await leftAfter(round, line.account, upTo);
+    const told = await leftAfter(round, line.account ?? line.packed, upTo);
     const isTold = told !== null && !told.fault;
     return isTold ? shownOf(told, round.day) : {...certainAfter(payment), fault: told?.fault ?? null};
 }

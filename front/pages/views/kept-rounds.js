@@ -10,7 +10,8 @@ const CENTS = ["due", "owed", "cents", "overpaid", "amount", "before"];  // the 
 const PAYMENT = ["receipt", "amount", "staff", "reversed", "number", "before"];
 const LINE = [
     "loan", "client", "name", "since", "days", "due", "owed", "known", "account", "payments", "results", "text",
-    "cents", "typed", "touched", "receipt", "collector", "why", "result", "isFurther", "isSent", "seen"
+    "cents", "typed", "touched", "receipt", "collector", "why", "result", "isFurther", "isSent", "seen",
+    "packed"
 ];
 const TYPED = ["text", "cents", "typed", "touched", "receipt", "collector", "why", "result", "isFurther", "isSent"];
 

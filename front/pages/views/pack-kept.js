@@ -84,9 +84,9 @@ export function linesOn(pack, office, day) {
 }
 
 // A line of a round of the pack: of its loan nothing is known but what is in the pack. seen: how many entries of the
-// loan the pack knows of.
+// loan the pack knows of. packed: its account as the pack has it, where it does; the desk's is read before it is sent.
 export function roundLine(pack, place, line) {
-    const {loan, client, name, since, owed, last} = line;
+    const {loan, client, name, since, owed, last, account} = line;
     return {
         ...place,
         loan,
@@ -99,6 +99,7 @@ export function roundLine(pack, place, line) {
         seen: last?.entry ?? 0,
         known: null,
         account: null,
+        packed: account ?? null,
         payments: [],
         isFurther: false,
         results: {},
@@ -118,7 +119,7 @@ export function roundFrom(pack, office, day) {
     const products = pack.products.filter(({retired}) => !retired);
     const undated = {count: undatedOn(pack, office, day), until};
     const own = {officeName: office.name, taken, businessDay, by, products, mayEnter};
-    return {...place, ...own, isOfPack: true, undated, terms: {}, lines};
+    return {...place, ...own, isOfPack: true, undated, terms: pack.terms ?? {}, lines};
 }
 
 // what is due by a day, in all

@@ -2,19 +2,23 @@
 // their clients, and the products. Names and terms never change, so those of the pack before aren't read again. What is
 // asked for at one moment goes by one message.
 import {alertBox, button, card, element, fill, freshId} from "../shared/elements.js";
-import {Problem, readIfThere, readTogether} from "../shared/api.js";
+import {Problem, readIfThere, readLoans, readTogether} from "../shared/api.js";
 import {asTree, numberOf, offices, readOn, total} from "../shared/desk.js";
-import {dayOfNumber, LAST_DAY, numberOfDay} from "../shared/days.js";
+import {dayOfNumber, daysBetween, LAST_DAY, numberOfDay} from "../shared/days.js";
 import {note} from "../shared/dialogs.js";
+import {isAskedFor} from "../shared/institution.js";
 import {CLIENTS_OF_A_PAGE, clientsAfter, dueBy, dueByAtOnce, hasLists} from "../shared/lists.js";
 import {refusalBox} from "../shared/refusals.js";
 import {may, OFFICER, renewDay, session} from "../shared/session.js";
 import {say} from "../shared/words.js";
 import {openByPin} from "./kept-asking.js";
+import {termsOf} from "./kept-left.js";
 import {canSeal, Locked} from "./kept-pin.js";
 import {keepPack, officeIn} from "./pack-kept.js";
+import {accountOf} from "./round-state.js";
 
 const DAYS = 7;  // how far ahead
+const MOST_ACCOUNTS = 960;  // loans of which the entries are read: three messages
 
 // The names of an office's clients, by number. The last one that is known is read again: where it has another name, the
 // desk is another one, and nothing that was known counts.
@@ -78,6 +82,34 @@ function productsFrom(known) {
     return readOn([...known], (number) => readIfThere(`/products/${number}`, readTogether));
 }
 
+// The loans that a round of the week asks for: those first that are due by the business day, and of these and of the
+// others those that fall due nearest to it.
+function nearest(lines, day) {
+    const distance = ({since}) => Math.abs(daysBetween(since, day));
+    const inOrder = (some) => some.sort((one, other) => distance(one) - distance(other));
+    const asked = lines.filter(({due}) => isAskedFor(due));
+    const later = lines.filter(({due, later}) => !isAskedFor(due) && isAskedFor(due + later));
+    return [...inOrder(asked), ...inOrder(later)];
+}
+
+// Gives lines the accounts of their loans, by which this phone works out what a payment leaves. Where something was
+// entered between two readings a line has none.
+async function giveAccounts(lines) {
+    const told = await readLoans(lines.map(({loan}) => loan));
+    for (const line of lines.filter(({loan}) => told.has(loan))) {
+        const {loan, entries} = told.get(line.loan);
+        line.account = total(loan.outstanding) === line.owed ? accountOf(loan, entries) : null;
+    }
+}
+
+// the terms of the loans' products: those that were known stay
+function termsOfLines(lines, known, products) {
+    return termsOf(lines, known, {
+        product: (number) => products[number - 1] ?? readTogether(`/products/${number}`),
+        charge: (number) => readTogether(`/charges/${number}`)
+    });
+}
+
 // Reads what a pack of these offices has. before: the one that was taken along before, or null. Where the business day
 // moves meanwhile it is a pack of the day before, and says so.
 async function readDay(offices, before) {
@@ -93,8 +125,11 @@ async function readDay(offices, before) {
     ]);
     const isKnown = known.length === 0 || isSameDesk(before, packed);
     const products = isKnown || !mayEnter ? more : await productsFrom([]);
+    const wanted = nearest(packed.flatMap(({lines}) => lines), day).slice(0, MOST_ACCOUNTS);
+    await giveAccounts(wanted);
+    const terms = await termsOfLines(wanted, isKnown ? before?.terms : {}, products);
     return {
-        taken, businessDay: day, until, by: `${session.user} ${session.staff}`, mayEnter, products, offices: packed
+        taken, businessDay: day, until, by: `${session.user} ${session.staff}`, mayEnter, products, terms, offices: packed
     };
 }
 
