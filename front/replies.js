@@ -21,13 +21,22 @@ function routesOf(variables) {
     return variables.accounts.split("&").map(twoOf).join("&").split("&");
 }
 
+const MOST_HELD = 4 * 1024 * 1024;  // characters of replies, after which no further reading is passed on
+const NOT_READ = {status: 413, text: '{"front":"large"}'};
+
 // Answers several readings by one message: a list of what each is answered, as its status and its text.
 async function several(request) {
     const routes = routesOf(request.variables);
     const replies = [];
+    let held = 0;
     for (let i = 0; i < routes.length; i++) {  // this engine knows no other loop in which it can wait
-        const reply = await request.subrequest(`/one-of-several${routes[i]}`);
-        replies.push({status: reply.status, text: reply.responseText});
+        if (held > MOST_HELD) {
+            replies.push(NOT_READ);
+        } else {
+            const reply = await request.subrequest(`/one-of-several${routes[i]}`);
+            replies.push({status: reply.status, text: reply.responseText});
+            held += reply.responseText.length;
+        }
     }
     request.return(200, JSON.stringify(replies));
 }

@@ -21,7 +21,8 @@ async function keepAll() {
 }
 
 async function forgetOlder() {
-    const older = (await caches.keys()).slice(0, -VERSIONS);
+    const versions = (await caches.keys()).filter((name) => name.startsWith("/files/"));
+    const older = versions.slice(0, -VERSIONS);
     await Promise.all(older.map((name) => caches.delete(name)));
     await clients.claim();
 }

@@ -424,6 +424,16 @@ class Several(OverTheProgram):
                 self.ask("/a", "/b")
             self.assertEqual(self.ask("/a"), (200, [{"status": 200, "text": "{}"}]))
 
+    def test_a_message_holds_so_much(self):
+        """Behind 4 MB of replies no further reading is passed on: a message can't take more of the front's memory."""
+        DESK.stop_serve()
+        large = json.dumps({"a": "x" * 500_000}).encode()
+        with Program(DESK.serve.port, *[replied(large)] * 9) as program:
+            _, told = DESK.send("zoe", "GET", "/accounts?" + "&".join(["0002-000001"] * 320))
+        self.assertEqual(told[:9], [{"status": 200, "text": large.decode()}] * 9)
+        self.assertEqual(told[9:], [{"status": 413, "text": '{"front":"large"}'}] * 631)
+        self.assertEqual(len(program.got), 9)
+
 
 def median_time(name, address="127.0.0.1", count=60):
     """The median of the seconds that a look-up of a person takes; each must be answered."""

@@ -2,6 +2,7 @@
 loans are those of the tests of rounds: forty, of each 683.33 due on 2024-03-31."""
 import base64
 import contextlib
+import glob
 import json
 import os
 import re
@@ -50,6 +51,16 @@ indexedDB.open('microloan-kept').onsuccess = ({target}) => {
     asked.onsuccess = () => done(asked.result.map((one) => `${one.id} ${one.count} ${one.cents} ` +
         new TextDecoder('latin1').decode(one.sealed.data)));
 };
+"""
+# of what there are copies, and their bytes
+COPIES = """
+const keys = await (await caches.open('kept')).keys();
+return keys.map(({url}) => decodeURIComponent(new URL(url).pathname).replace('/kept/', '')).sort();
+"""
+COPIED = """
+const cache = await caches.open('kept');
+const bytes = async (key) => new TextDecoder('latin1').decode(await (await cache.match(key)).arrayBuffer());
+return Promise.all((await cache.keys()).map(bytes));
 """
 
 
@@ -196,8 +207,9 @@ class Battery(Phone):
         self.driver.get(self.desk.url + "/")
         self.settle()
 
-    def die(self):
-        """Kills the browser's processes, and chromedriver, and starts a browser anew."""
+    def die(self, is_torn=False):
+        """Kills the browser's processes, and chromedriver, and starts a browser anew. is_torn: the browser's databases end
+        with the beginning of a record, as a battery leaves them that went flat as one was written."""
         driver = self.driver.service.process
         killed = descendants(driver.pid)
         driver.kill()
@@ -209,8 +221,19 @@ class Battery(Phone):
         for name in ("SingletonLock", "SingletonCookie", "SingletonSocket"):
             with contextlib.suppress(FileNotFoundError):
                 os.unlink(os.path.join(self.profile, name))
+        if is_torn:
+            self.tear()
         self.kills += 1
         self.start()
+
+    def tear(self):
+        """Of a record of 5,000 bytes, whole in its block, its head and 300 bytes."""
+        logs = glob.glob(os.path.join(self.profile, "Default", "IndexedDB", "*", "*.log"))
+        with open(max(logs, key=os.path.getmtime), "ab") as file:
+            block = 32768
+            if block - file.tell() % block < 6000:
+                file.write(bytes(block - file.tell() % block))  # the rest of a block may be empty
+            file.write(os.urandom(4) + (5000).to_bytes(2, "little") + b"\1" + os.urandom(300))
 
     def close(self):
         self.driver.quit()
@@ -232,6 +255,11 @@ def shots(name):
     folder = os.environ.get("MICROLOAN_SHOTS") or os.path.join(running.TOP, "out", "shots")
     os.makedirs(folder, exist_ok=True)
     return os.path.join(folder, name)
+
+
+def text_of(path):
+    with open(path, encoding="utf-8", errors="replace") as file:
+        return file.read()
 
 
 def run(*words):
@@ -1515,6 +1543,47 @@ class Kills(Case):
         self.assertGreaterEqual(unknown, 1, "a line was on its way as it was killed")
         zoe.wait(lambda: zoe.bar() == "" or zoe.press_enter(), "the button that enters")
         zoe.wait(lambda: zoe.bar() == "", "all results")
+
+
+class FlatBattery(Case):
+    """Chromium writes on behind a record that was cut short, and empties its databases at the next start."""
+
+    def test_nothing_typed_is_lost(self):
+        with loans.desk_with(FEW) as it:
+            zoe = Battery(it, "zoe")
+            self.addCleanup(zoe.close)
+            zoe.take_along()
+            zoe.network(CUT)
+            for line, amount in enumerate(("10", "20.50", "30"), 1):
+                zoe.type(line, amount)
+                zoe.wait(lambda line=line: zoe.bar().startswith(f"{line} not sent"), "it")
+                zoe.die(is_torn=True)
+                zoe.network(CUT)
+                zoe.open_kept()
+                self.assertEqual(zoe.script(AMOUNTS)[:line], ["10", "20.50", "30"][:line])
+            self.assertEqual(zoe.bar(), "3 not sent, 60.50, since HH:MM")
+            emptied = glob.glob(os.path.join(zoe.profile, "Default", "IndexedDB", "*", "LOG*"))
+            self.assertTrue(any("Creating DB" in text_of(path) for path in emptied), "the browser emptied none")
+            zoe.network(OPEN)
+            it.let_in(zoe.driver, "zoe")
+            zoe.open_kept()
+            zoe.press("Enter 3 repayments")
+            zoe.wait(lambda: zoe.results() == {"entered": 3}, "the results")
+            self.assertEqual(entered(it, COUNT)[:3], once(1000, 2050, 3000))
+
+    def test_copies_end_with_what_they_are_of(self):
+        """They are sealed as it is; a round that is removed has none any more."""
+        with loans.desk_with(FEW) as it:
+            zoe = self.phone(it, "zoe")
+            zoe.take_along()
+            self.assertEqual(zoe.module(COPIES), ["microloan-kept/pin/only", "microloan-kept/rounds/2 2024-03-31"])
+            for kept in zoe.module(COPIED):
+                for word in ("Client 1", "0002-000001", "North"):
+                    self.assertNotIn(word, kept)
+            zoe.press("Remove from this phone")
+            zoe.send("Remove from this phone")
+            zoe.wait(lambda: "No round is on this phone" in zoe.text("main"), "its end")
+            self.assertEqual(zoe.module(COPIES), ["microloan-kept/pin/only"])
 
 
 class Versions(Case):

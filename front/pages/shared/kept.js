@@ -1,45 +1,12 @@
 // What is kept on this phone for a time without a network: rounds that were taken along, with what was typed into
 // them. The content of a round is sealed by the phone's PIN (views/kept-pin.js). In clear stand its office and day, and
 // how much of it is not sent, since when: each page tells that without the PIN.
+import {KeptDatabase} from "./kept-database.js";
 import {sum} from "./money.js";
 import {say, sayCount, showMoment, showMoney} from "./words.js";
 
-const NAME = "microloan-kept";
-const STORES = ["pin", "rounds"];
-const STRICT = {durability: "strict"};  // it is on the disk before it counts as kept
 const ONLY = "only";
-
-let opening = null;
-
-// The next use opens it anew.
-function forgetOpening() {
-    opening = null;
-}
-
-function database() {
-    opening ??= new Promise((done, refuse) => {
-        const asked = indexedDB.open(NAME, 1);
-        asked.onupgradeneeded = () => STORES.forEach((name) => asked.result.createObjectStore(name));
-        asked.onsuccess = () => {
-            asked.result.onclose = forgetOpening;  // the browser ended it, as where the disk is full
-            done(asked.result);
-        };
-        asked.onerror = () => refuse(asked.error);
-    });
-    opening.catch(forgetOpening);
-    return opening;
-}
-
-// work: is handed the stores by name, and answers a request. Answers what that came to, once all of it stands.
-async function within(mode, work) {
-    const transaction = (await database()).transaction(STORES, mode, STRICT);
-    const stores = Object.fromEntries(STORES.map((name) => [name, transaction.objectStore(name)]));
-    const asked = work(stores);
-    return new Promise((done, refuse) => {
-        transaction.oncomplete = () => done(asked.result);
-        transaction.onabort = () => refuse(transaction.error ?? new Error("not kept"));
-    });
-}
+const database = new KeptDatabase("microloan-kept", ["pin", "rounds"]);
 
 const tellers = new Set();
 const windows = new BroadcastChannel("kept");  // all windows of this browser share what is kept
@@ -51,8 +18,9 @@ export function whenKeptChanges(tell) {
     return () => tellers.delete(tell);
 }
 
-async function changeAndTell(id, work) {
-    await within("readwrite", work);
+// places: of the records that it may change, or null for all
+async function changeAndTell(id, places, work) {
+    await database.change(places, work);
     tellWindows(id);
 }
 
@@ -68,24 +36,24 @@ export function idOf({office, day}) {
 
 // what the PIN is tried by, or undefined where none was chosen
 export function keptPin() {
-    return within("readonly", ({pin}) => pin.get(ONLY));
+    return database.within("readonly", ({pin}) => pin.get(ONLY));
 }
 
 export function keepPin(record) {
-    return changeAndTell("", ({pin}) => pin.add(record, ONLY));
+    return changeAndTell("", [["pin", ONLY]], ({pin}) => pin.add(record, ONLY));
 }
 
 export function keptRounds() {
-    return within("readonly", ({rounds}) => rounds.getAll());
+    return database.within("readonly", ({rounds}) => rounds.getAll());
 }
 
 export function keptRound(id) {
-    return within("readonly", ({rounds}) => rounds.get(id));
+    return database.within("readonly", ({rounds}) => rounds.get(id));
 }
 
 // What was sealed by another PIN than the one that holds by now isn't kept: nobody could open it.
 export function keepRound(record) {
-    return changeAndTell(record.id, ({pin, rounds}) => {
+    return changeAndTell(record.id, [["rounds", record.id]], ({pin, rounds}) => {
         const asked = pin.get(ONLY);
         asked.onsuccess = () =>
             asked.result?.mark === record.sealed.mark ? rounds.put(record, record.id) : asked.transaction.abort();
@@ -95,19 +63,19 @@ export function keepRound(record) {
 
 // another PIN, and all rounds as it seals them: all of it or nothing
 export function keepAnew(record, records) {
-    return changeAndTell("", ({pin, rounds}) => {
+    return changeAndTell("", null, ({pin, rounds}) => {
         records.forEach((one) => rounds.put(one, one.id));
         return pin.put(record, ONLY);
     });
 }
 
 export function dropRound(id) {
-    return changeAndTell(id, ({rounds}) => rounds.delete(id));
+    return changeAndTell(id, [["rounds", id]], ({rounds}) => rounds.delete(id));
 }
 
 // the PIN, and all that it sealed
 export function dropAll() {
-    return changeAndTell("", ({pin, rounds}) => {
+    return changeAndTell("", null, ({pin, rounds}) => {
         rounds.clear();
         return pin.clear();
     });

@@ -143,7 +143,7 @@ function show({round, names, cash, sheet}) {
 
 // The desk has no place for notes of visits: they go to the office on this sheet.
 function noteNodes(notes) {
-    return notes.length > 0 && [element("p", {class: "h6"}, say("cash.notes")), facts(notes)];
+    return notes.length > 0 && [element("p", {class: "h6 mt-3"}, say("cash.notes")), facts(notes)];
 }
 
 function gapWords(gap) {
