@@ -4,15 +4,18 @@
 const CACHE = "kept";
 const STRICT = {durability: "strict"};  // it is on the disk before it counts as kept
 
-// A browser that has no such store, or an address that isn't safe, keeps no copies.
+// An address that isn't safe has no such store: there no copies are kept.
 function hasCopies() {
     return globalThis.caches !== undefined && navigator.locks !== undefined;
 }
 
 // whether there is a database of this name that can be read
 async function isThere(name) {
-    const list = await indexedDB.databases().catch(() => []);
-    return list.some((one) => one.name === name);
+    try {
+        return (await indexedDB.databases()).some((one) => one.name === name);
+    } catch {
+        return false;
+    }
 }
 
 function isBytes(value) {
@@ -63,11 +66,11 @@ export class KeptDatabase {
         });
     }
 
-    // The same of a change, whose copies stand then too. places: the store and the key of each record that it may change,
-    // or null for all of them.
+    // The same of a change, whose copies stand then too. places: the store and the key of each record that it may
+    // change, or null for all of them.
     async change(places, work) {
         const answer = await this.within("readwrite", work);
-        await this.#copy(places);
+        await this.#renewCopies(places);
         return answer;
     }
 
@@ -83,36 +86,35 @@ export class KeptDatabase {
     }
 
     async #open() {
-        const copies = hasCopies() && !(await isThere(this.name)) ? await this.#copies().catch(() => []) : null;
+        const copies = hasCopies() && !(await isThere(this.name)) ? await this.#readCopies().catch(() => []) : [];
+        let isNew = false;
         const database = await new Promise((done, refuse) => {
             const asked = indexedDB.open(this.name, 1);
             asked.onupgradeneeded = () => {
+                isNew = true;
                 this.stores.forEach((store) => asked.result.createObjectStore(store));
-                const put = ({store, key, record}) => asked.transaction.objectStore(store).put(record, key);
-                copies?.forEach(put);
+                copies.forEach(({store, key, record}) => asked.transaction.objectStore(store).put(record, key));
             };
             asked.onsuccess = () => done(asked.result);
             asked.onerror = () => refuse(asked.error);
         });
         database.onclose = () => this.#forget();  // the browser ended it, as where the disk is full
-        if (copies === null) {
-            setTimeout(() => this.#copy(null));
+        if (!isNew) {
+            setTimeout(() => this.#renewCopies(null));
         }
         return database;
     }
 
     // Brings copies to what the database has by now, whichever window changed it. What is kept counts as kept without a
-    // copy too; one that can't be renewed goes, so that none is older than what it is a copy of.
-    async #copy(places) {
+    // copy too.
+    async #renewCopies(places) {
         if (!hasCopies()) {
             return;
         }
         try {
             await navigator.locks.request(`copies ${this.name}`, async () => {
-                const known = (places ?? await this.#places());
-                const cache = known.length > 0 ? await caches.open(CACHE) : null;
-                for (const [store, key] of known) {
-                    await this.#copyOne(cache, store, key);
+                for (const [store, key] of places ?? await this.#allPlaces()) {
+                    await this.#renewCopy(store, key);
                 }
             });
         } catch (problem) {
@@ -120,40 +122,42 @@ export class KeptDatabase {
         }
     }
 
-    async #copyOne(cache, store, key) {
-        const address = this.#addressOf(store, key);
+    // A copy that can't be renewed goes, so that none is older than what it is a copy of.
+    async #renewCopy(store, key) {
+        const cache = await caches.open(CACHE);
+        const address = `/kept/${[this.name, store, key].map(encodeURIComponent).join("/")}`;
         const record = await this.within("readonly", (stores) => stores[store].get(key));
         const put = () => cache.put(address, new Response(formOf(record)));
         await (record === undefined ? cache.delete(address) : put().catch(() => cache.delete(address)));
     }
 
-    // where records are, or copies of them
-    async #places() {
+    // the store and the key of each record, and of each that there is a copy of
+    async #allPlaces() {
         const keysOf = (store) => this.within("readonly", (stores) => stores[store].getAllKeys());
-        const kept = await Promise.all(this.stores.map(async (store) => (await keysOf(store)).map((key) => [store, key])));
-        const copied = (await caches.has(CACHE)) ? await this.#copied() : [];
-        return [...kept.flat(), ...copied.map(({store, key}) => [store, key])];
+        const placesOf = async (store) => (await keysOf(store)).map((key) => [store, key]);
+        const kept = await Promise.all(this.stores.map(placesOf));
+        return [...kept.flat(), ...(await this.#listCopies()).map(({store, key}) => [store, key])];
     }
 
-    #addressOf(store, key) {
-        return `/kept/${[this.name, store, key].map(encodeURIComponent).join("/")}`;
-    }
-
-    async #copied() {
+    async #listCopies() {
+        if (!(await caches.has(CACHE))) {
+            return [];
+        }
         const requests = await (await caches.open(CACHE)).keys();
-        return requests.map((request) => {
+        const placed = requests.map((request) => {
             const [, , name, store, key] = new URL(request.url).pathname.split("/").map(decodeURIComponent);
             return {name, store, key, request};
-        }).filter(({name}) => name === this.name);
+        });
+        return placed.filter(({name}) => name === this.name);
     }
 
-    async #copies() {
+    // those that can be read
+    async #readCopies() {
         const read = async ({store, key, request}) => {
             const copy = await caches.match(request, {cacheName: CACHE});
             return {store, key, record: await recordOf(await copy.formData())};
         };
-        const found = (await caches.has(CACHE)) ? await this.#copied() : [];
-        const readable = await Promise.allSettled(found.map(read));
-        return readable.filter(({status}) => status === "fulfilled").map(({value}) => value);
+        const copies = await Promise.allSettled((await this.#listCopies()).map(read));
+        return copies.filter(({status}) => status === "fulfilled").map(({value}) => value);
     }
 }
