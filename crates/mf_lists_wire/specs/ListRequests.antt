@@ -1,5 +1,6 @@
 -- What a request asks of the lists.
-use Rattle.std.specs.Prelude.{ℕ, codes, cond, List, Option, Some, None, option_map, option_and_then, Result, Ok, Err}
+use Rattle.std.specs.Prelude.{◌≡◌, ◌<◌, ℕ, true, codes, cond, List, length, Option, Some, None, option_map}
+use Rattle.std.specs.Prelude.{option_and_then, Result, Ok, Err}
 use Rattle.serde_json.specs.Data.{Data}
 use Rattle.mf_base.specs.Digits.{number_of_digits}
 use Rattle.mf_base.specs.declared.fault.Fault.{Fault}
@@ -134,3 +135,9 @@ request_on method body (Some route) = request_by method body route
 -- body say.
 abbrev pub list_request_of : List ℕ → List ℕ → List ℕ → Result ListRequest Fault
 list_request_of method path body = request_on method body (list_route path)
+
+-- Where memory may be wanting to read a request: it looks for clients, by the method of that route, and there is a body
+-- to read from.
+abbrev pub MayLackMemory : List ℕ → List ℕ → List ℕ → Type 0
+MayLackMemory method path body = (params : List ℕ) × (list_route path ≡ Some (Find, params))
+    × (has_method Find method ≡ true) × (0 < length body)

@@ -1,8 +1,8 @@
 //! The body of a request, as JSON.
 
-ghost use Rattle.std.specs.Prelude.{◌≡◌, ◌⊎◌, None, Some, IfOk, IfErr, option_map};
+ghost use Rattle.std.specs.Prelude.{◌≡◌, ◌<◌, ◌⊎◌, None, Some, IfOk, IfErr, length, option_map};
 ghost use Rattle.serde_json.specs.View.{view};
-ghost use Rattle.mf_wire_requests.specs.Bodies.{Gives, json_of, name_at, office_number_at, text_at, whole_at};
+ghost use Rattle.mf_wire_requests.specs.Bodies.{Copies, json_of, name_at, office_number_at, text_at, whole_at};
 
 use mf_base::{Fault, Name};
 use mf_model::is_name;
@@ -10,10 +10,12 @@ use mf_office::OfficeNo;
 use serde_json::Value;
 use std::alloc::Global;
 
-/// The value of a body's text. F1 where it is no JSON.
+/// The value of a body's text. F1 where it is no JSON. An empty body is none, and takes no memory.
 pub fn json(alloc: Global, body: &[u8]) -> Result<Value, Fault>
     ensures ok { IfOk result (λ v. json_of body.now ≡ Some (view v)) }
-    ensures err { IfErr result (λ f. (f ≡ Fault.F20) ⊎ ((f ≡ Fault.F1) × (json_of body.now ≡ None))) }
+    ensures err { IfErr result (λ f. ((f ≡ Fault.F20) × (0 < length body.now))
+        ⊎ ((f ≡ Fault.F1) × (json_of body.now ≡ None))) }
+    ensures some { IfOk result (λ _. 0 < length body.now) }
 {
     match Value::from_slice(alloc, body) {
         Ok(value) => Ok(value),
@@ -50,7 +52,7 @@ pub fn office(body: &Value, member: &str) -> Option<OfficeNo>
 
 /// A member that could be a name.
 pub fn name(alloc: Global, body: &Value, member: &str) -> Result<Name, Fault>
-    ensures { Gives (name_at member.now (view body.now)) result }
+    ensures { Copies (name_at member.now (view body.now)) result }
 {
     let name = text(body, member).ok_or(Fault::F1)?;
     if !is_name(name) {

@@ -1,13 +1,14 @@
 //! What a request asks of the lists, by its method, its path and its body.
 
 ghost use Rattle.std.specs.Prelude.{◌≡◌, ◌≢◌, ◌⊎◌, Ok, Err, IfOk, IfErr, IfSome, option_and_then};
-ghost use Rattle.mf_wire_requests.specs.Bodies.{Gives, json_of};
+ghost use Rattle.serde_json.specs.View.{view};
+ghost use Rattle.mf_wire_requests.specs.Bodies.{Copies, Gives, json_of};
 ghost use Rattle.mf_lists.specs.declared.request.ListRequest.TheVariants.{OfOffice};
 ghost use Rattle.mf_lists.specs.Readings.{IsAskedInDays};
 ghost use Rattle.mf_lists_wire.specs.ListRequests.{clients_request, client_loans_request, due_request, stages_request};
 ghost use Rattle.mf_lists_wire.specs.ListRequests.{staff_request, preview_request, find_request, request_in_path};
 ghost use Rattle.mf_lists_wire.specs.ListRequests.{loan_changes_request, changes_request};
-ghost use Rattle.mf_lists_wire.specs.ListRequests.{list_request_at, list_request_of};
+ghost use Rattle.mf_lists_wire.specs.ListRequests.{list_request_at, list_request_of, MayLackMemory};
 
 use crate::body::{json, name, office};
 use crate::paths::{amount, day, four_parts, number_between, three_parts, two_parts};
@@ -16,6 +17,7 @@ use mf_base::{Fault, parse_digits};
 use mf_catalog::MOST_PERIODS;
 use mf_lists::{ListAsked, ListRequest};
 use mf_office::{Account, AccountNo};
+use serde_json::Value;
 use std::alloc::Global;
 
 /// The greatest place in a journal after which a list of changes goes on.
@@ -114,14 +116,21 @@ fn changes(params: &[u8]) -> Option<ListRequest>
     Some(of_office(office, ListAsked::Changes { after }))
 }
 
+fn find_request(alloc: Global, body: &Value) -> Result<ListRequest, Fault>
+    ensures value { Copies (find_request (view body.now)) result }
+    ensures in_days { IfOk result IsAskedInDays }
+{
+    let office = office(body, "office").ok_or(Fault::F1)?;
+    let part = name(alloc, body, "part")?;
+    Ok(of_office(office.get(), ListAsked::Find { part }))
+}
+
 fn find(alloc: Global, body: &[u8]) -> Result<ListRequest, Fault>
-    ensures value { Gives (option_and_then find_request (json_of body.now)) result }
+    ensures value { Gives body.now (option_and_then find_request (json_of body.now)) result }
     ensures in_days { IfOk result IsAskedInDays }
 {
     let body = json(alloc, body)?;
-    let office = office(&body, "office").ok_or(Fault::F1)?;
-    let part = name(alloc, &body, "part")?;
-    Ok(of_office(office.get(), ListAsked::Find { part }))
+    find_request(alloc, &body)
 }
 
 /// What the parameters of a path ask.
@@ -149,7 +158,8 @@ fn list_request_at(
     params: &[u8],
     body: &[u8],
 ) -> Result<ListRequest, Fault>
-    ensures value { Gives (list_request_at endpoint params.now body.now) result }
+    ensures value { Gives body.now (list_request_at endpoint params.now body.now) result }
+    ensures memory { IfErr result (λ f. f ≡ Fault.F20 → endpoint ≡ ListEndpoint.Find) }
     ensures in_days { IfOk result IsAskedInDays }
 {
     if endpoint == ListEndpoint::Find {
@@ -159,7 +169,8 @@ fn list_request_at(
 }
 
 /// What a method, a path and a body ask of the lists. F5 where the path has no route, then F6 where the route has no
-/// such method, then F1 for the parameters of the path or for the body.
+/// such method, then F1 for the parameters of the path or for the body. F20 only where clients are looked for, by the
+/// method of that route and by a body that isn't empty.
 pub fn read_list_request(
     alloc: Global,
     method: &[u8],
@@ -169,6 +180,7 @@ pub fn read_list_request(
     ensures ok { IfOk result (λ r. list_request_of method.now path.now body.now ≡ Ok r) }
     ensures in_days { IfOk result IsAskedInDays }
     ensures err { IfErr result (λ f. (f ≡ Fault.F20) ⊎ (list_request_of method.now path.now body.now ≡ Err f)) }
+    ensures memory { IfErr result (λ f. f ≡ Fault.F20 → MayLackMemory method.now path.now body.now) }
     ensures refusal { IfErr result (λ f. f ≢ Fault.F19) }
 {
     let Some((endpoint, params)) = list_route(path) else {

@@ -1,7 +1,7 @@
 -- From the desk's answer to the text of a reply.
-use Rattle.std.proofs.Common.{◌≡◌, ℕ, nat_le, Bool, true, false, cond, List, Option, Some, None, Result, Err, refl, sym}
-use Rattle.std.proofs.Common.{ap, ◌∙◌, subst}
-use Rattle.std.specs.Prelude.{◌&&◌, is_some, length, [], option_map, option_and_then, unwrap_or}
+use Rattle.std.proofs.Common.{◌≡◌, ℕ, nat_le, Bool, true, false, cond, List, ◌∷◌, Option, Some, None, Result, Ok, Err}
+use Rattle.std.proofs.Common.{refl, sym, ap, ◌∙◌, subst}
+use Rattle.std.specs.Prelude.{◌&&◌, is_some, length, [], option_map, option_and_then, unwrap_or, IsErr}
 use Rattle.mf_base.specs.declared.fault.Fault.{Fault}
 use Rattle.mf_model.specs.Calls.{Call, Received}
 use Rattle.mf_model.specs.declared.request.Request.{Request}
@@ -9,12 +9,12 @@ use Rattle.mf_model.specs.declared.request.Request.TheVariants.{Unreadable}
 use Rattle.mf_model.specs.declared.request.Flaw.{Flaw}
 use Rattle.mf_model.specs.declared.request.Flaw.TheVariants.{Malformed}
 use Rattle.mf_model.specs.declared.reply.Reply.{Reply}
-use Rattle.mf_model.specs.Institution.{Institution, after_line}
+use Rattle.mf_model.specs.Institution.{Institution, Change, after_line, after_noted}
 use Rattle.mf_model.specs.Run.{noted_of}
 use Rattle.mf_model.specs.Desk.{Outcome, flaw_fault, outcome, reply, reply_in, change_in}
 use Rattle.mf_model.specs.Store.{left_by}
 use Rattle.mf_model.specs.declared.store.InstitutionStore.{Ghosts}
-use Rattle.mf_desk.specs.Answers.{Tells}
+use Rattle.mf_desk.specs.Answers.{Tells, Changes}
 use Rattle.mf_model.specs.Unseen.{call_from}
 pub use Rattle.mf_desk.proofs.Calling.{told_of_answer, told_given_up}
 use Rattle.mf_office.specs.Texts.{caller_of}
@@ -49,6 +49,24 @@ module _ {S : Type 0} (store : Ghosts S) where
           },
         );
       }
+
+  -- a call that is refused before anything is looked up changes nothing
+  pub refused_at_once : {T : Type 0} (call : Call) (s : S) (result : Result T Fault)
+      → ((s : S) (i : Institution) (is : List Institution) → store.leaves s is → store.leaves s (i ∷ is))
+      → IsErr result → Changes store {T = T} call s s result
+  refused_at_once call s (Ok t) more e = absurd (cc)
+  refused_at_once call s (Err fault) more e = record {
+    premise = λ k. k;
+    made = λ k i h. tt;
+    same = λ k i h. h;
+    stop = λ k i is h l. tt;
+    stop_refused = λ k i is h l. either (change_in (outcome call i)) i is l;
+  }
+    where
+      either : (c : Option Change) (i : Institution) (is : List Institution) → store.leaves s is
+          → store.leaves s (left_by (noted_of call i) c true i is)
+      either None i is l = l
+      either (Some change) i is l = more s (after_noted (noted_of call i) change i) is l
 
   -- what is told of the replies to a call in other words
   pub calls_weaker : (told other : Result Reply Fault → Type 0) (call : Call) (old new : S)

@@ -1,9 +1,9 @@
 -- What a request asks, step by step.
 use Rattle.std.proofs.Common.{◌≡◌, ◌⊎◌, inl, inr, ℕ, Bool, true, false, cond, List, [], Option, Some, None, Result, Ok}
 use Rattle.std.proofs.Common.{Err, sym, ap, ◌∙◌, subst}
-use Rattle.std.specs.Prelude.{IfOk, IfErr}
+use Rattle.std.specs.Prelude.{◌<◌, IfOk, IfErr, length}
 use Rattle.mf_base.specs.declared.fault.Fault.{Fault}
-use Rattle.mf_base.specs.declared.fault.Fault.TheVariants.{F20}
+use Rattle.mf_base.specs.declared.fault.Fault.TheVariants.{F1, F20}
 use Rattle.mf_model.specs.declared.request.Request.{Request}
 use Rattle.mf_model.specs.declared.request.Request.TheVariants.{Unreadable}
 use Rattle.mf_model.specs.declared.request.Flaw.{Flaw}
@@ -25,7 +25,7 @@ use Rattle.mf_wire_requests.specs.PathParts.{PathParts, parts_of_params}
 use Rattle.mf_wire_requests.specs.Routes.{desk_routes, matched_route, route_at, parts_on}
 use Rattle.mf_wire_requests.specs.Bodies.{Gives}
 use Rattle.mf_wire_requests.specs.Requests.{method_of, endpoint_of, or_malformed, asked_at, asked_on, request_at}
-use Rattle.mf_wire_requests.specs.Requests.{request_of}
+use Rattle.mf_wire_requests.specs.Requests.{request_of, has_members, MayLackMemory}
 use Rattle.mf_wire_requests.proofs.Matched.{ascii_bytes, walk_text, desk_text}
 
 pub no_route : (method path body : List ℕ) → None ≡ route_at path → request_of method path body ≡ Unreadable NoRoute
@@ -78,19 +78,42 @@ parts_text m path a e r =
 abbrev pub IsFlawOf : Request → Fault → Type 0
 IsFlawOf a f = (f ≡ F20) ⊎ ((flaw : Flaw) × (f ≡ flaw_fault flaw) × (a ≡ Unreadable flaw))
 
-pub gives_ok : (there : Option Request) (r : Result Request Fault) (a : Request) → a ≡ or_malformed there
-    → Gives there r → IfOk r (λ x. a ≡ x)
-gives_ok there (Ok x) a e h = e ∙ ap or_malformed h
-gives_ok there (Err f) a e h = tt
+pub gives_ok : (body : List ℕ) (there : Option Request) (r : Result Request Fault) (a : Request)
+    → a ≡ or_malformed there → Gives body there r → IfOk r (λ x. a ≡ x)
+gives_ok body there (Ok x) a e h = e ∙ ap or_malformed h
+gives_ok body there (Err f) a e h = tt
 
-refused : (there : Option Request) (f : Fault) (a : Request) → a ≡ or_malformed there
-    → Gives {A = Request} there (Err f) → IsFlawOf a f
-refused there f a e h = elim h [
-  | inl g ↦ inl g
+refused : (body : List ℕ) (there : Option Request) (f : Fault) (a : Request) → a ≡ or_malformed there
+    → Gives {A = Request} body there (Err f) → IsFlawOf a f
+refused body there f a e h = elim h [
+  | inl g ↦ inl g.0
   | inr g ↦ inr (Malformed, g.0, e ∙ ap or_malformed g.1)
 ]
 
-pub gives_err : (there : Option Request) (r : Result Request Fault) (a : Request) → a ≡ or_malformed there
-    → Gives there r → IfErr r (IsFlawOf a)
-gives_err there (Ok x) a e h = tt
-gives_err there (Err f) a e h = refused there f a e h
+pub gives_err : (body : List ℕ) (there : Option Request) (r : Result Request Fault) (a : Request)
+    → a ≡ or_malformed there → Gives body there r → IfErr r (IsFlawOf a)
+gives_err body there (Ok x) a e h = tt
+gives_err body there (Err f) a e h = refused body there f a e h
+
+-- where memory was wanting, a body that isn't empty was read
+lacked : (body : List ℕ) (there : Option Request) (f : Fault) → Gives {A = Request} body there (Err f) → f ≡ F20
+    → 0 < length body
+lacked body there f h is = elim h [
+  | inl g ↦ g.1
+  | inr g ↦ let same : F1 ≡ F20 = sym g.0 ∙ is in absurd (cc)
+]
+
+pub may_lack : (method path body : List ℕ) (route : RouteOf Methods) (named : Method) (endpoint : Endpoint)
+    (there : Option Request) (r : Result Request Fault) → Some route ≡ route_at path → named ≡ method_of method
+    → Some endpoint ≡ endpoint_of route.value named → Gives body there r
+    → IfErr r (λ f. f ≡ F20 → has_members endpoint ≡ true)
+    → IfErr r (λ f. f ≡ F20 → MayLackMemory method path body)
+may_lack method path body route named endpoint there (Ok x) e m d g h = tt
+may_lack method path body route named endpoint there (Err f) e m d g h = λ is. record {
+  route = route;
+  on_route = sym e;
+  endpoint = endpoint;
+  asked = sym (d ∙ ap (endpoint_of route.value) m);
+  members = h is;
+  some = lacked body there f g is;
+}

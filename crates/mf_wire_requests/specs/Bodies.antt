@@ -1,6 +1,6 @@
 -- What a body says, as JSON.
-use Rattle.std.specs.Prelude.{◌≡◌, ◌⊎◌, ℕ, ◌+◌, Bool, ◌&&◌, cond, List, length, nat_le, Option, Some, None, is_some}
-use Rattle.std.specs.Prelude.{option_map, option_and_then, Result, MatchResult}
+use Rattle.std.specs.Prelude.{◌≡◌, ◌⊎◌, ℕ, ◌+◌, ◌<◌, Bool, true, ◌&&◌, cond, List, length, nat_le, Option, Some}
+use Rattle.std.specs.Prelude.{None, is_some, option_map, option_and_then, Result, MatchResult}
 use Rattle.std.specs.List.{list_all, find, range_with_len}
 use Rattle.std.specs.Str.{is_utf8, chars, bytes_eq}
 use Rattle.serde_json.specs.Data.{Data}
@@ -89,6 +89,27 @@ day_named text = day_among (last_entered_day + 1) text
 abbrev pub day_at : List ℕ → Data → Option ℕ
 day_at name d = option_and_then day_named (text_at name d)
 
--- a call that reads gives what is there, or F1 where nothing is, or gives up with F20
-abbrev pub Gives : {A : Type 0} → Option A → Result A Fault → Type 0
-Gives there result = MatchResult result (λ r. there ≡ Some r) (λ f. (f ≡ F20) ⊎ ((f ≡ F1) × (there ≡ None)))
+-- a call that reads gives what is there, or F1 where nothing is, or gives up with F20 where this holds
+abbrev pub GivesOrLacks : {A : Type 0} → Type 0 → Option A → Result A Fault → Type 0
+GivesOrLacks lacks there result =
+    MatchResult result (λ r. there ≡ Some r) (λ f. ((f ≡ F20) × lacks) ⊎ ((f ≡ F1) × (there ≡ None)))
+
+-- numbers and accounts are read without memory: never F20
+abbrev pub Reads : {A : Type 0} → Option A → Result A Fault → Type 0
+Reads there result = GivesOrLacks ⊥ there result
+
+-- a text is copied, or what has one: F20 only in place of what is there
+abbrev pub Copies : {A : Type 0} → Option A → Result A Fault → Type 0
+Copies there result = GivesOrLacks (is_some there ≡ true) there result
+
+-- a text that may be absent is copied where there is one
+abbrev pub has_text : {A : Type 0} → Option (Option A) → Bool
+has_text there = is_some (option_and_then (λ text. text) there)
+
+-- F20 only in place of a text
+abbrev pub CopiesText : {A : Type 0} → Option (Option A) → Result (Option A) Fault → Type 0
+CopiesText there result = GivesOrLacks (has_text there ≡ true) there result
+
+-- the bytes of a body are read as JSON: F20 only where there are some
+abbrev pub Gives : {A : Type 0} → List ℕ → Option A → Result A Fault → Type 0
+Gives body there result = GivesOrLacks (0 < length body) there result

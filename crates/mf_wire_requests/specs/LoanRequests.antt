@@ -1,5 +1,5 @@
 -- What requests on loans ask.
-use Rattle.std.specs.Prelude.{ℕ, List, codes, Option, Some, option_map, option_and_then}
+use Rattle.std.specs.Prelude.{ℕ, Bool, true, false, List, codes, Option, Some, option_map, option_and_then}
 use Rattle.serde_json.specs.Data.{Data}
 use Rattle.mf_catalog.specs.Limits.{greatest_amount, most_periods}
 use Rattle.mf_model.specs.declared.request.OfficeRequest.TheVariants.{SubmitLoan, ListLoans}
@@ -79,6 +79,21 @@ waiver_request d =
 -- a reversal, by the number of an entry, or 0, that the path names
 abbrev pub reversal_request : PathParts → Option LoanRequest
 reversal_request parts = option_map (λ entry. Reverse entry) (number_in (codes "entry") parts)
+
+-- what is asked of a loan has members, which stand in the body
+abbrev pub loan_has_members : LoanEndpoint → Bool
+loan_has_members endpoint.Show = false
+loan_has_members endpoint.ShowInstalments = false
+loan_has_members endpoint.ShowEntries = false
+loan_has_members (endpoint.Step step) = false
+loan_has_members endpoint.Disburse = true
+loan_has_members endpoint.Repay = true
+loan_has_members endpoint.ChargeFee = true
+loan_has_members endpoint.ChargePenalty = true
+loan_has_members endpoint.Waive = true
+loan_has_members endpoint.WriteOff = false
+loan_has_members endpoint.Refund = false
+loan_has_members endpoint.Reverse = false
 
 -- what is asked of a loan, by the members of the body where it has some, or by the path
 abbrev pub loan_request : LoanEndpoint → PathParts → List ℕ → Option LoanRequest

@@ -1,6 +1,6 @@
 -- What a request asks.
-use Rattle.std.specs.Prelude.{ℕ, Bool, false, ◌&&◌, cond, List, codes, is_some, nat_le, length, Option, Some, None}
-use Rattle.std.specs.Prelude.{option_map, option_and_then}
+use Rattle.std.specs.Prelude.{◌≡◌, ◌<◌, ℕ, Bool, true, false, ◌&&◌, cond, List, codes, is_some, nat_le, length, Option}
+use Rattle.std.specs.Prelude.{Some, None, option_map, option_and_then}
 use Rattle.std.specs.Str.{bytes_eq}
 use Rattle.mf_office.specs.Texts.{caller_of}
 use Rattle.mf_model.specs.declared.request.CatalogueRequest.TheVariants as catalogue
@@ -28,7 +28,7 @@ use Rattle.mf_wire_requests.specs.OfficeRequests.{new_office_request, new_staff_
 use Rattle.mf_wire_requests.specs.OfficeRequests.{client_request}
 use Rattle.mf_wire_requests.specs.CatalogueRequests.{day_request, new_charge_request}
 use Rattle.mf_wire_requests.specs.ProductRequests.{new_product_request}
-use Rattle.mf_wire_requests.specs.LoanRequests.{new_loan_request, loans_request, request_on_loan}
+use Rattle.mf_wire_requests.specs.LoanRequests.{new_loan_request, loans_request, loan_has_members, request_on_loan}
 
 -- a method by its text, which is in capitals
 abbrev pub method_of : List ℕ → Method
@@ -44,6 +44,25 @@ endpoint_of (GetAndPost get post) method.Post = Some post
 endpoint_of (GetAndPut get put) method.Get = Some get
 endpoint_of (GetAndPut get put) method.Put = Some put
 endpoint_of _ _ = None
+
+-- what an endpoint asks has members, which stand in the body
+abbrev pub has_members : Endpoint → Bool
+has_members ShowDay = false
+has_members SetDay = true
+has_members AddCharge = true
+has_members ShowCharge = false
+has_members AddProduct = true
+has_members ShowProduct = false
+has_members RetireProduct = false
+has_members ListOffices = false
+has_members AddOffice = true
+has_members AddStaff = true
+has_members AddClient = true
+has_members ShowClient = false
+has_members SubmitLoan = true
+has_members ListLoans = false
+has_members ShowArrears = false
+has_members (OnLoan endpoint) = loan_has_members endpoint
 
 -- what an endpoint asks, by the parameters of the path and the members of the body
 abbrev pub request_at : Endpoint → PathParts → List ℕ → Option Request
@@ -87,6 +106,16 @@ asked_on (Some route) method path body =
 -- members.
 unfoldable pub request_of : List ℕ → List ℕ → List ℕ → Request
 request_of method path body = asked_on (route_at path) method path body
+
+-- Where memory may be wanting to read a request: its route has the method, what that asks has members, and there is a
+-- body to read them from. It takes memory to read the body as JSON, and to copy the texts in it.
+pub record MayLackMemory (method path body : List ℕ) : Type 0 where
+  pub route : RouteOf Methods
+  pub on_route : route_at path ≡ Some route
+  pub endpoint : Endpoint
+  pub asked : endpoint_of route.value (method_of method) ≡ Some endpoint
+  pub members : has_members endpoint ≡ true
+  pub some : 0 < length body
 
 -- the same of a caller's text, which is looked at first, as the method is
 abbrev pub asked_by : List ℕ → List ℕ → List ℕ → List ℕ → Request

@@ -1,12 +1,11 @@
 //! A request's body, as JSON.
 
-ghost use Rattle.std.specs.Prelude.{◌≡◌, ◌≤◌, Some, None, option_map, option_and_then, IfOk, IfErr, IfSome, IsTrue};
-ghost use Rattle.std.specs.Prelude.{◌⊎◌};
+ghost use Rattle.std.specs.Prelude.{◌≡◌, ◌≤◌, ◌<◌, ◌⊎◌, Some, None, IfOk, IfErr, IfSome, length, option_map};
 ghost use Rattle.serde_json.specs.View.{view};
 ghost use Rattle.mf_wire_requests.specs.Bodies.{json_of, whole_at, text_at, name_at, office_number_at};
 ghost use Rattle.mf_wire_requests.specs.Bodies.{within, number_at, present_at, optional_receipt_at};
 ghost use Rattle.mf_wire_requests.specs.Bodies.{optional_number_at, account_number_at, day_named, day_at};
-ghost use Rattle.mf_wire_requests.specs.Bodies.{Gives};
+ghost use Rattle.mf_wire_requests.specs.Bodies.{Copies, CopiesText};
 ghost use Rattle.mf_wire_requests.specs.Named.{choice_at};
 ghost use Rattle.mf_model.specs.Sound.{IsName};
 ghost use Rattle.mf_office.specs.Texts.{IsAccount};
@@ -23,10 +22,12 @@ use std::alloc::Global;
 /// The greatest number of a charge, a product or an instalment that a body may name: it has nine digits, as in paths.
 pub const GREATEST_NUMBER: u32 = 999_999_999;
 
-/// The value of a body's text. `F1` where it is no JSON.
+/// The value of a body's text. `F1` where it is no JSON. An empty body is none, and takes no memory.
 pub fn json(alloc: Global, body: &[u8]) -> Result<Value, Fault>
     ensures ok { IfOk result (λ v. json_of body.now ≡ Some (view v)) }
-    ensures err { IfErr result (λ f. (f ≡ Fault.F20) ⊎ ((f ≡ Fault.F1) × (json_of body.now ≡ None))) }
+    ensures err { IfErr result (λ f. ((f ≡ Fault.F20) × (0 < length body.now))
+        ⊎ ((f ≡ Fault.F1) × (json_of body.now ≡ None))) }
+    ensures some { IfOk result (λ _. 0 < length body.now) }
 {
     match Value::from_slice(alloc, body) {
         Ok(value) => Ok(value),
@@ -58,7 +59,7 @@ pub fn choice<C: Choice>(body: &Value, member: &str) -> Option<C>
 
 /// A member that is a name.
 pub fn name(alloc: Global, body: &Value, member: &str) -> Result<Name, Fault>
-    ensures value { Gives (name_at member.now (view body.now)) result }
+    ensures value { Copies (name_at member.now (view body.now)) result }
     ensures in_range { IfOk result IsName }
 {
     let name = text(body, member).ok_or(Fault::F1)?;
@@ -133,7 +134,7 @@ pub fn optional_number(body: &Value, member: &str, greatest: u32) -> Option<Opti
 
 /// A member that may be absent or null, and else is a receipt. `F1` is for any other member.
 pub fn receipt(alloc: Global, body: &Value, member: &str) -> Result<Option<Receipt>, Fault>
-    ensures value { Gives (optional_receipt_at member.now (view body.now)) result }
+    ensures value { CopiesText (optional_receipt_at member.now (view body.now)) result }
     ensures in_range { IfOk result (λ receipt. IfSome receipt IsReceipt) }
 {
     let Some(value) = present(body, member) else {

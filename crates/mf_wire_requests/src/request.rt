@@ -1,6 +1,6 @@
 //! What a request asks, by its method, its path and its body.
 
-ghost use Rattle.std.specs.Prelude.{◌≡◌, ◌≢◌, ◌⊎◌, IfOk, IfErr};
+ghost use Rattle.std.specs.Prelude.{◌≡◌, ◌≢◌, ◌⊎◌, true, IfOk, IfErr};
 ghost use Rattle.std.specs.Char.{is_ascii};
 ghost use Rattle.std.specs.List.{list_all};
 ghost use Rattle.matchit.specs.Params.{AllText};
@@ -10,7 +10,8 @@ ghost use Rattle.mf_model.specs.Desk.{flaw_fault};
 ghost use Rattle.mf_model.specs.Sound.{IsInRange};
 ghost use Rattle.mf_wire_requests.specs.Bodies.{Gives};
 ghost use Rattle.mf_wire_requests.specs.PathParts.{parts_of_params};
-ghost use Rattle.mf_wire_requests.specs.Requests.{method_of, endpoint_of, request_at, request_of};
+ghost use Rattle.mf_wire_requests.specs.Requests.{method_of, endpoint_of, has_members, request_at, request_of};
+ghost use Rattle.mf_wire_requests.specs.Requests.{MayLackMemory};
 
 mod catalogue;
 mod loans;
@@ -71,7 +72,8 @@ fn request_at(
     body: &[u8],
 ) -> Result<Request, Fault>
     requires { AllText (parts_of_params params.now) }
-    ensures value { Gives (request_at endpoint (parts_of_params params.now) body.now) result }
+    ensures value { Gives body.now (request_at endpoint (parts_of_params params.now) body.now) result }
+    ensures memory { IfErr result (λ f. f ≡ Fault.F20 → has_members endpoint ≡ true) }
     ensures in_range { IfOk result IsInRange }
 {
     match endpoint {
@@ -104,7 +106,8 @@ fn request_at(
 }
 
 /// What a method, a path and a body ask. `F5` where the path has no route, then `F6` where the route has no such
-/// method, then `F1` for the parameters of the path and for the body.
+/// method, then `F1` for the parameters of the path and for the body. `F20` only where a body that isn't empty is read:
+/// its text as JSON, and then what is copied of it, a name or a receipt.
 pub fn read_request(
     alloc: Global,
     routes: &Routes,
@@ -116,6 +119,7 @@ pub fn read_request(
     ensures in_range { IfOk result IsInRange }
     ensures err { IfErr result (λ f. (f ≡ Fault.F20) ⊎ ((flaw : Flaw) × (f ≡ flaw_fault flaw)
         × (request_of method.now path.now body.now ≡ Unreadable flaw))) }
+    ensures memory { IfErr result (λ f. f ≡ Fault.F20 → MayLackMemory method.now path.now body.now) }
     ensures refusal { IfErr result (λ f. f ≢ Fault.F19) }
 {
     let Some(found) = routes.find(path) else {

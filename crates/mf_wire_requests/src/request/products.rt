@@ -3,7 +3,7 @@
 ghost use Rattle.std.specs.Prelude.{◌≡◌, option_and_then, IfOk, IfSome};
 ghost use Rattle.serde_json.specs.View.{view};
 ghost use Rattle.mf_model.specs.Sound.{IsInRange, IsName, AreMembers};
-ghost use Rattle.mf_wire_requests.specs.Bodies.{json_of, Gives};
+ghost use Rattle.mf_wire_requests.specs.Bodies.{json_of, Copies, Gives};
 ghost use Rattle.mf_wire_requests.specs.ProductRequests.{step_at, planning_at, bounds_at, optional_charge_at};
 ghost use Rattle.mf_wire_requests.specs.ProductRequests.{charged_at};
 ghost use Rattle.mf_wire_requests.specs.ProductRequests.{members_of, new_product_request};
@@ -146,15 +146,22 @@ fn members_of(name: Name, planning: Planning, bounds: Bounds, charged: Charged) 
     }
 }
 
+fn new_product_request(alloc: Global, body: &Value) -> Result<Request, Fault>
+    ensures value { Copies (new_product_request (view body.now)) result }
+    ensures in_range { IfOk result IsInRange }
+{
+    let planning = read_planning(body).ok_or(Fault::F1)?;
+    let bounds = read_bounds(body).ok_or(Fault::F1)?;
+    let charged = read_charged(body).ok_or(Fault::F1)?;
+    let name = name(alloc, body, "name")?;
+    let members = members_of(name, planning, bounds, charged);
+    Ok(Request::Catalogue(CatalogueRequest::AddProduct { members }))
+}
+
 pub fn new_product(alloc: Global, body: &[u8]) -> Result<Request, Fault>
-    ensures value { Gives (option_and_then new_product_request (json_of body.now)) result }
+    ensures value { Gives body.now (option_and_then new_product_request (json_of body.now)) result }
     ensures in_range { IfOk result IsInRange }
 {
     let body = json(alloc, body)?;
-    let planning = read_planning(&body).ok_or(Fault::F1)?;
-    let bounds = read_bounds(&body).ok_or(Fault::F1)?;
-    let charged = read_charged(&body).ok_or(Fault::F1)?;
-    let name = name(alloc, &body, "name")?;
-    let members = members_of(name, planning, bounds, charged);
-    Ok(Request::Catalogue(CatalogueRequest::AddProduct { members }))
+    new_product_request(alloc, &body)
 }

@@ -1,8 +1,11 @@
-use Rattle.std.proofs.Common.{◌≡◌, ℕ, List, Bool, true, false, cond, None, refl, inr, ◌∙◌, ap, rules}
-use Rattle.std.specs.Prelude.{IsUtf8}
+use Rattle.std.proofs.Common.{◌≡◌, ◌<◌, ℕ, List, [], ◌∷◌, Bool, true, false, cond, Some, None, refl, inr, ◌∙◌, sym, ap}
+use Rattle.std.proofs.Common.{arith, rules}
+use Rattle.std.specs.Prelude.{IsUtf8, length}
 use Rattle.std.specs.Str.{is_utf8}
 use Rattle.std.proofs.lemmas.Str.{IsUtf8-from_is_utf8, is_utf8-from_IsUtf8}
+use Rattle.serde_json.specs.Data.{Data}
 use Rattle.serde_json.specs.Read.{read}
+use Rattle.serde_json.proofs.OnLiterals.{serde_json_on_literals}
 use Rattle.mf_wire_requests.specs.Bodies.{json_of}
 use Rattle.mf_lists_wire.proofs.body.json.Goals as goal
 
@@ -22,3 +25,14 @@ returns-in-Ok-clause-ok c =
 pub returns-in-Err-2-clause-err : goal.returns-in-Err-2-clause-err
 returns-in-Err-2-clause-err c = let none : IsUtf8 c.args.body.now → read c.args.body.now ≡ None =
     search rules in inr (refl, no_json c.args.body.now none)
+
+nothing : read [] ≡ None
+unfolding serde_json_on_literals
+nothing = refl
+
+some_bytes : (bytes : List ℕ) (value : Data) → read bytes ≡ Some value → 0 < length bytes
+some_bytes [] value h = let none : Some value ≡ None = sym h ∙ nothing in absurd (cc)
+some_bytes (b ∷ bs) value h = omega arith
+
+pub returns-in-Ok-clause-some : goal.returns-in-Ok-clause-some
+returns-in-Ok-clause-some c = some_bytes c.args.body.now _ c.in-Ok.ensures.ok.1

@@ -4,7 +4,7 @@ use Rattle.mf_wire_requests.specs.PathParts.{parts_of_params}
 use Rattle.mf_wire_requests.specs.Routes.{matched_route}
 use Rattle.mf_wire_requests.specs.Requests.{request_at}
 use Rattle.mf_wire_requests.proofs.Asking.{no_route, on_route, on_endpoint, no_parts, all_parts, parts_text, gives_ok}
-use Rattle.mf_wire_requests.proofs.Asking.{gives_err}
+use Rattle.mf_wire_requests.proofs.Asking.{gives_err, may_lack}
 use Rattle.mf_wire_requests.proofs.request.read_request.Goals as goal
 
 pub returns-in_default-clause-err : goal.returns-in_default-clause-err
@@ -27,7 +27,7 @@ returns-in_default-endpoint_of-clause-err c =
 
 pub returns-then-not-is_ascii_path-clause-ok : goal.returns-then-not-is_ascii_path-clause-ok
 returns-then-not-is_ascii_path-clause-ok c =
-    gives_ok (request_at c.in-Some-endpoint_of.endpoint (parts_of_params c.new.result) c.args.body.now)
+    gives_ok c.args.body.now (request_at c.in-Some-endpoint_of.endpoint (parts_of_params c.new.result) c.args.body.now)
     c.request_at.result _
     (on_endpoint c.args.method.now c.args.path.now c.args.body.now (matched_route c.in-Some.found) c.method_of.result
     c.in-Some-endpoint_of.endpoint (parts_of_params c.new.result) c.in-Some.ensures.route c.method_of.ensures
@@ -37,7 +37,7 @@ returns-then-not-is_ascii_path-clause-ok c =
 
 pub returns-then-not-is_ascii_path-clause-err : goal.returns-then-not-is_ascii_path-clause-err
 returns-then-not-is_ascii_path-clause-err c =
-    gives_err (request_at c.in-Some-endpoint_of.endpoint (parts_of_params c.new.result) c.args.body.now)
+    gives_err c.args.body.now (request_at c.in-Some-endpoint_of.endpoint (parts_of_params c.new.result) c.args.body.now)
     c.request_at.result _
     (on_endpoint c.args.method.now c.args.path.now c.args.body.now (matched_route c.in-Some.found) c.method_of.result
     c.in-Some-endpoint_of.endpoint (parts_of_params c.new.result) c.in-Some.ensures.route c.method_of.ensures
@@ -51,7 +51,7 @@ request_at-requires-2 c = parts_text c.in-Some.found c.args.path.now (sym c.is_a
 
 pub returns-clause-ok : goal.returns-clause-ok
 returns-clause-ok c =
-    gives_ok (request_at c.in-Some-endpoint_of.endpoint (parts_of_params c.in-Some.found.params) c.args.body.now)
+    gives_ok c.args.body.now (request_at c.in-Some-endpoint_of.endpoint (parts_of_params c.in-Some.found.params) c.args.body.now)
     c.request_at-2.result _
     (on_endpoint c.args.method.now c.args.path.now c.args.body.now (matched_route c.in-Some.found) c.method_of.result
     c.in-Some-endpoint_of.endpoint (parts_of_params c.in-Some.found.params) c.in-Some.ensures.route
@@ -61,10 +61,26 @@ returns-clause-ok c =
 
 pub returns-clause-err : goal.returns-clause-err
 returns-clause-err c =
-    gives_err (request_at c.in-Some-endpoint_of.endpoint (parts_of_params c.in-Some.found.params) c.args.body.now)
+    gives_err c.args.body.now (request_at c.in-Some-endpoint_of.endpoint (parts_of_params c.in-Some.found.params) c.args.body.now)
     c.request_at-2.result _
     (on_endpoint c.args.method.now c.args.path.now c.args.body.now (matched_route c.in-Some.found) c.method_of.result
     c.in-Some-endpoint_of.endpoint (parts_of_params c.in-Some.found.params) c.in-Some.ensures.route
     c.method_of.ensures c.in-Some-endpoint_of.ensures
     (all_parts c.in-Some.found c.args.path.now (sym c.is_ascii_path.ensures ∙ c.if-not-is_ascii_path.false)
     c.in-Some.ensures.path)) c.request_at-2.ensures.value
+
+pub returns-then-not-is_ascii_path-clause-memory : goal.returns-then-not-is_ascii_path-clause-memory
+returns-then-not-is_ascii_path-clause-memory c =
+    may_lack c.args.method.now c.args.path.now c.args.body.now (matched_route c.in-Some.found) c.method_of.result
+    c.in-Some-endpoint_of.endpoint
+    (request_at c.in-Some-endpoint_of.endpoint (parts_of_params c.new.result) c.args.body.now) c.request_at.result
+    c.in-Some.ensures.route c.method_of.ensures c.in-Some-endpoint_of.ensures c.request_at.ensures.value
+    c.request_at.ensures.memory
+
+pub returns-clause-memory : goal.returns-clause-memory
+returns-clause-memory c =
+    may_lack c.args.method.now c.args.path.now c.args.body.now (matched_route c.in-Some.found) c.method_of.result
+    c.in-Some-endpoint_of.endpoint
+    (request_at c.in-Some-endpoint_of.endpoint (parts_of_params c.in-Some.found.params) c.args.body.now)
+    c.request_at-2.result c.in-Some.ensures.route c.method_of.ensures c.in-Some-endpoint_of.ensures
+    c.request_at-2.ensures.value c.request_at-2.ensures.memory
