@@ -1603,7 +1603,7 @@ class Versions(Case):
             zoe.take_along()
             zoe.type(1, "100")
             zoe.wait(lambda: zoe.bar().startswith("1 not sent"), "it")
-            names = "return caches.keys()"
+            names = "return (await caches.keys()).filter((name) => name.startsWith('/files/'))"
             (first,) = zoe.module(names)
             for version in (2, 3):
                 with self.subTest(version):
@@ -1625,6 +1625,7 @@ class Versions(Case):
                     zoe.open_kept()
             self.assertEqual(len(zoe.module(names)), 2)
             self.assertNotIn(first, zoe.module(names))
+            self.assertIn("microloan-kept/rounds/2 2024-03-31", zoe.module(COPIES), "no version drops the copies")
             zoe.press("Enter 3 repayments")
             zoe.wait(lambda: zoe.bar() == "", "the results")
             self.assertEqual(entered(it, 4), once(10000, 200, 300) + [[]])
