@@ -18,7 +18,7 @@ use mf_store::Store;
 use mf_store_files::close;
 use mf_store_lists::StoreLists;
 use mf_wire_lines::{WatchedReader, WatchedWriter};
-use microloan_commands::{answer_lines, report};
+use microloan_commands::{SocketListener, answer_lines, report};
 use microloan_files::{collect_and_close, run_and_close, serve_and_close};
 use sqlite::{FileStore, Files};
 use sqlite_disk::Disk;
@@ -136,15 +136,14 @@ fn serve_port<D: Disk + Drop>(
     tell_person(rt, format_args!("serving {file} on 127.0.0.1:{port}"));
     let all = StoreLists;
     let lists = all.where_asked(lists);
+    let mut sockets = SocketListener::new(&listener, rt, patience);
     let (ended, closed) = serve_and_close(
         rt.alloc(),
-        rt,
         lists,
         told,
         store,
-        &listener,
+        &mut sockets,
         connections,
-        patience,
     );
     let_go(closed);
     tell_end(rt, &ended)

@@ -2,5 +2,8 @@
 //! They stand apart from the tests that need tables, so that the gate proves both side by side.
 #![tactic(auto)]
 
+mod clients;
 #[cfg(test)]
 mod tests;
+
+pub use clients::{Client, Clients};

@@ -1,1 +1,2 @@
 pub mod ServedLemmas
+mod WorkedTraffic

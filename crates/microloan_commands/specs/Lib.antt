@@ -2,4 +2,6 @@ pub mod Printed
 pub mod Batch
 pub mod Reported
 pub mod Sheets
+pub mod Traffic
 pub mod Served
+pub mod Sockets

@@ -48,8 +48,8 @@ impl Times {
 /// A connection whose reads or writes fail once their time is up, which begins with the first of them. One that a
 /// signal interrupts is made again.
 #[derive(Drop)]
-pub(crate) struct Timed<'a, C: Clock> {
-    stream: &'a TcpStream,
+pub struct Timed<'a, C: Clock> {
+    stream: TcpStream,
     clock: &'a C,
     begun: Option<Instant>,
     times: Times,
@@ -57,13 +57,24 @@ pub(crate) struct Timed<'a, C: Clock> {
 
 impl<'a, C: Clock> Timed<'a, C> {
     /// The connection, whose time has not begun.
-    pub fn new(stream: &'a TcpStream, clock: &'a C, times: Times) -> Timed<'a, C> {
+    pub(crate) fn new(stream: TcpStream, clock: &'a C, times: Times) -> Timed<'a, C> {
         Timed {
             stream,
             clock,
             begun: None,
             times,
         }
+    }
+
+    /// The connection itself.
+    pub(crate) fn into_stream(self) -> TcpStream {
+        let Timed {
+            stream,
+            clock: _,
+            begun: _,
+            times: _,
+        } = self;
+        stream
     }
 
     /// How long the next read or write may wait: not at all once the time is up.
@@ -82,7 +93,7 @@ impl<C: Clock> Read for Timed<'_, C> {
         for _ in 0..u64::MAX {
             let left = self.time_left()?;
             self.stream.set_read_timeout(Some(left))?;
-            let mut stream = self.stream;
+            let mut stream = &self.stream;
             match stream.read(buf) {
                 Err(error) if error.kind() == io::ErrorKind::Interrupted => {}
                 done => return done,
@@ -97,7 +108,7 @@ impl<C: Clock> Write for Timed<'_, C> {
         for _ in 0..u64::MAX {
             let left = self.time_left()?;
             self.stream.set_write_timeout(Some(left))?;
-            let mut stream = self.stream;
+            let mut stream = &self.stream;
             match stream.write(buf) {
                 Err(error) if error.kind() == io::ErrorKind::Interrupted => {}
                 done => return done,
@@ -114,7 +125,7 @@ impl<C: Clock> Write for Timed<'_, C> {
 /// Ends a connection whose response was written. The client is told that nothing more comes, and what it still sends is
 /// read and thrown away until it ends too, for a second at most and 65,536 bytes at most: where bytes are left unread,
 /// the system may drop the response.
-pub(crate) fn end_connection<C: Clock>(clock: &C, stream: &TcpStream) -> io::Result<()> {
+pub(crate) fn end_connection<C: Clock>(clock: &C, stream: TcpStream) -> io::Result<()> {
     stream.shutdown(Shutdown::Write)?;
     let second = Duration::from_secs(1);
     let times = Times {

@@ -5,6 +5,7 @@
 mod batch;
 mod connections;
 mod first;
+mod listening;
 mod printing;
 mod reporting;
 mod serving;
@@ -12,6 +13,7 @@ mod sheets;
 
 pub use batch::answer_lines;
 pub use first::in_memory;
+pub use listening::{Listener, SocketListener};
 pub use printing::schedule;
 pub use reporting::report;
 pub use serving::serve_connections;

@@ -1,5 +1,6 @@
 -- What serving messages over a store of files leaves.
-use Rattle.std.proofs.Common.{◌≡◌, ℕ, Bool, List, [], ◌∷◌, map, Result, Ok, Err, IfOk, IfErr, sym, subst}
+use Rattle.std.proofs.Common.{◌≡◌, ℕ, Bool, List, [], ◌∷◌, map, Option, Result, Ok, Err, IfOk, IfErr, sym, subst}
+use Rattle.std.specs.Prelude.{OnErr}
 use Rattle.mf_base.specs.declared.fault.Cause.TheVariants.{Memory}
 use Rattle.mf_base.specs.declared.fault.StreamFault.{StreamFault}
 use Rattle.mf_model.specs.Institution.{Institution}
@@ -17,6 +18,7 @@ use Rattle.sqlite.specs.Files.{over_files}
 use Rattle.sqlite_disk.specs.declared.Disk.{Ghosts}
 use Rattle.sqlite_store.specs.declared.store.FileStore.{FileStore}
 use Rattle.microloan_commands.specs.Served.{ServesConnections}
+use Rattle.microloan_commands.specs.Traffic.{Traffic}
 use Rattle.microloan_files.specs.Serving.{IsServedRun, ServesSo}
 
 -- a disk that is good in the end was so at the beginning
@@ -46,14 +48,16 @@ abbrev pub IsWithoutMemory : {S : Type 0} → S → S → StreamFault → Type 0
 IsWithoutMemory old new fault = (fault ≡ record { answered = 0; cause = Memory }) × (new ≡ old)
 
 pub served_good_before : {S : Type 0} (store : model.Ghosts S) (choice : Choice) (told : Bool) (connections : ℕ)
-    (old new : S)
-    (result : Result ℕ StreamFault) → IfOk result (ServesConnections store choice told connections old new)
+    (before after : Option (List Traffic)) (old new : S) (result : Result ℕ StreamFault)
+    → IfOk result (ServesConnections store choice told connections before after old new)
     → IfErr result (IsWithoutMemory old new) → store.clean new → store.clean old
-served_good_before store choice told connections old new (Ok count) served none clean =
+served_good_before store choice told connections before after old new (Ok count) served none clean =
     good_before store choice told old served.exchanges new served.answered clean
-served_good_before store choice told connections old new (Err fault) served none clean = subst store.clean none.1 clean
+served_good_before store choice told connections before after old new (Err fault) served none clean =
+    subst store.clean none.1 clean
 
 module _ {D : Type 0} {g : Ghosts D} (choice : Choice) (told : Bool) (i : Institution)
+    (before after : Option (List Traffic))
     (first final : KnownStore (FileStore D g))
     (K : List Line
     → Type 0)
@@ -63,9 +67,10 @@ module _ {D : Type 0} {g : Ghosts D} (choice : Choice) (told : Bool) (i : Instit
   abbrev pub over : model.Ghosts (KnownStore (FileStore D g))
   over = record { stands = StandsFor over_files; clean = stores.IsClean over_files; leaves = Leaves over_files }
 
-  pub serve_so : (connections count : ℕ) (s : ServesConnections over choice told connections first final count)
+  pub serve_so : (connections count : ℕ)
+      (s : ServesConnections over choice told connections before after first final count)
       → ListsServeOn over choice told i s.exchanges first final
-      → (run : List Line) × IsServedRun choice told i connections count run × K run
+      → (run : List Line) × IsServedRun choice told i connections count before after run × K run
   serve_so connections count s o = let w = o.served in (
     w.run,
     record {
@@ -73,6 +78,10 @@ module _ {D : Type 0} {g : Ghosts D} (choice : Choice) (told : Bool) (i : Instit
       to_heads = w.to_heads;
       each = s.each;
       counted = s.counted;
+      traffic = s.traffic;
+      taken = s.taken;
+      ended = s.ended;
+      by_connections = s.by_connections;
       calls = same_lines told o.without w.run w.to_heads s.exchanges o.same_bytes w.calls;
       replied = o.replied;
       views = w.views;
@@ -89,11 +98,11 @@ module _ {D : Type 0} {g : Ghosts D} (choice : Choice) (told : Bool) (i : Instit
       (subst (λ (k : KnownStore (FileStore D g)). Leaves over_files k (i ∷ [])) (sym same) leaves)
 
   pub serves_so : (connections : ℕ) (result : Result ℕ StreamFault)
-      → IfOk result (ServesConnections over choice told connections first final)
-      → IfErr result (IsWithoutMemory first final)
+      → IfOk result (ServesConnections over choice told connections before after first final)
+      → IfErr result (IsWithoutMemory first final) → OnErr result (after ≡ before)
       → ((es : List Exchange) → ListsAnswerAll over choice told first es final
       → ListsServeOn over choice told i es first final)
-      → ServesSo choice told i connections K result
-  serves_so connections (Ok count) served none law =
+      → ServesSo choice told i connections before after K result
+  serves_so connections (Ok count) served none unheard law =
       serve_so connections count served (law served.exchanges served.answered)
-  serves_so connections (Err fault) served none law = (none.0, none_so none.1)
+  serves_so connections (Err fault) served none unheard law = (none.0, unheard, none_so none.1)

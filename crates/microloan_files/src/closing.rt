@@ -1,6 +1,6 @@
 //! Work over a store of files that is closed after it, as the program does it.
 
-ghost use Rattle.std.specs.Prelude.{[], ◌∷◌, is_some};
+ghost use Rattle.std.specs.Prelude.{◌≡◌, [], ◌∷◌, false, is_some};
 ghost use Rattle.mf_folding.specs.Folding.{folded};
 ghost use Rattle.mf_lists_runs.specs.Choice.{choice_if};
 ghost use Rattle.mf_model.specs.Institution.{Institution};
@@ -19,12 +19,10 @@ use mf_store::Store;
 use mf_store_files::close;
 use mf_store_lists::StoreLists;
 use mf_wire_lines::{Sink, Source};
-use microloan_commands::{SheetFault, collect_sheet, serve_connections};
+use microloan_commands::{Listener, SheetFault, collect_sheet, serve_connections};
 use sqlite::{FileStore, Files};
 use sqlite_disk::Disk;
 use std::alloc::Global;
-use std::net::{OpenListener, TcpStream};
-use std::rt::Clock;
 
 /// Answers request lines over a store of files, with its lists or without, as `mf_lists_runs::run` does, and closes it
 /// (`mf_store_files::close`). Whatever a stop
@@ -77,34 +75,24 @@ pub fn collect_and_close<D: Disk + Drop, R: Source, W: Sink>(
 
 /// Serves so many connections over a store of files, as `serve_connections` does, and closes the store; a stop then
 /// leaves what `run_and_close` says, of messages.
-pub fn serve_and_close<D: Disk + Drop, C: Clock, L: OpenListener<Stream = TcpStream>>(
+pub fn serve_and_close<D: Disk + Drop, N: Listener>(
     alloc: Global,
-    clock: &C,
     lists: Option<&StoreLists>,
     told: bool,
     mut store: Store<FileStore<D>>,
-    listener: &L,
+    listener: &mut N,
     connections: u64,
-    patience: u32,
 ) -> (
     Result<u64, StreamFault>,
     Result<Files<D>, (Fault, FileStore<D>)>,
 )
+    requires { N.is_open listener.old ≡ false }
     ensures premise { CloseWell result.1 → HasGoodDisk over_files store.connection }
     ensures ends { CloseWell result.1 → (i : Institution) → StandsFor over_files store i →
         Leaves over_files store (i ∷ []) → ServesSo (choice_if folded (is_some lists.entry)) told i connections
-        (CloseAfter i result.1) result.0 }
+        (N.ended listener.old) (N.ended listener.new) (CloseAfter i result.1) result.0 }
 {
     laws::served_messages_are_isolated::<Store<FileStore<D>>>();
-    let ended = serve_connections(
-        alloc,
-        clock,
-        lists,
-        told,
-        &mut store,
-        listener,
-        connections,
-        patience,
-    );
+    let ended = serve_connections(alloc, lists, told, &mut store, listener, connections);
     (ended, close(store))
 }

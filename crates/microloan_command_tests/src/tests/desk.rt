@@ -1,13 +1,14 @@
 //! The commands over an institution in vectors: a sheet from a source, the report's text, connections to a port.
 
 use super::no_lists::WITHOUT;
+use crate::{Client, Clients};
 use mf_base::{Cause, Day, Fault, StreamFault};
 use mf_desk_books::streams::{CLIENT, CREATED, ENTERED, LENT, SHEET};
 use mf_desk_books::{Books, Torn};
 use mf_office::Caller;
 use mf_wire::run;
 use mf_wire_lines::{WatchedReader, WatchedWriter};
-use microloan_commands::{SheetFault, collect_sheet, report, serve_connections};
+use microloan_commands::{SheetFault, SocketListener, collect_sheet, report, serve_connections};
 use std::alloc::Global;
 use std::cell::Cell;
 use std::io;
@@ -48,6 +49,14 @@ Content-Length: 14\r\n\
 Connection: close\r\n\
 \r\n\
 {\"fault\":\"F1\"}";
+
+/// The response to a message that creates a second client of the head office.
+const CREATED_NEXT: &str = "HTTP/1.1 201 Created\r\n\
+Content-Type: application/json\r\n\
+Content-Length: 24\r\n\
+Connection: close\r\n\
+\r\n\
+{\"client\":\"0001-000002\"}";
 
 /// An institution that begins on 2024-01-31, after these request lines.
 fn books_after(alloc: Global, lines: &str) -> Result<Books, Fail> {
@@ -194,16 +203,60 @@ fn connections_are_served_in_turn(rt: HostRuntime) -> Result<(), Fail> {
     let whole = send_message(&rt, port, CLIENT)?;
     let _late = send_message(&rt, port, CLIENT)?;
     let served = serve_connections(
-        alloc, &rt, WITHOUT, false, &mut books, &listener, 3, PATIENCE,
+        alloc,
+        WITHOUT,
+        false,
+        &mut books,
+        &mut SocketListener::new(&listener, &rt, PATIENCE),
+        3,
     )?;
     assert_eq!(rt; served, 2);
     assert_eq!(rt; answer(alloc, &silent)?.as_str(), "");
     assert_eq!(rt; answer(alloc, &cut)?.as_str(), CUT);
     assert_eq!(rt; answer(alloc, &whole)?.as_str(), CREATED);
     let served = serve_connections(
-        alloc, &rt, WITHOUT, false, &mut books, &listener, 0, PATIENCE,
+        alloc,
+        WITHOUT,
+        false,
+        &mut books,
+        &mut SocketListener::new(&listener, &rt, PATIENCE),
+        0,
     )?;
     assert_eq!(rt; served, 0);
+    Ok(())
+}
+
+/// Of four clients in memory one sends nothing, one half a head and two a message. As many are served as are asked for, and
+/// what is written to each is the response to its own message. Once no client is left, no connection is accepted.
+#[test]
+fn clients_in_memory_are_served_in_turn(rt: HostRuntime) -> Result<(), Fail> {
+    let alloc = rt.alloc();
+    let mut books = books_after(alloc, "")?;
+    let mut all = Vec::new(alloc);
+    for sent in ["", "POST /clients HTTP/1.1\r\nX-Sta", CLIENT, CLIENT] {
+        all.push(Client {
+            sent: sent.as_bytes(),
+            written: Vec::new(alloc),
+        })?;
+    }
+    let mut clients = Clients::new(alloc, all);
+    for (connections, answered, responses) in [
+        (3, 2, ["", CUT, CREATED, ""]),
+        (2, 1, ["", CUT, CREATED, CREATED_NEXT]),
+    ] {
+        let served = serve_connections(
+            alloc,
+            WITHOUT,
+            false,
+            &mut books,
+            &mut clients,
+            connections,
+        )?;
+        assert_eq!(rt; served, answered);
+        for (client, response) in clients.as_slice().iter().zip(responses) {
+            assert_eq!(rt; client.written.as_slice(), response.as_bytes());
+        }
+    }
     Ok(())
 }
 
@@ -248,7 +301,12 @@ fn connections_that_fail_count(rt: HostRuntime) -> Result<(), Fail> {
         calls: &calls,
     };
     let served = serve_connections(
-        alloc, &rt, WITHOUT, false, &mut books, &unsteady, 3, PATIENCE,
+        alloc,
+        WITHOUT,
+        false,
+        &mut books,
+        &mut SocketListener::new(&unsteady, &rt, PATIENCE),
+        3,
     )?;
     assert_eq!(rt; served, 1);
     assert_eq!(rt; answer(alloc, &whole)?.as_str(), CREATED);
@@ -269,7 +327,12 @@ fn what_follows_a_message_is_thrown_away(rt: HostRuntime) -> Result<(), Fail> {
     (&client).write_all(rest.as_slice())?;
     client.shutdown(Shutdown::Write)?;
     let served = serve_connections(
-        alloc, &rt, WITHOUT, false, &mut books, &listener, 1, PATIENCE,
+        alloc,
+        WITHOUT,
+        false,
+        &mut books,
+        &mut SocketListener::new(&listener, &rt, PATIENCE),
+        1,
     )?;
     assert_eq!(rt; served, 1);
     assert_eq!(rt; answer(alloc, &client)?.as_str(), CREATED);
@@ -287,7 +350,12 @@ fn a_connection_is_ended(rt: HostRuntime) -> Result<(), Fail> {
     let client = TcpStream::connect(&rt, (Ipv4Addr::LOCALHOST, port))?;
     (&client).write_all(CLIENT.as_bytes())?;
     let served = serve_connections(
-        alloc, &rt, WITHOUT, false, &mut books, &listener, 1, PATIENCE,
+        alloc,
+        WITHOUT,
+        false,
+        &mut books,
+        &mut SocketListener::new(&listener, &rt, PATIENCE),
+        1,
     )?;
     assert_eq!(rt; served, 1);
     assert_eq!(rt; answer(alloc, &client)?.as_str(), CREATED);
@@ -304,7 +372,12 @@ fn a_silent_client_is_left(rt: HostRuntime) -> Result<(), Fail> {
     let silent = TcpStream::connect(&rt, (Ipv4Addr::LOCALHOST, port))?;
     let whole = send_message(&rt, port, CLIENT)?;
     let served = serve_connections(
-        alloc, &rt, WITHOUT, false, &mut books, &listener, 2, PATIENCE,
+        alloc,
+        WITHOUT,
+        false,
+        &mut books,
+        &mut SocketListener::new(&listener, &rt, PATIENCE),
+        2,
     )?;
     assert_eq!(rt; served, 1);
     assert_eq!(rt; answer(alloc, &silent)?.as_str(), "");
@@ -353,7 +426,12 @@ fn a_client_that_takes_too_long_is_left(rt: HostRuntime) -> Result<(), Fail> {
         };
         let client = send_message(&rt, port, CLIENT)?;
         let served = serve_connections(
-            alloc, &clock, WITHOUT, false, &mut books, &listener, 1, PATIENCE,
+            alloc,
+            WITHOUT,
+            false,
+            &mut books,
+            &mut SocketListener::new(&listener, &clock, PATIENCE),
+            1,
         )?;
         assert_eq!(rt; served, answered);
         let came = answer(alloc, &client).unwrap_or(String::new(alloc));
