@@ -1,11 +1,13 @@
 //! The institution that the bytes of a file hold, in memory.
 
-ghost use Rattle.std.specs.Prelude.{◌≡◌, ◌⊎◌, false, IfOk, IfErr};
+ghost use Rattle.std.specs.Prelude.{◌≡◌, ◌⊎◌, None, false, OnOk, IfOk, IfErr};
 ghost use Rattle.mf_base.specs.declared.fault.Fault.TheVariants.{F19, F20};
-ghost use Rattle.sqlite.specs.Files.{file_state};
+ghost use Rattle.sqlite.specs.Files.{file_state, HoldsDatabase};
 ghost use Rattle.sqlite.specs.State.{HasCleanDisk};
+ghost use Rattle.sqlite.specs.Tree.{Trees};
 ghost use Rattle.mf_store_files.specs.Opened.{HoldsNoneSound, OpensAsFound};
-ghost use Rattle.mf_store_sound.specs.Files.{ShowsFile};
+ghost use Rattle.mf_store_schema.specs.Writes.{Holds};
+ghost use Rattle.mf_store_sound.specs.Files.{HasNoTables, ShowsFile};
 
 use crate::memory::connect;
 use mf_base::Fault;
@@ -43,6 +45,12 @@ pub fn copy_in_memory<P: Progress>(
     db: &[u8],
     progress: &mut P,
 ) -> Result<Store<PageStore>, Refused>
+    // Where there are no tables.
+    ensures some { OnOk result (¬ HasNoTables (record { log = log.now; db = db.now })) }
+    ensures none { IfErr result (λ e. e ≡ Refused.NoInstitution → (trees : Trees)
+        → HoldsDatabase (record { log = log.now; db = db.now }) trees → Holds trees None) }
+
+    // Where there are some.
     ensures copies { IfOk result (OpensAsFound (record { log = log.now; db = db.now })) }
     ensures refused { IfErr result (λ e. e ≡ Refused.Failed F19
         → HoldsNoneSound (record { log = log.now; db = db.now })) }
@@ -55,6 +63,9 @@ pub fn copy_in_memory<P: Progress>(
     };
     match adopt_existing(alloc, connection, progress) {
         Ok(store) => Ok(store),
-        Err((refused, _)) => Err(refused),
+        Err((refused, connection)) => {
+            drop(connection);
+            Err(refused)
+        }
     }
 }

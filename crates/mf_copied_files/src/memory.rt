@@ -28,7 +28,7 @@ fn fill<D: Disk>(file: &mut D, bytes: &[u8]) -> io::Result<()>
 }
 
 /// Two files with the bytes of a log and of a database file. The error is F20.
-fn filled<D: Disk>(files: Files<D>, log: &[u8], db: &[u8]) -> Result<Files<D>, Fault>
+fn filled<D: Disk + Drop>(files: Files<D>, log: &[u8], db: &[u8]) -> Result<Files<D>, Fault>
     requires log { IsTrue (D.Disk.is_usable files.log) }
     requires db { IsTrue (D.Disk.is_usable files.db) }
     ensures image { IfOk result (λ files. image_of D.Disk files ≡ record { log = log.now; db = db.now }) }

@@ -1,6 +1,6 @@
 //! The verdict on a file, which holds after it what it held.
 
-ghost use Rattle.std.specs.Prelude.{◌≡◌, IfOk, IfErr};
+ghost use Rattle.std.specs.Prelude.{◌≡◌, None, IfOk, IfErr};
 ghost use Rattle.sqlite.specs.Files.{file_state, over_files, HoldsDatabase};
 ghost use Rattle.sqlite.specs.State.{HasCleanDisk};
 ghost use Rattle.sqlite.specs.Tree.{Trees};
@@ -9,6 +9,7 @@ ghost use Rattle.mf_base.specs.declared.fault.Fault.TheVariants.{F19};
 ghost use Rattle.mf_model.specs.Institution.{Institution};
 ghost use Rattle.mf_store.specs.Stands.{StandsFor};
 ghost use Rattle.mf_store_files.specs.Opened.{HoldsNoneSound};
+ghost use Rattle.mf_store_schema.specs.Writes.{Holds};
 ghost use Rattle.mf_store_schema.specs.declared.versions.Version.{Version};
 ghost use Rattle.mf_store_sound.specs.Held.{HoldsSoundAt};
 ghost use Rattle.mf_store_verdict.specs.Verdict.{IsVerdictOfFile, IsFileVerdictFrom};
@@ -107,6 +108,8 @@ pub fn audit_from_copy_with<S: Start, P: Progress>(
     ensures leaves { IfOk result (λ seen. HasCleanDisk (file_state seen.1) → (trees : Trees)
         → HoldsDatabase (image_at S.Start) trees
         → (left : Trees) → (file_state seen.1).may_leave left → left ≡ trees) }
+    ensures none { IfErr result (λ e. e ≡ Unaudited.Copy Refused.NoInstitution → (trees : Trees)
+        → HoldsDatabase (record { log = log.now; db = db.now }) trees → Holds trees None) }
     ensures refused { IfErr result (λ e. e ≡ Unaudited.Copy (Refused.Failed F19)
         → HoldsNoneSound (record { log = log.now; db = db.now })) }
 {
