@@ -9,6 +9,6 @@ returns-then-keeps_journal-clause-none c copied stands =
 
 pub returns-in-Ok-clause-begun : goal.returns-in-Ok-clause-begun
 returns-in-Ok-clause-begun c copied stands =
-    begun copied c.args.copy c.begin_journal.new.copy (always_clean (λ _. refl) c.begin_journal.new.copy.connection)
+    begun copied c.args.copy c.begin_journal.new.self (always_clean (λ _. refl) c.begin_journal.new.self.connection)
     stands (has_none c.args.copy.journal copied.journal c.keeps_journal.result c.keeps_journal.ensures
     c.if-keeps_journal.false stands.journal) c.in-Ok.ensures
