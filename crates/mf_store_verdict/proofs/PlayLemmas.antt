@@ -53,10 +53,19 @@ verdict_played IsRight db now found played same finds told answer = record {
 }
 
 -- what holds of an answer for each thing, of the answer holds for each
-pub ok_each : {A E B : Type 0} (r : Result A E) (Q : B → Type 0) (P : B → A → Type 0)
+ok_each : {A E B : Type 0} (r : Result A E) (Q : B → Type 0) (P : B → A → Type 0)
     → ((b : B) → Q b → IfOk r (P b)) → IfOk r (λ a. (b : B) → Q b → P b a)
 ok_each (Ok a) Q P told = told
 ok_each (Err e) Q P told = tt
+
+-- what is right of each institution that a copy stands for, where one is given
+pub right_from : {D E : Type 0} {g : Ghosts D} (given : Option (KnownStore (FileStore D g)))
+    (copy : KnownStore (FileStore D g)) → given ≡ Some copy → (trees : Trees) (r : Result Played E)
+    → ((copied : Institution) → StandsFor over_files copy copied → IfOk r (IsCopyAnswerOf copied trees))
+    → IfOk r (IsRightBy given trees)
+right_from given copy is trees r told =
+    subst (λ k. IfOk r (IsRightBy k trees)) (sym is)
+    (ok_each r (StandsFor over_files copy) (λ copied played. IsCopyAnswerOf copied trees played) told)
 
 -- what is said by a copy is said of the institution that it stands for
 module _ {D : Type 0} {g : Ghosts D} (copy : KnownStore (FileStore D g)) (copied : Institution)
