@@ -3,3 +3,4 @@ pub mod PlayLemmas
 pub mod HeldLemmas
 pub mod AnswerLemmas
 pub mod OnceLemmas
+pub mod CopyLemmas

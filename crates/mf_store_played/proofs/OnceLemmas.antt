@@ -1,20 +1,22 @@
 -- One answer alone is right.
-use Rattle.std.proofs.Common.{◌≡◌, ◌<◌, ◌+◌, ℕ, zero, suc, List, [], ◌∷◌, take, slice_get, Option, Some}
+use Rattle.std.proofs.Common.{◌≡◌, ◌<◌, ◌+◌, ◌⊎◌, inl, inr, ℕ, zero, suc, List, [], ◌∷◌, take, slice_get, Option, Some}
 use Rattle.std.proofs.Common.{refl, sym, ap, ap₂, ◌∙◌, subst, arith}
 use Rattle.sqlite.proofs.MarkLemmas.{slice_get-take}
 use Rattle.mf_journal.specs.declared.following.Head.{Head}
 use Rattle.mf_model.specs.Institution.{Institution, JournalLine}
 use Rattle.mf_play.specs.Play.{PlaysTo, StopsAt}
 use Rattle.mf_play.proofs.Lines.{one_play, one_place, apart}
+use Rattle.mf_store_journal.specs.Rows.{head_with_all}
+use Rattle.mf_store_noted.specs.Kept.{journaled}
 use Rattle.mf_store_schema.specs.Rows.{Lists}
 use Rattle.mf_store_schema.specs.declared.versions.Version.TheVariants.{Third}
 use Rattle.mf_store_sound.specs.Held.{AllTrue}
 use Rattle.mf_store_sound.specs.Schemas.{tables_at}
 use Rattle.mf_store_played.specs.Played.{DiffersAt, DiffersIn, IsFirstDifference, IsFounding, founded, order_of, sames}
-use Rattle.mf_store_played.specs.Answer.{IsAnswer, IsDifference}
+use Rattle.mf_store_played.specs.Answer.{IsAnswer, IsAnswerOver, IsCopy, IsCopyAnswer, IsDifference}
 use Rattle.mf_store_played.specs.declared.played.Difference.{Difference}
 use Rattle.mf_store_played.specs.declared.played.Played.{Played}
-use Rattle.mf_store_played.specs.declared.played.Played.TheVariants.{Leads, NoFounding, Stops, Differs}
+use Rattle.mf_store_played.specs.declared.played.Played.TheVariants.{Leads, NoFounding, Stops, Differs, OtherCopy}
 use Rattle.mf_store_played.specs.declared.played.PlayedTable.{PlayedTable}
 use Rattle.mf_store_played.specs.declared.played.PlayedTable.TheVariants.{Meta, Offices, Staff, Clients, Charges}
 use Rattle.mf_store_played.specs.declared.played.PlayedTable.TheVariants.{Products, Loans, Entries, Receipts}
@@ -134,11 +136,13 @@ module _ (begins : Head) (lines : List JournalLine) (i : Institution) where
   pub one_answer : (a b : Played) → IsAnswer begins lines i a → IsAnswer begins lines i b → a ≡ b
   one_answer (Leads h) (Leads k) a b = ap Leads (a.3 ∙ sym b.3)
   one_answer (Leads h) (NoFounding k) a b = absurd (b.0 a.0 a.1)
+  one_answer (Leads h) (OtherCopy k) a b = absurd b
   one_answer (Leads h) (Stops n why) a b =
       absurd (apart (founded a.0) i lines b.2 why a.2
       (subst (λ day. StopsAt (founded day) lines b.2 why) (one_day begins a.0 b.0 a.1 b.1) b.4))
   one_answer (Leads h) (Differs d) a b =
       absurd (b.5 (subst (λ day. PlaysTo (founded day) lines i) (one_day begins b.0 a.0 b.1 a.1) a.2))
+  one_answer (NoFounding k) (OtherCopy h) a b = absurd b
   one_answer (NoFounding k) (Leads h) a b = absurd (a.0 b.0 b.1)
   one_answer (NoFounding h) (NoFounding k) a b = ap NoFounding (a.1 ∙ sym b.1)
   one_answer (NoFounding k) (Stops n why) a b = absurd (a.0 b.0 b.1)
@@ -147,6 +151,7 @@ module _ (begins : Head) (lines : List JournalLine) (i : Institution) where
       absurd (apart (founded b.0) i lines a.2 why b.2
       (subst (λ day. StopsAt (founded day) lines a.2 why) (one_day begins b.0 a.0 b.1 a.1) a.4))
   one_answer (Stops n why) (NoFounding k) a b = absurd (b.0 a.0 a.1)
+  one_answer (Stops n why) (OtherCopy k) a b = absurd b
   one_answer (Stops n why) (Stops m because) a b =
       let same = one_place (founded a.0) lines a.2 b.2 why because a.4
       (subst (λ day. StopsAt (founded day) lines b.2 because) (one_day begins a.0 b.0 a.1 b.1) b.4) in
@@ -157,6 +162,12 @@ module _ (begins : Head) (lines : List JournalLine) (i : Institution) where
   one_answer (Differs d) (Leads h) a b =
       absurd (a.5 (subst (λ day. PlaysTo (founded day) lines i) (one_day begins a.0 b.0 a.1 b.1) b.2))
   one_answer (Differs d) (NoFounding k) a b = absurd (b.0 a.0 a.1)
+  one_answer (Differs d) (OtherCopy k) a b = absurd b
+  one_answer (OtherCopy h) (Leads k) a b = absurd a
+  one_answer (OtherCopy h) (NoFounding k) a b = absurd a
+  one_answer (OtherCopy h) (Stops n why) a b = absurd a
+  one_answer (OtherCopy h) (Differs d) a b = absurd a
+  one_answer (OtherCopy h) (OtherCopy k) a b = absurd a
   one_answer (Differs d) (Stops n why) a b =
       absurd (apart (founded a.0) a.2 lines b.2 why a.3
       (subst (λ day. StopsAt (founded day) lines b.2 why) (one_day begins a.0 b.0 a.1 b.1) b.4))
@@ -165,3 +176,53 @@ module _ (begins : Head) (lines : List JournalLine) (i : Institution) where
       (subst (λ day. PlaysTo (founded day) lines b.2) (one_day begins a.0 b.0 a.1 b.1) b.3) a.3 in
       ap Differs (one_difference (tables_at Third i) (tables_at Third a.2) d e a.4
       (subst (λ k. IsDifference e (tables_at Third i) (tables_at Third k)) same b.4))
+
+-- ---- one answer over a beginning, and from a copy
+
+module _ (start : Institution) (begins : Head) (lines : List JournalLine) (i : Institution) where
+  one_over : (a b : Played) → IsAnswerOver start begins lines i a → IsAnswerOver start begins lines i b → a ≡ b
+  one_over (Leads h) (Leads k) a b = ap Leads (a.1 ∙ sym b.1)
+  one_over (Leads h) (Stops n why) a b = absurd (apart start i lines b.0 why a.0 b.2)
+  one_over (Leads h) (Differs d) a b = absurd (b.3 a.0)
+  one_over (Leads h) (NoFounding k) a b = absurd b
+  one_over (Leads h) (OtherCopy k) a b = absurd b
+  one_over (Stops n why) (Leads h) a b = absurd (apart start i lines a.0 why b.0 a.2)
+  one_over (Stops n why) (Stops m because) a b =
+      let same = one_place start lines a.0 b.0 why because a.2 b.2 in
+      ap₂ Stops (a.1 ∙ ap (λ p. begins.number + p + 1) same.0 ∙ sym b.1) same.1
+  one_over (Stops n why) (Differs d) a b = absurd (apart start b.0 lines a.0 why b.1 a.2)
+  one_over (Stops n why) (NoFounding k) a b = absurd b
+  one_over (Stops n why) (OtherCopy k) a b = absurd b
+  one_over (Differs d) (Leads h) a b = absurd (a.3 b.0)
+  one_over (Differs d) (Stops n why) a b = absurd (apart start a.0 lines b.0 why a.1 b.2)
+  one_over (Differs d) (Differs e) a b =
+      let same = one_play start b.0 a.0 lines b.1 a.1 in
+      ap Differs (one_difference (tables_at Third i) (tables_at Third a.0) d e a.2
+      (subst (λ k. IsDifference e (tables_at Third i) (tables_at Third k)) same b.2))
+  one_over (Differs d) (NoFounding k) a b = absurd b
+  one_over (Differs d) (OtherCopy k) a b = absurd b
+  one_over (NoFounding h) b told other = absurd told
+  one_over (OtherCopy h) b told other = absurd told
+
+module _ (copied : Institution) (begins : Head) (lines : List JournalLine) (i : Institution) where
+  -- the journal was begun over another, or was played
+  abbrev Two : Played → Type 0
+  Two p = ((h : Head) × (p ≡ OtherCopy h) × (¬ IsCopy copied begins) × (h ≡ head_with_all begins lines))
+      ⊎ (IsCopy copied begins × IsAnswerOver (journaled copied) begins lines i p)
+
+  either : (p : Played) → IsCopyAnswer copied begins lines i p → Two p
+  either (Leads h) told = inr told
+  either (Stops n why) told = inr told
+  either (Differs d) told = inr told
+  either (NoFounding h) told = inr told
+  either (OtherCopy h) told = inl (h, refl, told.0, told.1)
+
+  both : (a b : Played) → Two a → Two b → a ≡ b
+  both a b (inl x) (inl y) = x.1 ∙ ap OtherCopy (x.3 ∙ sym y.3) ∙ sym y.1
+  both a b (inl x) (inr y) = absurd (x.2 y.0)
+  both a b (inr x) (inl y) = absurd (y.2 x.0)
+  both a b (inr x) (inr y) = one_over (journaled copied) begins lines i a b x.1 y.1
+
+  pub one_copy_answer : (a b : Played) → IsCopyAnswer copied begins lines i a → IsCopyAnswer copied begins lines i b
+      → a ≡ b
+  one_copy_answer a b here there = both a b (either a here) (either b there)

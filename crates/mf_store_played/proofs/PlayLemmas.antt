@@ -56,37 +56,45 @@ stops_within i j done page more place why p s =
 -- ---- page by page
 
 module _ {S : Type 0} (store : Ghosts S) where
-  -- the first lines of these, as many as this, played from an institution, and the store stands for what follows
-  pub record Reached (i : Institution) (lines : List JournalLine) (here : S) (number : ℕ) : Type 0 where
+  -- the first of these lines up to a number, the first of which comes after another one, played from an institution, and
+  -- the store stands for what follows
+  pub record Reached (after : ℕ) (i : Institution) (lines : List JournalLine) (here : S) (number : ℕ) : Type 0 where
     pub done : List JournalLine
     pub rest : List JournalLine
     pub are : lines ≡ done ++ rest
-    pub count : length done ≡ number
+    pub count : after + length done ≡ number
     pub reached : Institution
     pub plays : PlaysTo i done reached
     pub stands : store.stands here reached
 
   -- the lines up to a number played
-  pub record Going (old now : State) (was here : S) (number : ℕ) : Type 0 where
+  pub record Going (after : ℕ) (old now : State) (was here : S) (number : ℕ) : Type 0 where
     pub kept : IsUnchangedUnder IsThird old now
     pub far : HasCleanDisk now → IsThird old.now.schema → store.clean here → (begins : Head)
-        (lines : List JournalLine) → begins.number ≡ 0 → KeepsJournalFrom begins old.now.trees lines
-        → (i : Institution) → store.stands was i → Reached i lines here number
+        (lines : List JournalLine) → begins.number ≡ after → KeepsJournalFrom begins old.now.trees lines
+        → (i : Institution) → store.stands was i → Reached after i lines here number
 
-  pub going_first : (s : State) (was : S) → Going s s was was 0
-  going_first s was = record {
+  pub going_first : (after : ℕ) (s : State) (was : S) → Going after s s was was after
+  going_first after s was = record {
     kept = unchanged_itself s;
-    far = λ clean its ok begins lines none keeps i stands.
-        record { done = []; rest = lines; are = refl; count = refl; reached = i; plays = refl; stands = stands };
+    far = λ clean its ok begins lines none keeps i stands. record {
+      done = [];
+      rest = lines;
+      are = refl;
+      count = omega arith;
+      reached = i;
+      plays = refl;
+      stands = stands;
+    };
   }
 
-  module _ (old now new : State) (was here : S) (number : ℕ) (rows : List Row)
-      (going : Going old now was here number) (kept : IsUnchangedUnder IsThird now new)
+  module _ (after : ℕ) (old now new : State) (was here : S) (number : ℕ) (rows : List Row)
+      (going : Going after old now was here number) (kept : IsUnchangedUnder IsThird now new)
       (page : HasCleanDisk new → (lines : List Filed) → IsKeeping now lines → rows ≡ page_above number lines) where
     -- what the page is
     its_page : HasCleanDisk new → IsThird old.now.schema → (begins : Head) (lines : List JournalLine)
-        → begins.number ≡ 0 → KeepsJournalFrom begins old.now.trees lines → (i : Institution)
-        → (r : Reached i lines here number)
+        → begins.number ≡ after → KeepsJournalFrom begins old.now.trees lines → (i : Institution)
+        → (r : Reached after i lines here number)
         → rows ≡ map shown_filed (filed_after (head_with_all begins r.done) (take page_size r.rest))
     its_page clean its begins lines none keeps i r =
         let all = page clean (journal_rows_in begins (Some lines)) (kept_after old now
@@ -100,7 +108,7 @@ module _ {S : Type 0} (store : Ghosts S) where
       -- it plays
       pub going_on : (next : ℕ) → next ≡ number + length rows → ((h : Head) (lines : List JournalLine)
           → rows ≡ map shown_filed (filed_after h lines) → PlaysLines store lines here there (Ok (Ok tt)))
-          → Going old new was there next
+          → Going after old new was there next
       going_on next count plays = record {
         kept = still_unchanged old now new going.kept kept;
         far = λ clean its ok begins lines none keeps i stands.
@@ -108,7 +116,7 @@ module _ {S : Type 0} (store : Ghosts S) where
             let are = its_page clean its begins lines none keeps i r in
             let first = take page_size r.rest in
             let size = size_of_rows (head_with_all begins r.done) first rows are in
-            let after = (plays (head_with_all begins r.done) first are).came ok r.reached r.stands in
+            let came = (plays (head_with_all begins r.done) first are).came ok r.reached r.stands in
             let whole : first ++ drop page_size r.rest ≡ r.rest = take-append-drop page_size r.rest in
             let both = length-append r.done first in
             let so_far = r.count in
@@ -118,9 +126,9 @@ module _ {S : Type 0} (store : Ghosts S) where
               are = r.are ∙ ap (λ ls. r.done ++ ls) (sym whole)
                   ∙ sym (append_assoc r.done first (drop page_size r.rest));
               count = omega (arith, both, size, count, so_far);
-              reached = after.0;
-              plays = joined i r.reached after.0 r.done first r.plays after.1;
-              stands = after.2;
+              reached = came.0;
+              plays = joined i r.reached came.0 r.done first r.plays came.1;
+              stands = came.2;
             };
       }
 
@@ -128,7 +136,7 @@ module _ {S : Type 0} (store : Ghosts S) where
       pub going_stops : (place told : ℕ) (why : Stop) → told ≡ number + place + 1 → ((h : Head)
           (lines : List JournalLine) → rows ≡ map shown_filed (filed_after h lines)
           → PlaysLines store lines here there (Ok (Err (place, why))))
-          → PlaysTable store old new was there (Ok (Err (told, why)))
+          → PlaysTable store after old new was there (Ok (Err (told, why)))
       going_stops place told why count plays clean its ok begins lines none keeps i stands =
           let r = going.far (kept.premise clean) its (early ok) begins lines none keeps i stands in
           let are = its_page clean its begins lines none keeps i r in
@@ -144,7 +152,7 @@ module _ {S : Type 0} (store : Ghosts S) where
           )
 
     -- none is left
-    pub going_whole : rows ≡ [] → PlaysTable store old new was here (Ok (Ok tt))
+    pub going_whole : rows ≡ [] → PlaysTable store after old new was here (Ok (Ok tt))
     going_whole none_there clean its ok begins lines none keeps i stands =
         let r = going.far (kept.premise clean) its ok begins lines none keeps i stands in
         let are = its_page clean its begins lines none keeps i r in

@@ -1,6 +1,7 @@
 //! Tables against the play of their journal: whether the lines, played from their founding, lead to just these rows.
 #![tactic(auto)]
 
+mod copied;
 mod differing;
 mod founding;
 pub mod laws;
@@ -9,6 +10,7 @@ mod played;
 mod playing;
 mod rows;
 
+pub use copied::play_tables_from;
 pub use founding::{found_in_memory, founding_day};
 pub use pages::number_at;
 pub use played::{Difference, Played, PlayedTable};

@@ -51,24 +51,25 @@ fn play_page<T: InstitutionStore>(
     }
 }
 
-/// Plays the lines that the table keeps of a journal that begins with its first line, until one doesn't play. It says
-/// that line's number, and why it doesn't play. The error is F20.
+/// Plays the lines that the table keeps of a journal that begins after a number, until one doesn't play. It says that
+/// line's number, and why it doesn't play. The error is F20.
 pub(crate) fn play_pages<S: Alter, T: InstitutionStore>(
     alloc: Global,
     routes: &Routes,
     connection: &mut Connection<S>,
     store: &mut T,
+    after: u32,
 ) -> Result<Result<(), (u64, Stop)>, Fault>
     requires alone { connection.old.in_transaction ≡ false }
     ensures kept { IsUnchangedUnder IsThird (state S.Store connection.old) (state S.Store connection.new) }
     ensures gives_up { IfErr result (λ fault. fault ≡ F20) }
     ensures open { HasCleanDisk (state S.Store connection.new)
         → OnOk result (IsTrue (state S.Store connection.new).is_open) }
-    ensures plays { PlaysTable T.InstitutionStore (state S.Store connection.old) (state S.Store connection.new)
+    ensures plays { PlaysTable T.InstitutionStore after (state S.Store connection.old) (state S.Store connection.new)
         store.old store.new result }
     ensures mode { connection.new.in_transaction ≡ false }
 {
-    let mut number: u32 = 0;
+    let mut number = after;
     'pages: for _ in 0..u64::MAX {
         let rows = rows_after(connection, number)?;
         if rows.is_empty() {

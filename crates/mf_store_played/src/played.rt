@@ -43,4 +43,6 @@ pub enum Played {
     Stops { number: u64, why: Stop },
     /// All lines play, and lead to other rows.
     Differs(Difference),
+    /// The journal wasn't begun over the rows of the copy from which it was to be played; it stands so.
+    OtherCopy(Head),
 }

@@ -16,7 +16,7 @@ ghost use Rattle.mf_store_journal.specs.Rows.{head_with_all};
 ghost use Rattle.mf_store_journal.specs.Written.{KeepsJournalFrom};
 ghost use Rattle.mf_store_sound.specs.Held.{HoldsSoundAt};
 ghost use Rattle.mf_store_played.specs.Played.{IsFounding};
-ghost use Rattle.mf_store_played.specs.Answer.{IsCompared, IsAnswer, IsAnswerOf};
+ghost use Rattle.mf_store_played.specs.Answer.{IsCompared, IsAnswer, IsAnswerOf, IsAnswerOver, HoldsPlayable};
 
 use crate::differing::first_differing;
 use crate::founding::{found_in_memory, founding_day};
@@ -91,6 +91,48 @@ fn compare_rows<S: Alter>(
     }
 }
 
+/// The number in 32 bits, as the table keeps it. The error is F20.
+fn narrow(number: u64) -> Result<u32, Fault>
+    ensures same { IfOk result (λ narrow. narrow ≡ number) }
+    ensures gives_up { IfErr result (λ fault. fault ≡ F20) }
+{
+    match u32::try_from(number) {
+        Ok(narrow) => Ok(narrow),
+        Err(_) => Err(Fault::F20),
+    }
+}
+
+/// The answer for the tables beside a journal, whose lines are played over a store in memory: it stands for what the
+/// lines are to be played over.
+pub(crate) fn play_over<S: Alter>(
+    alloc: Global,
+    connection: &mut Connection<S>,
+    mut store: Store<PageStore>,
+    journal: Journal,
+) -> Result<Played, Fault>
+    requires alone { connection.old.in_transaction ≡ false }
+    ensures kept { IsUnchangedUnder IsThird (state S.Store connection.old) (state S.Store connection.new) }
+    ensures gives_up { IfErr result (λ fault. fault ≡ F20) }
+    ensures open { HasCleanDisk (state S.Store connection.new)
+        → OnOk result (IsTrue (state S.Store connection.new).is_open) }
+    ensures answer { HasCleanDisk (state S.Store connection.new) → IsThird (state S.Store connection.old).now.schema
+        → (start i : Institution) (before lines : List JournalLine) → StandsFor over_files store start
+        → start.journal ≡ Some before → HoldsPlayable i before journal (state S.Store connection.old).now.trees lines
+        → IfOk result (IsAnswerOver start journal.begins lines i) }
+    ensures mode { connection.new.in_transaction ≡ false }
+{
+    mf_store::laws::one_institution();
+    let after = narrow(journal.begins.number)?;
+    let Ok(routes) = Routes::new(alloc) else {
+        return Err(Fault::F20);
+    };
+    match play_pages(alloc, &routes, connection, &mut store, after) {
+        Ok(Ok(())) => compare_rows(alloc, connection, store, journal.head),
+        Ok(Err((number, why))) => Ok(Played::Stops { number, why }),
+        Err(fault) => Err(fault),
+    }
+}
+
 /// The answer for the tables beside a journal that begins at the founding on this day.
 fn play_from<S: Alter>(
     alloc: Global,
@@ -112,16 +154,8 @@ fn play_from<S: Alter>(
         → IfOk result (IsAnswer journal.begins lines held.institution) }
     ensures mode { connection.new.in_transaction ≡ false }
 {
-    mf_store::laws::one_institution();
-    let Ok(routes) = Routes::new(alloc) else {
-        return Err(Fault::F20);
-    };
-    let mut store = found_in_memory(alloc, day)?;
-    match play_pages(alloc, &routes, connection, &mut store) {
-        Ok(Ok(())) => compare_rows(alloc, connection, store, journal.head),
-        Ok(Err((number, why))) => Ok(Played::Stops { number, why }),
-        Err(fault) => Err(fault),
-    }
+    let store = found_in_memory(alloc, day)?;
+    play_over(alloc, connection, store, journal)
 }
 
 /// The answer for the tables beside a journal.

@@ -23,10 +23,9 @@ use Rattle.mf_store_audit.specs.Audits.{IsAuditOf}
 use Rattle.mf_store_audit.specs.declared.audits.Audit.{Audit}
 use Rattle.mf_store_audit.specs.declared.audits.Audit.TheVariants.{NoTables, OtherTables, Sound, Unsound, Unreadable}
 use Rattle.mf_store_audit.specs.declared.audits.Audit.TheVariants as audit
-use Rattle.mf_store_played.specs.Answer.{IsAnswerOf}
 use Rattle.mf_store_played.specs.declared.played.Played.{Played}
 use Rattle.mf_store_verdict.specs.Heads.{StandsSo, IsHeadOf, IsHeadOfFile}
-use Rattle.mf_store_verdict.specs.Verdict.{IsPlayOf, IsVerdictOf, IsVerdictOfFile}
+use Rattle.mf_store_verdict.specs.Verdict.{IsPlayOf, IsVerdictBy, IsFileVerdictBy}
 use Rattle.mf_store_verdict.specs.declared.verdict.Verdict.{Verdict}
 use Rattle.mf_store_verdict.proofs.PlayLemmas.{third_there}
 
@@ -62,12 +61,12 @@ module _ (image : Image) (s : State) (shows : ShowsFile image s) (trees : Trees)
   told_of (Unreadable v unread) told = subst (λ db. IsAuditOf db (Unreadable v unread)) (known_is_held v told.0) told
 
   -- the play is of the tables that the file held
-  play_of : (found : Audit) (played : Option Played) → IsAuditOf s.now found → IsPlayOf s.now found played
-      → IsPlayOf held found played
-  play_of found None told none = none
-  play_of found (Some played) told (finds, answer) = (
+  play_of : (IsRight : Trees → Played → Type 0) (found : Audit) (played : Option Played) → IsAuditOf s.now found
+      → IsPlayOf IsRight s.now found played → IsPlayOf IsRight held found played
+  play_of IsRight found None told none = none
+  play_of IsRight found (Some played) told (finds, answer) = (
     finds,
-    subst (λ (db : Database). IsAnswerOf db.trees played) (known_is_held Third (third_there s.now found finds told))
+    subst (λ (db : Database). IsRight db.trees played) (known_is_held Third (third_there s.now found finds told))
         answer,
   )
 
@@ -90,10 +89,11 @@ module _ (image : Image) (s : State) (shows : ShowsFile image s) where
     tables = λ trees k holds sound. head_of image s shows trees k holds sound told is;
   }
 
-  pub verdict_of_file : (v : Verdict) → IsVerdictOf s.now v → IsVerdictOfFile image v
-  verdict_of_file v is = record {
+  pub verdict_of_file : (IsRight : Trees → Played → Type 0) (v : Verdict) → IsVerdictBy IsRight s.now v
+      → IsFileVerdictBy IsRight image v
+  verdict_of_file IsRight v is = record {
     tables = λ trees k holds sound. record {
       audited = told_of image s shows trees k holds sound v.audit is.audited;
-      played = play_of image s shows trees k holds sound v.audit v.played is.audited is.played;
+      played = play_of image s shows trees k holds sound IsRight v.audit v.played is.audited is.played;
     };
   }

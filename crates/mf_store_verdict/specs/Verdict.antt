@@ -1,20 +1,25 @@
 -- What a verdict says of a database: its audit, and what the play of its journal says of the tables.
 use Rattle.std.specs.Prelude.{◌≡◌, IsTrue, Option, Some, None}
 use Rattle.sqlite.specs.Effect.{Database}
-use Rattle.sqlite.specs.Files.{HoldsDatabase}
+use Rattle.sqlite.specs.Files.{over_files, HoldsDatabase}
 use Rattle.sqlite.specs.Schema.{Schema}
 use Rattle.sqlite.specs.State.{State}
 use Rattle.sqlite.specs.Tree.{Trees}
 use Rattle.sqlite_catalog.specs.Listing.{IsSound}
+use Rattle.sqlite_disk.specs.declared.Disk.{Ghosts}
+use Rattle.sqlite_store.specs.declared.store.FileStore.{FileStore}
 use Rattle.sqlite_wal.specs.Recovery.{Image}
+use Rattle.mf_model.specs.Institution.{Institution}
+use Rattle.mf_store.specs.Facts.{KnownStore}
+use Rattle.mf_store.specs.Stands.{StandsFor}
 use Rattle.mf_store_schema.specs.declared.versions.Version.TheVariants.{Third}
 use Rattle.mf_store_audit.specs.Audits.{FindsSound, IsAuditOf}
 use Rattle.mf_store_audit.specs.declared.audits.Audit.{Audit}
 use Rattle.mf_store_audit.specs.declared.audits.Audit.TheVariants.{NoTables, OtherTables, Sound, Unsound, Unreadable}
 use Rattle.mf_store_audit.specs.declared.audits.Audit.TheVariants as audit
-use Rattle.mf_store_played.specs.Answer.{IsAnswerOf}
+use Rattle.mf_store_played.specs.Answer.{IsAnswerOf, IsCopyAnswerOf}
 use Rattle.mf_store_played.specs.declared.played.Played.{Played}
-use Rattle.mf_store_played.specs.declared.played.Played.TheVariants.{Leads, NoFounding, Stops, Differs}
+use Rattle.mf_store_played.specs.declared.played.Played.TheVariants.{Leads, NoFounding, Stops, Differs, OtherCopy}
 use Rattle.mf_store_verdict.specs.declared.verdict.Verdict.{Verdict}
 
 -- an audit says that it found a sound institution with a journal
@@ -26,15 +31,30 @@ FindsJournal (Unsound version tables findings) = ⊥
 FindsJournal (Unreadable version unread) = ⊥
 FindsJournal (audit.BrokenJournal broken) = ⊥
 
--- the journal is played just where the audit finds one, and what is told of the play is right
-abbrev pub IsPlayOf : Database → Audit → Option Played → Type 0
-IsPlayOf db found None = ¬ FindsJournal found
-IsPlayOf db found (Some played) = FindsJournal found × IsAnswerOf db.trees played
+-- the journal is played just where the audit finds one, and what is told of the play is right of the tables
+abbrev pub IsPlayOf : (Trees → Played → Type 0) → Database → Audit → Option Played → Type 0
+IsPlayOf IsRight db found None = ¬ FindsJournal found
+IsPlayOf IsRight db found (Some played) = FindsJournal found × IsRight db.trees played
 
 -- the audit is right, and so is what is told of the play of the journal
-pub record IsVerdictOf (db : Database) (v : Verdict) : Type 0 where
+pub record IsVerdictBy (IsRight : Trees → Played → Type 0) (db : Database) (v : Verdict) : Type 0 where
   pub audited : IsAuditOf db v.audit
-  pub played : IsPlayOf db v.audit v.played
+  pub played : IsPlayOf IsRight db v.audit v.played
+
+-- the same where the journal is played from its founding
+abbrev pub IsVerdictOf : Database → Verdict → Type 0
+IsVerdictOf = IsVerdictBy IsAnswerOf
+
+-- and where it is played from a copy of this institution
+abbrev pub IsVerdictFrom : Institution → Database → Verdict → Type 0
+IsVerdictFrom copied = IsVerdictBy (IsCopyAnswerOf copied)
+
+module _ {D : Type 0} {g : Ghosts D} where
+  -- what is told of the play is right, from the founding or from a copy, where one is given
+  abbrev pub IsRightBy : Option (KnownStore (FileStore D g)) → Trees → Played → Type 0
+  IsRightBy None trees played = IsAnswerOf trees played
+  IsRightBy (Some copy) trees played =
+      (copied : Institution) → StandsFor over_files copy copied → IsCopyAnswerOf copied trees played
 
 -- while the connection is open, it shows this database
 pub record Shows (s : State) (db : Database) : Type 0 where
@@ -47,12 +67,21 @@ IsPassed (Some (Leads head)) = Unit {0}
 IsPassed (Some (NoFounding head)) = Unit {0}
 IsPassed (Some (Stops number why)) = ⊥
 IsPassed (Some (Differs difference)) = ⊥
+IsPassed (Some (OtherCopy head)) = ⊥
 
 -- the tables hold a sound institution, and its journal leads there, where it is played
 abbrev pub Passes : Verdict → Type 0
 Passes v = FindsSound v.audit × IsPassed v.played
 
 -- the verdict is that of the database that a file held
-pub record IsVerdictOfFile (image : Image) (v : Verdict) : Type 0 where
+pub record IsFileVerdictBy (IsRight : Trees → Played → Type 0) (image : Image) (v : Verdict) : Type 0 where
   pub tables : (trees : Trees) (k : Schema) → HoldsDatabase image trees → IsSound k trees
-      → IsVerdictOf (record { schema = k; trees = trees }) v
+      → IsVerdictBy IsRight (record { schema = k; trees = trees }) v
+
+-- the same where the journal is played from its founding
+abbrev pub IsVerdictOfFile : Image → Verdict → Type 0
+IsVerdictOfFile = IsFileVerdictBy IsAnswerOf
+
+-- and where it is played from a copy of this institution
+abbrev pub IsFileVerdictFrom : Institution → Image → Verdict → Type 0
+IsFileVerdictFrom copied = IsFileVerdictBy (IsCopyAnswerOf copied)

@@ -7,6 +7,6 @@ mod heads;
 mod playing;
 mod verdict;
 
-pub use files::{audit_file, audit_file_with};
+pub use files::{Unaudited, audit_file, audit_file_with, audit_from_copy, audit_from_copy_with};
 pub use heads::{head_of_file, head_of_file_with};
-pub use verdict::{Verdict, audit_and_play, passes};
+pub use verdict::{Verdict, audit_and_play, audit_and_play_from, passes};

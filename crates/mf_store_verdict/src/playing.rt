@@ -7,11 +7,13 @@ ghost use Rattle.sqlite.specs.State.{HasCleanDisk};
 ghost use Rattle.mf_store_schema.specs.Schemas.{IsUnchangedUnder};
 ghost use Rattle.mf_store_journal.specs.Reading.{IsThird};
 ghost use Rattle.mf_store_sound.specs.Told.{IsAny};
-ghost use Rattle.mf_store_played.specs.Answer.{IsAnswerOf};
+ghost use Rattle.mf_store_verdict.specs.Verdict.{IsRightBy};
 
 use mf_base::Fault;
-use mf_store_played::{Played, play_tables};
+use mf_store::Store;
+use mf_store_played::{Played, play_tables, play_tables_from};
 use mf_store_schema::{Version, version_of};
+use mf_store_sql::pages::PageStore;
 use sqlite::{Alter, Connection};
 use sqlite_schema::schema::Schema;
 use std::alloc::Global;
@@ -26,11 +28,33 @@ pub(crate) fn is_third(found: &Schema) -> bool
     }
 }
 
-/// What the play of the journal says of the tables beside it, whatever tables stand there. It plays in memory and
-/// changes nothing. The error is F20; so it is where no journal stands beside the tables.
+/// What the play of the journal says of the tables beside it, from its founding, or from a copy where one is given.
+fn play<S: Alter>(
+    alloc: Global,
+    connection: &mut Connection<S>,
+    copy: Option<Store<PageStore>>,
+) -> Result<Played, Fault>
+    requires alone { connection.old.in_transaction ≡ false }
+    ensures kept { IsUnchangedUnder IsThird (state S.Store connection.old) (state S.Store connection.new) }
+    ensures gives_up { IfErr result (λ fault. fault ≡ F20) }
+    ensures open { HasCleanDisk (state S.Store connection.new)
+        → OnOk result (IsTrue (state S.Store connection.new).is_open) }
+    ensures answer { HasCleanDisk (state S.Store connection.new) → IsThird (state S.Store connection.old).now.schema
+        → IfOk result (IsRightBy copy (state S.Store connection.old).now.trees) }
+    ensures mode { connection.new.in_transaction ≡ false }
+{
+    match copy {
+        None => play_tables(alloc, connection),
+        Some(copy) => play_tables_from(alloc, connection, copy),
+    }
+}
+
+/// The same whatever tables stand there. It plays in memory and changes nothing but the copy. The error is F20; so it is
+/// where no journal stands beside the tables.
 pub(crate) fn play_known<S: Alter>(
     alloc: Global,
     connection: &mut Connection<S>,
+    copy: Option<Store<PageStore>>,
 ) -> Result<Played, Fault>
     requires alone { connection.old.in_transaction ≡ false }
     ensures kept { IsUnchangedUnder IsAny (state S.Store connection.old) (state S.Store connection.new) }
@@ -38,11 +62,11 @@ pub(crate) fn play_known<S: Alter>(
     ensures open { HasCleanDisk (state S.Store connection.new)
         → OnOk result (IsTrue (state S.Store connection.new).is_open) }
     ensures answer { HasCleanDisk (state S.Store connection.new) → IsThird (state S.Store connection.old).now.schema
-        → IfOk result (IsAnswerOf (state S.Store connection.old).now.trees) }
+        → IfOk result (IsRightBy copy (state S.Store connection.old).now.trees) }
     ensures mode { connection.new.in_transaction ≡ false }
 {
     if !is_third(connection.schema()) {
         return Err(Fault::F20);
     }
-    play_tables(alloc, connection)
+    play(alloc, connection, copy)
 }

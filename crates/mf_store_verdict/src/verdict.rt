@@ -1,20 +1,25 @@
 //! The audit of the tables of a connection, with the play of their journal.
 
-ghost use Rattle.std.specs.Prelude.{◌≡◌, ◌↔◌, IsTrue, false, IfOk, IfErr};
+ghost use Rattle.std.specs.Prelude.{◌≡◌, ◌↔◌, IsTrue, false, None, Some, IfOk, IfErr};
 ghost use Rattle.mf_base.specs.declared.fault.Fault.TheVariants.{F20};
 ghost use Rattle.sqlite.specs.Effect.{Database};
+ghost use Rattle.sqlite.specs.Files.{over_files};
 ghost use Rattle.sqlite.specs.Held.{state};
 ghost use Rattle.sqlite.specs.State.{HasCleanDisk};
+ghost use Rattle.mf_model.specs.Institution.{Institution};
 ghost use Rattle.mf_store_schema.specs.Schemas.{IsUnchangedUnder};
 ghost use Rattle.mf_store_sound.specs.Told.{IsAny, HaveOwnRowids};
 ghost use Rattle.mf_store_audit.specs.Audits.{FindsSound, IsAuditOf};
-ghost use Rattle.mf_store_verdict.specs.Verdict.{FindsJournal, IsPassed, IsVerdictOf, Passes, Shows};
+ghost use Rattle.mf_store.specs.Stands.{StandsFor};
+ghost use Rattle.mf_store_verdict.specs.Verdict.{FindsJournal, IsPassed, IsRightBy, IsVerdictBy, IsVerdictFrom, IsVerdictOf, Passes, Shows};
 
 use crate::playing::play_known;
 use mf_base::Fault;
+use mf_store::Store;
 use mf_store_audit::{Audit, audit_tables};
 use mf_store_played::Played;
 use mf_store_schema::{Progress, Version};
+use mf_store_sql::pages::PageStore;
 use sqlite::{Alter, Connection};
 use std::alloc::Global;
 
@@ -52,7 +57,7 @@ fn is_passed(played: &Option<Played>) -> bool
     match played {
         None => true,
         Some(Played::Leads(_) | Played::NoFounding(_)) => true,
-        Some(Played::Stops { .. } | Played::Differs(_)) => false,
+        Some(Played::Stops { .. } | Played::Differs(_) | Played::OtherCopy(_)) => false,
     }
 }
 
@@ -68,16 +73,18 @@ fn play_found<S: Alter>(
     alloc: Global,
     connection: &mut Connection<S>,
     audit: Audit,
+    copy: Option<Store<PageStore>>,
 ) -> Result<Verdict, Fault>
     requires alone { connection.old.in_transaction ≡ false }
     requires finds { FindsJournal audit }
     ensures kept { IsUnchangedUnder IsAny (state S.Store connection.old) (state S.Store connection.new) }
     ensures exact { HasCleanDisk (state S.Store connection.new) → (db : Database)
-        → Shows (state S.Store connection.old) db → IsAuditOf db audit → IfOk result (IsVerdictOf db) }
+        → Shows (state S.Store connection.old) db → IsAuditOf db audit
+        → IfOk result (IsVerdictBy (IsRightBy copy) db) }
     ensures gives_up { IfErr result (λ fault. fault ≡ F20) }
     ensures mode { connection.new.in_transaction ≡ false }
 {
-    match play_known(alloc, connection) {
+    match play_known(alloc, connection, copy) {
         Ok(played) => Ok(Verdict {
             audit,
             played: Some(played),
@@ -91,16 +98,18 @@ fn verdict_of<S: Alter>(
     alloc: Global,
     connection: &mut Connection<S>,
     audit: Audit,
+    copy: Option<Store<PageStore>>,
 ) -> Result<Verdict, Fault>
     requires alone { connection.old.in_transaction ≡ false }
     ensures kept { IsUnchangedUnder IsAny (state S.Store connection.old) (state S.Store connection.new) }
     ensures exact { HasCleanDisk (state S.Store connection.new) → (db : Database)
-        → Shows (state S.Store connection.old) db → IsAuditOf db audit → IfOk result (IsVerdictOf db) }
+        → Shows (state S.Store connection.old) db → IsAuditOf db audit
+        → IfOk result (IsVerdictBy (IsRightBy copy) db) }
     ensures gives_up { IfErr result (λ fault. fault ≡ F20) }
     ensures mode { connection.new.in_transaction ≡ false }
 {
     if finds_journal(&audit) {
-        return play_found(alloc, connection, audit);
+        return play_found(alloc, connection, audit, copy);
     }
     Ok(Verdict {
         audit,
@@ -108,9 +117,30 @@ fn verdict_of<S: Alter>(
     })
 }
 
+/// The verdict on the tables of a connection, from the founding of a journal or from a copy.
+fn audit_with<S: Alter, P: Progress>(
+    alloc: Global,
+    connection: &mut Connection<S>,
+    copy: Option<Store<PageStore>>,
+    all: bool,
+    progress: &mut P,
+) -> Result<Verdict, Fault>
+    requires alone { connection.old.in_transaction ≡ false }
+    ensures kept { IsUnchangedUnder IsAny (state S.Store connection.old) (state S.Store connection.new) }
+    ensures exact { HasCleanDisk (state S.Store connection.new) → HaveOwnRowids (state S.Store connection.old).now
+        → IfOk result (IsVerdictBy (IsRightBy copy) (state S.Store connection.old).now) }
+    ensures gives_up { IfErr result (λ fault. fault ≡ F20) }
+    ensures mode { connection.new.in_transaction ≡ false }
+{
+    match audit_tables(alloc, connection, all, progress) {
+        Ok(audit) => verdict_of(alloc, connection, audit, copy),
+        Err(fault) => Err(fault),
+    }
+}
+
 /// Audits the tables of a connection, whatever tables and rows stand there, as `audit_tables` does. Where it finds a
-/// sound institution with a journal, it plays that, in memory. It changes nothing. The error is F20, out of memory or a
-/// failure of the disk.
+/// sound institution with a journal, it plays that from its founding, in memory. It changes nothing. The error is F20,
+/// out of memory or a failure of the disk.
 pub fn audit_and_play<S: Alter, P: Progress>(
     alloc: Global,
     connection: &mut Connection<S>,
@@ -124,8 +154,25 @@ pub fn audit_and_play<S: Alter, P: Progress>(
     ensures gives_up { IfErr result (λ fault. fault ≡ F20) }
     ensures mode { connection.new.in_transaction ≡ false }
 {
-    match audit_tables(alloc, connection, all, progress) {
-        Ok(audit) => verdict_of(alloc, connection, audit),
-        Err(fault) => Err(fault),
-    }
+    audit_with(alloc, connection, None, all, progress)
+}
+
+/// As `audit_and_play`, but the journal is played from a copy in memory of the institution over which it was begun, and
+/// over that copy.
+pub fn audit_and_play_from<S: Alter, P: Progress>(
+    alloc: Global,
+    connection: &mut Connection<S>,
+    copy: Store<PageStore>,
+    all: bool,
+    progress: &mut P,
+) -> Result<Verdict, Fault>
+    requires alone { connection.old.in_transaction ≡ false }
+    ensures kept { IsUnchangedUnder IsAny (state S.Store connection.old) (state S.Store connection.new) }
+    ensures exact { HasCleanDisk (state S.Store connection.new) → HaveOwnRowids (state S.Store connection.old).now
+        → (copied : Institution) → StandsFor over_files copy copied
+        → IfOk result (IsVerdictFrom copied (state S.Store connection.old).now) }
+    ensures gives_up { IfErr result (λ fault. fault ≡ F20) }
+    ensures mode { connection.new.in_transaction ≡ false }
+{
+    audit_with(alloc, connection, Some(copy), all, progress)
 }

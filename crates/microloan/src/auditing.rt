@@ -6,12 +6,17 @@ ghost use Rattle.microloan.specs.Status.{IsPrintStatus};
 
 use crate::following::Following;
 use crate::places::{Place, place_at};
-use crate::telling::{FAULT, print_line, print_made, tell_no_institution, tell_refusal};
+use crate::telling::{
+    FAULT, print_line, print_made, tell_no_institution, tell_no_journal, tell_refusal,
+};
 use crate::why::{words_of, words_of_place};
 use mf_base::Fault;
 use mf_store_audit::Audit;
-use mf_store_verdict::{Verdict, audit_file, passes};
+use mf_store_files::Refused;
+use mf_store_verdict::{Unaudited, Verdict, audit_file, audit_from_copy, passes};
 use microloan_audit::verdict_text;
+use std::fs;
+use std::io::{self, ErrorKind};
 use std::rt::HostRuntime;
 
 /// Prints what an institution's rows come to and what the play of its journal says of them, or which row breaks which
@@ -42,6 +47,61 @@ fn say_rows(rt: &HostRuntime, file: &str, all: bool) -> u8
     match audit_file(rt, file, all, &mut Following::new(rt, file)) {
         Ok(verdict) => say(rt, &verdict),
         Err(finding) => refuse(rt, words_of(finding)),
+    }
+}
+
+/// The same, but the journal is played from a copy of the file over which it was begun. A file that keeps no journal is
+/// refused then.
+pub fn say_audit_from(rt: &HostRuntime, file: &str, copy: &str, all: bool) -> u8
+    ensures { IsPrintStatus result }
+{
+    match place_at(rt, file) {
+        Place::Database => say_rows_from(rt, file, copy, all),
+        place if place.is_vacant() => tell_no_institution(rt),
+        place => refuse(rt, words_of_place(place)),
+    }
+}
+
+/// Prints the verdict on a database whose journal is played from a copy, and gives the program's status.
+fn say_rows_from(rt: &HostRuntime, file: &str, copy: &str, all: bool) -> u8
+    ensures { IsPrintStatus result }
+{
+    let (log, db) = match copied(rt, copy) {
+        Ok(bytes) => bytes,
+        Err(_) => return refuse(rt, "the copy can't be read"),
+    };
+    match audit_from_copy(rt, file, &log, &db, all, &mut Following::new(rt, file)) {
+        Ok(verdict) if is_unplayed(&verdict) => tell_no_journal(rt),
+        Ok(verdict) => say(rt, &verdict),
+        Err(Unaudited::Copy(refused)) => refuse(rt, words_of_copy(refused)),
+        Err(Unaudited::File(finding)) => refuse(rt, words_of(finding)),
+    }
+}
+
+/// Whether a sound institution keeps no journal.
+fn is_unplayed(verdict: &Verdict) -> bool {
+    matches!(verdict.audit, Audit::Sound { .. }) && verdict.played.is_none()
+}
+
+/// The bytes of the log beside a copy, none where there is no log, and those of the copy.
+fn copied(rt: &HostRuntime, copy: &str) -> io::Result<(Vec<u8>, Vec<u8>)> {
+    let path = fs::canonicalize(rt, copy)?;
+    let log_path = format!(in rt.alloc(); "{}-wal", path.as_str())?;
+    let log = match fs::read(rt, log_path.as_str()) {
+        Ok(log) => log,
+        Err(error) if error.kind() == ErrorKind::NotFound => Vec::new(rt.alloc()),
+        Err(error) => return Err(error),
+    };
+    let db = fs::read(rt, copy)?;
+    Ok((log, db))
+}
+
+/// What is said of a copy of which no institution is made.
+fn words_of_copy(refused: Refused) -> &'static str {
+    match refused {
+        Refused::NoInstitution => "the copy holds no institution",
+        Refused::Failed(Fault::F19) => "the copy holds no sound institution",
+        Refused::Failed(_) => "the copy is no database, or out of memory",
     }
 }
 

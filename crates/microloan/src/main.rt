@@ -17,7 +17,7 @@ ghost use Rattle.microloan_commands.specs.Printed.{HasLongGrace};
 ghost use Rattle.microloan.specs.Status.{IsPrintStatus};
 
 use crate::archiving::Archiving;
-use crate::auditing::say_audit;
+use crate::auditing::{say_audit, say_audit_from};
 use crate::following::Following;
 use crate::ledger::{basis_asked, form_asked, names_in};
 use crate::places::place_at;
@@ -32,8 +32,8 @@ use mf_ledger_play::BooksAsked;
 use mf_store_files::{Refused, Unjournaled, open, open_existing, open_journaled};
 use microloan_commands::schedule;
 use microloan_words::{
-    ArchiveWords, BatchWords, CollectWords, Command, LedgerWords, ScheduleWords, ServeWords,
-    StaffWords, UpgradeWords, Words, command, default_day,
+    ArchiveWords, AuditWords, BatchWords, CollectWords, Command, LedgerWords, ScheduleWords,
+    ServeWords, StaffWords, UpgradeWords, Words, command, default_day,
 };
 use std::process::ExitCode;
 use std::{env, io};
@@ -68,11 +68,22 @@ fn obey(rt: &HostRuntime, words: &[String]) -> u8 {
         Ok(Command::Report(asked)) => report(rt, &asked),
         Ok(Command::Schedule(asked)) => print_schedule(rt, &asked),
         Ok(Command::Why(asked)) => say_why(rt, asked.file.as_str()),
-        Ok(Command::Audit(asked)) => say_audit(rt, asked.file.as_str(), asked.all),
+        Ok(Command::Audit(asked)) => audit(rt, &asked),
         Ok(Command::Upgrade(asked)) => upgrade(rt, &asked),
         Ok(Command::Archive(asked)) => archive(rt, &asked),
         Ok(Command::Ledger(asked)) => print_ledger(rt, &asked),
         Err(words) => refuse_words(rt, words),
+    }
+}
+
+/// Audits a file, and plays its journal from its founding, or from the copy that is named.
+fn audit(rt: &HostRuntime, asked: &AuditWords<'_>) -> u8
+    ensures { IsPrintStatus result }
+{
+    let file = asked.file.as_str();
+    match &asked.from {
+        None => say_audit(rt, file, asked.all),
+        Some(copy) => say_audit_from(rt, file, copy.as_str(), asked.all),
     }
 }
 

@@ -41,6 +41,11 @@ abbrev pub unplayed_line : Head → List ℕ
 unplayed_line head =
     codes "sound; its journal (" ++ (head_text head ++ codes ") begins at no founding, and was not played")
 
+-- what is said of sound tables whose journal was begun over other rows than the copy's
+abbrev pub other_copy_line : Head → List ℕ
+other_copy_line head =
+    codes "the journal (" ++ (head_text head ++ codes ") was begun over other rows than those of the copy")
+
 -- ---- the line at which a play stops
 
 -- why a line doesn't play

@@ -10,11 +10,11 @@ use Rattle.mf_store_audit.specs.declared.finding.Finding.{Finding}
 use Rattle.mf_store_audit.specs.declared.journal.BrokenJournal.{BrokenJournal}
 use Rattle.mf_store_audit.specs.declared.unread.Unread.{Unread}
 use Rattle.mf_store_played.specs.declared.played.Played.{Played}
-use Rattle.mf_store_played.specs.declared.played.Played.TheVariants.{Leads, NoFounding, Stops, Differs}
+use Rattle.mf_store_played.specs.declared.played.Played.TheVariants.{Leads, NoFounding, Stops, Differs, OtherCopy}
 use Rattle.mf_store_verdict.specs.declared.verdict.Verdict.{Verdict}
 use Rattle.microloan_audit.specs.Journal.{journal_line}
 use Rattle.microloan_audit.specs.Lines.{finding_line}
-use Rattle.microloan_audit.specs.Played.{difference_line, leads_line, stop_line, unplayed_line}
+use Rattle.microloan_audit.specs.Played.{difference_line, leads_line, other_copy_line, stop_line, unplayed_line}
 use Rattle.microloan_audit.specs.SumsText.{sums_text}
 use Rattle.microloan_audit.specs.Unread.{unread_line}
 
@@ -50,13 +50,15 @@ abbrev pub audit_text : Audit → List ℕ
 audit_text = text_ending (codes "sound")
 
 -- What a verdict prints: of sound tables to which their journal leads, or whose journal begins at no founding, that in
--- the last line. Else the line at which the play stops, or the first row that it doesn't give.
+-- the last line. Else the line at which the play stops, or the first row that it doesn't give, or that the journal was
+-- begun over other rows than the copy's.
 abbrev pub text_played : Audit → Option Played → List ℕ
 text_played found None = audit_text found
 text_played found (Some (Leads head)) = text_ending (leads_line head) found
 text_played found (Some (NoFounding head)) = text_ending (unplayed_line head) found
 text_played found (Some (Stops number why)) = audit_line (stop_line number why)
 text_played found (Some (Differs difference)) = audit_line (difference_line difference)
+text_played found (Some (OtherCopy head)) = audit_line (other_copy_line head)
 
 -- the same of a verdict
 abbrev pub verdict_text : Verdict → List ℕ

@@ -55,6 +55,16 @@ pub(crate) fn unplayed_line(alloc: Global, head: Head) -> Result<String, Fault>
     Ok(format!(in alloc; "sound; its journal ({head}) begins at no founding, and was not played")?)
 }
 
+/// What is said of sound tables whose journal was begun over other rows than the copy's.
+pub(crate) fn other_copy_line(alloc: Global, head: Head) -> Result<String, Fault>
+    ensures text { IfOk result (λ text. string_bytes text ≡ spec.other_copy_line head) }
+    ensures only { IsOkUnless result Fault.F20 }
+{
+    let head = head_text(alloc, head)?;
+    let head = head.as_str();
+    Ok(format!(in alloc; "the journal ({head}) was begun over other rows than those of the copy")?)
+}
+
 /// Why a line doesn't play.
 fn stop_words(why: Stop) -> &'static str
     ensures { result.now ≡ spec.stop_words why }

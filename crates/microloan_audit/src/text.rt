@@ -6,7 +6,7 @@ ghost use Rattle.microloan_audit.specs.Text as spec;
 
 use crate::journal::journal_line;
 use crate::line::finding_line;
-use crate::played::{difference_line, leads_line, stop_line, unplayed_line};
+use crate::played::{difference_line, leads_line, other_copy_line, stop_line, unplayed_line};
 use crate::sums::sums_text;
 use crate::unread::unread_line;
 use mf_base::Fault;
@@ -57,6 +57,10 @@ fn text_played(alloc: Global, audit: &Audit, played: &Played) -> Result<String, 
         }
         Played::Differs(difference) => {
             let line = difference_line(alloc, difference)?;
+            audit_line(alloc, line.as_str())
+        }
+        Played::OtherCopy(head) => {
+            let line = other_copy_line(alloc, *head)?;
             audit_line(alloc, line.as_str())
         }
     }

@@ -130,6 +130,7 @@ pub record AreFileWords (rows : List Row) (asked : FileWords) : Type 0 where
 pub record AreAuditWords (rows : List Row) (asked : AuditWords) : Type 0 where
   pub file : first_of (codes "file") rows ≡ Some asked.file
   pub all : first_of (codes "all") rows ≡ Some (flag_text asked.all)
+  pub from : first_of (codes "from") rows ≡ asked.from
 
 -- the options of `upgrade`
 pub record AreUpgradeWords (rows : List Row) (asked : UpgradeWords) : Type 0 where

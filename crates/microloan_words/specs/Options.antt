@@ -89,7 +89,11 @@ file_app name = app_with name (required_rule (codes "file") ∷ [])
 
 -- `audit` with its options
 abbrev pub audit_app : App
-audit_app = app_with (codes "audit") (required_rule (codes "file") ∷ flag_rule (codes "all") ∷ [])
+audit_app = app_with (codes "audit") (
+    required_rule (codes "file")
+    ∷ flag_rule (codes "all")
+    ∷ option_rule (codes "from")
+    ∷ [])
 
 -- `upgrade` with its options
 abbrev pub upgrade_app : App

@@ -176,6 +176,8 @@ pub struct AuditWords<'a> {
     pub file: FilePath<'a>,
     /// Whether each row that breaks a condition is told, and not the first alone.
     pub all: bool,
+    /// The copy from which the journal is played, where one is named.
+    pub from: Option<FilePath<'a>>,
 }
 
 /// The options of `upgrade`.

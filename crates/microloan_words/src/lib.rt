@@ -9,8 +9,8 @@ mod refusal;
 mod values;
 
 pub use asked::{
-    ArchiveWords, BatchWords, CollectWords, Command, FilePath, FileWords, LedgerForm, LedgerWords,
-    ScheduleWords, ServeWords, StaffWords, ToldText, UpgradeWords, Words,
+    ArchiveWords, AuditWords, BatchWords, CollectWords, Command, FilePath, FileWords, LedgerForm,
+    LedgerWords, ScheduleWords, ServeWords, StaffWords, ToldText, UpgradeWords, Words,
 };
 pub use asking::command;
 pub use values::default_day;

@@ -12,7 +12,7 @@ use clap::{Arg, ArgAction, Command};
 use std::alloc::{AllocError, Global};
 
 /// This release, and the schema of the files that it writes.
-const VERSION: &str = "1.7.0 (schema 2)";
+const VERSION: &str = "1.8.0 (schema 2)";
 
 /// Whether an option must be given, has a text that stands where it isn't, or is a flag.
 pub(crate) enum Need {
@@ -147,13 +147,19 @@ const REPORT_OPTIONS: [CommandOption; 3] = [FILE, STAFF, EXISTING];
 const FILE_OPTIONS: [CommandOption; 1] = [FILE];
 
 /// The options of `audit`.
-const AUDIT_OPTIONS: [CommandOption; 2] = [
+const AUDIT_OPTIONS: [CommandOption; 3] = [
     FILE,
     CommandOption {
         id: "all",
         value_name: "",
         help: "Tell each row that breaks a condition",
         need: Need::Flag,
+    },
+    CommandOption {
+        id: "from",
+        value_name: "COPY",
+        help: "The copy over which the journal was begun",
+        need: Need::Optional,
     },
 ];
 
@@ -479,8 +485,10 @@ fn audit_command<'a>(alloc: Global) -> Result<Command<'a>, AllocError>
          status is 0. Where it doesn't, a line says which row breaks which condition: the\n\
          status is 1. A journal is played, too: its lines are answered again in memory,\n\
          and a line says which row they don't give, or which of them doesn't play.\n\
-         Nothing is changed. Audit a copy: the file is held meanwhile.\n\n\
-         Example:\n  microloan audit --file copy.db",
+         Where upgrade --journal began it, --from names the copy of before, to play it\n\
+         over. Nothing is changed. Audit a copy: the file is held meanwhile.\n\n\
+         Examples:\n  microloan audit --file copy.db\n  \
+         microloan audit --file copy.db --from before-the-journal.db",
     );
     with_options(alloc, command, AUDIT_OPTIONS.as_slice())
 }

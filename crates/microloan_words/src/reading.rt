@@ -220,7 +220,8 @@ pub(crate) fn audit_words<'a>(options: &ArgMatches<'a>) -> Result<AuditWords<'a>
 {
     let file = file_at(options).ok_or(Wrong::File)?;
     let all = flag_at(options, "all").ok_or(Wrong::All)?;
-    Ok(AuditWords { file, all })
+    let from = path_at(options, "from");
+    Ok(AuditWords { file, all, from })
 }
 
 /// The options of `upgrade`, or the first that isn't what it should be.

@@ -217,9 +217,14 @@ fn reads_which_file_to_look_into(rt: HostRuntime) -> Result<(), Fail> {
         return Err(Fail::from("a file to look into"));
     };
     assert_eq!(rt; asked.file.as_str(), "desk.db");
-    for (line, all) in [
-        ("microloan audit --file desk.db", false),
-        ("microloan audit --file desk.db --all", true),
+    for (line, all, from) in [
+        ("microloan audit --file desk.db", false, None),
+        ("microloan audit --file desk.db --all", true, None),
+        (
+            "microloan audit --file desk.db --from old.db",
+            false,
+            Some("old.db"),
+        ),
     ] {
         let words = words_of(alloc, line)?;
         let Ok(Command::Audit(asked)) = command(alloc, &words) else {
@@ -227,6 +232,11 @@ fn reads_which_file_to_look_into(rt: HostRuntime) -> Result<(), Fail> {
         };
         assert_eq!(rt; asked.file.as_str(), "desk.db");
         assert_eq!(rt; asked.all, all);
+        let named = match &asked.from {
+            Some(path) => Some(path.as_str()),
+            None => None,
+        };
+        assert!(rt; named == from);
     }
     Ok(())
 }
@@ -561,7 +571,7 @@ fn tells_the_version(rt: HostRuntime) -> Result<(), Fail> {
         let Err(Words::Version(text)) = command(alloc, &words) else {
             return Err(Fail::from("a version"));
         };
-        assert_eq!(rt; text.as_str(), "microloan 1.7.0 (schema 2)\n");
+        assert_eq!(rt; text.as_str(), "microloan 1.8.0 (schema 2)\n");
     }
     let said = line_of(&rt, alloc, "microloan report --version")?;
     assert!(rt; said.as_str().find("--version").is_some());

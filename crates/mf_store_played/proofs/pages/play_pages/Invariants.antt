@@ -6,6 +6,6 @@ use Rattle.mf_store_played.proofs.pages.play_pages.Given as goal
 abbrev pub invariant-pages : goal.invariant-pages
 invariant-pages g l = record {
   mode : l.connection.in_transaction ≡ false;
-  going : Going g.T.InstitutionStore (state g.S.Store l.initial.connection) (state g.S.Store l.connection)
+  going : Going g.T.InstitutionStore l.after (state g.S.Store l.initial.connection) (state g.S.Store l.connection)
       l.initial.store l.store l.number;
 }

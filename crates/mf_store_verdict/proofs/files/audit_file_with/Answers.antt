@@ -1,6 +1,7 @@
 use Rattle.sqlite.specs.Files.{file_state}
 use Rattle.sqlite_wal.specs.Files.{image_at}
 use Rattle.mf_store_sound.proofs.FileLemmas.{left_as_held}
+use Rattle.mf_store_played.specs.Answer.{IsAnswerOf}
 use Rattle.mf_store_verdict.proofs.FileLemmas.{verdict_of_file}
 use Rattle.mf_store_verdict.proofs.files.audit_file_with.Goals as goal
 
@@ -8,7 +9,7 @@ pub returns-in-Ok-clause-exact : goal.returns-in-Ok-clause-exact
 returns-in-Ok-clause-exact g c clean =
     let told = c.in-Ok in
     let shows = c.in_ok-connection.ensures.shows (told.ensures.kept.premise clean) in
-    verdict_of_file (image_at g.S.Start) (file_state c.in_ok-connection.connection) shows told.verdict
+    verdict_of_file (image_at g.S.Start) (file_state c.in_ok-connection.connection) shows IsAnswerOf told.verdict
     (told.ensures.exact clean shows.rowids)
 
 pub returns-in-Ok-clause-leaves : goal.returns-in-Ok-clause-leaves

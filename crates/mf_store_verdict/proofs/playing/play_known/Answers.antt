@@ -9,14 +9,14 @@ returns-then-not-is_third-clause-kept g c = unchanged_any (state g.S.Store c.arg
 
 pub returns-clause-kept : goal.returns-clause-kept
 returns-clause-kept g c = any_of_third (state g.S.Store c.args.connection.now)
-    (state g.S.Store c.play_tables.new.connection)
-    (subst IsThird c.schema.ensures.value (c.is_third.ensures.0 c.if-not-is_third.false)) c.play_tables.ensures.kept
+    (state g.S.Store c.play.new.connection)
+    (subst IsThird c.schema.ensures.value (c.is_third.ensures.0 c.if-not-is_third.false)) c.play.ensures.kept
 
 pub returns-clause-gives_up : goal.returns-clause-gives_up
-returns-clause-gives_up g c = c.play_tables.ensures.gives_up
+returns-clause-gives_up g c = c.play.ensures.gives_up
 
 pub returns-clause-open : goal.returns-clause-open
-returns-clause-open g c = c.play_tables.ensures.open
+returns-clause-open g c = c.play.ensures.open
 
 pub returns-clause-answer : goal.returns-clause-answer
-returns-clause-answer g c = c.play_tables.ensures.answer
+returns-clause-answer g c = c.play.ensures.answer

@@ -1,5 +1,6 @@
 use Rattle.sqlite.specs.Held.{state}
 use Rattle.mf_store_verdict.proofs.PlayLemmas.{not_found, unchanged_any, verdict_unplayed}
+use Rattle.mf_store_verdict.specs.Verdict.{IsRightBy}
 use Rattle.mf_store_verdict.proofs.verdict.verdict_of.Goals as goal
 
 pub play_found-requires-clause-finds : goal.play_found-requires-clause-finds
@@ -18,5 +19,5 @@ pub returns-clause-kept : goal.returns-clause-kept
 returns-clause-kept g c = unchanged_any (state g.S.Store c.args.connection.now)
 
 pub returns-clause-exact : goal.returns-clause-exact
-returns-clause-exact g c clean db shows told = verdict_unplayed db c.args.audit
+returns-clause-exact g c clean db shows told = verdict_unplayed (IsRightBy c.args.copy) db c.args.audit
     (not_found c.args.audit c.finds_journal.result c.finds_journal.ensures c.if-finds_journal.false) told

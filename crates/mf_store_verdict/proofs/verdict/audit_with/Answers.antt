@@ -1,7 +1,7 @@
 use Rattle.sqlite.specs.Held.{state}
 use Rattle.mf_store_sound.specs.Told.{IsAny}
 use Rattle.mf_store_audit.proofs.KeptLemmas.{then_under}
-use Rattle.mf_store_verdict.proofs.verdict.audit_and_play.Goals as goal
+use Rattle.mf_store_verdict.proofs.verdict.audit_with.Goals as goal
 
 pub verdict_of-requires : goal.verdict_of-requires
 verdict_of-requires g c = record { alone = c.audit_tables.ensures.mode }

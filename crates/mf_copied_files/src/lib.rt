@@ -1,0 +1,7 @@
+//! Copies in memory of files that hold an institution: what is done over one changes no file.
+#![tactic(auto)]
+
+mod copying;
+mod memory;
+
+pub use copying::copy_in_memory;
