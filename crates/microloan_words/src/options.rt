@@ -487,7 +487,7 @@ fn audit_command<'a>(alloc: Global) -> Result<Command<'a>, AllocError>
          and a line says which row they don't give, or which of them doesn't play.\n\
          Where upgrade --journal began it, --from names the copy of before, to play it\n\
          over. Nothing is changed. Audit a copy: the file is held meanwhile.\n\n\
-         Examples:\n  microloan audit --file copy.db\n  \
+         Example:\n  microloan audit --file copy.db\n  \
          microloan audit --file copy.db --from before-the-journal.db",
     );
     with_options(alloc, command, AUDIT_OPTIONS.as_slice())
