@@ -1,7 +1,6 @@
 //! The commands over an institution in vectors: a sheet from a source, the report's text, connections to a port.
 
 use super::no_lists::WITHOUT;
-use crate::{Client, Clients};
 use mf_base::{Cause, Day, Fault, StreamFault};
 use mf_desk_books::streams::{CLIENT, CREATED, ENTERED, LENT, SHEET};
 use mf_desk_books::{Books, Torn};
@@ -49,14 +48,6 @@ Content-Length: 14\r\n\
 Connection: close\r\n\
 \r\n\
 {\"fault\":\"F1\"}";
-
-/// The response to a message that creates a second client of the head office.
-const CREATED_NEXT: &str = "HTTP/1.1 201 Created\r\n\
-Content-Type: application/json\r\n\
-Content-Length: 24\r\n\
-Connection: close\r\n\
-\r\n\
-{\"client\":\"0001-000002\"}";
 
 /// An institution that begins on 2024-01-31, after these request lines.
 fn books_after(alloc: Global, lines: &str) -> Result<Books, Fail> {
@@ -223,40 +214,6 @@ fn connections_are_served_in_turn(rt: HostRuntime) -> Result<(), Fail> {
         0,
     )?;
     assert_eq!(rt; served, 0);
-    Ok(())
-}
-
-/// Of four clients in memory one sends nothing, one half a head and two a message. As many are served as are asked for, and
-/// what is written to each is the response to its own message. Once no client is left, no connection is accepted.
-#[test]
-fn clients_in_memory_are_served_in_turn(rt: HostRuntime) -> Result<(), Fail> {
-    let alloc = rt.alloc();
-    let mut books = books_after(alloc, "")?;
-    let mut all = Vec::new(alloc);
-    for sent in ["", "POST /clients HTTP/1.1\r\nX-Sta", CLIENT, CLIENT] {
-        all.push(Client {
-            sent: sent.as_bytes(),
-            written: Vec::new(alloc),
-        })?;
-    }
-    let mut clients = Clients::new(alloc, all);
-    for (connections, answered, responses) in [
-        (3, 2, ["", CUT, CREATED, ""]),
-        (2, 1, ["", CUT, CREATED, CREATED_NEXT]),
-    ] {
-        let served = serve_connections(
-            alloc,
-            WITHOUT,
-            false,
-            &mut books,
-            &mut clients,
-            connections,
-        )?;
-        assert_eq!(rt; served, answered);
-        for (client, response) in clients.as_slice().iter().zip(responses) {
-            assert_eq!(rt; client.written.as_slice(), response.as_bytes());
-        }
-    }
     Ok(())
 }
 
