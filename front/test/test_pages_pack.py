@@ -49,6 +49,11 @@ const real = window.fetch;
 window.fetch = (url, more) => /[/](several|accounts)[?]/.test(url) ? Promise.resolve(new Response('<html>', {status: 404})) :
     real(url, more);
 """
+# a desk that is too slow to tell accounts
+LOST = """
+const real = window.fetch;
+window.fetch = (url, more) => url.includes('/accounts?') ? Promise.reject(new TypeError('lost')) : real(url, more);
+"""
 # breaks a part of the first replies to several readings off, as where the program ends in the midst
 BROKEN = """
 const real = window.fetch; window.broken = 0; window.most = 2;
@@ -403,6 +408,24 @@ class Pack(offline.Case):
             zoe.open_pack("pack/3/0003-000002")
             zoe.wait(lambda: "No active loan." in zoe.text("main"), "who has no loan")
 
+    def test_accounts_that_do_not_come(self):
+        """There is a pack all the same, and a receipt tells what is certain."""
+        with loans.desk_with(institution()) as it:
+            zoe = self.phone(it, "zoe")
+            zoe.go("pack")
+            zoe.wait(lambda: zoe.box("2 North"), "the offices")
+            zoe.script(LOST)
+            zoe.take_here()
+            self.is_certain(zoe)
+
+    def is_certain(self, zoe):
+        zoe.follow("2 North")
+        zoe.open_round()
+        zoe.type(1, "100")
+        zoe.follow("Receipt", ".round-lines")
+        zoe.wait(lambda: zoe.all(".code"), "the receipt")
+        self.assertEqual(dict(zoe.script(offline.FACTS))["Left for certain: before, less paid"], "920.00")
+
     def test_over_an_older_front(self):
         """One that has no message for several readings is asked for each, and for no accounts: a receipt tells what is
         certain."""
@@ -413,12 +436,7 @@ class Pack(offline.Case):
             zoe.script(OLDER)
             zoe.take_here()
             self.assertEqual(self.rows(zoe, "Day pack", "Office", "Clients"), [["2 North", str(FEW)]])
-            zoe.follow("2 North")
-            zoe.open_round()
-            zoe.type(1, "100")
-            zoe.follow("Receipt", ".round-lines")
-            zoe.wait(lambda: zoe.all(".code"), "the receipt")
-            self.assertEqual(dict(zoe.script(offline.FACTS))["Left for certain: before, less paid"], "920.00")
+            self.is_certain(zoe)
 
     def test_broken_off(self):
         """What comes broken off is asked for again; where it stays so the pack before stays, and that is told."""

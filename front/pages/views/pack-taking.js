@@ -92,10 +92,19 @@ function nearest(lines, day) {
     return [...inOrder(asked), ...inOrder(later)];
 }
 
+// A pack without accounts is better than none: where a desk is too slow to tell them, a receipt says what is certain.
+function withoutAccounts(problem) {
+    if (!(problem instanceof Problem)) {
+        throw problem;
+    }
+    console.warn("no accounts in the pack", problem);
+    return new Map();
+}
+
 // Gives lines the accounts of their loans, by which this phone works out what a payment leaves. Where something was
 // entered between two readings a line has none.
 async function giveAccounts(lines) {
-    const told = await readLoans(lines.map(({loan}) => loan));
+    const told = await readLoans(lines.map(({loan}) => loan)).catch(withoutAccounts);
     for (const line of lines.filter(({loan}) => told.has(loan))) {
         const {loan, entries} = told.get(line.loan);
         line.account = total(loan.outstanding) === line.owed ? accountOf(loan, entries) : null;
