@@ -45,7 +45,7 @@ fn hold_loan<S: InstitutionStore>(
 }
 
 /// Reads the loans of an office, each once, and holds them behind the others. The error is F20.
-fn hold_office<S: InstitutionStore>(
+pub fn hold_office<S: InstitutionStore>(
     alloc: Global,
     store: &mut S,
     office: OfficeNo,

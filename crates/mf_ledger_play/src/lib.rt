@@ -10,4 +10,5 @@ mod loans;
 mod passed;
 
 pub use form::{BooksAsked, BooksForm};
+pub use held::{HeldLoan, hold_office};
 pub use lines::book_lines;

@@ -1,2 +1,4 @@
 pub mod PageLemmas
 pub mod AnswerLemmas
+pub mod EndLemmas
+pub mod MovementLemmas

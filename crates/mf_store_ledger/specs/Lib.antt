@@ -1,3 +1,4 @@
 pub mod Journal
 pub mod Playing
 pub mod Answer
+pub mod Movement

@@ -1,4 +1,4 @@
-//! The books of an institution that keeps a journal, written on standard output.
+//! The books of an institution that keeps a journal, and what loans come to by portion, written on standard output.
 
 ghost use Rattle.std.specs.Prelude.{◌≡◌, cond, false};
 ghost use Rattle.mf_ledger.specs.declared.basis.Basis.TheVariants.{Cash, Accrual};
@@ -9,9 +9,11 @@ use crate::working::let_go;
 use mf_base::{Cause, Fault};
 use mf_ledger::{Basis, Names};
 use mf_ledger_play::{BooksAsked, BooksForm};
+use mf_portions_play::write_portions;
 use mf_store::Store;
-use mf_store_ledger::{Books, write_books};
-use microloan_words::{FilePath, LedgerForm};
+use mf_store_files::close;
+use mf_store_ledger::{Books, write_books, write_movement};
+use microloan_words::{DaySpan, FilePath, LedgerForm};
 use sqlite::{Connection, FileStore, Files};
 use sqlite_disk::Disk;
 use std::fs;
@@ -70,6 +72,43 @@ pub fn write_ledger<R: Print + Eprint + AllocGlobal, D: Disk + Drop>(
     let mut connection = store.release();
     let books = write_books(rt.alloc(), &mut connection, asked);
     let_go(close_tables(connection));
+    print_books(rt, books)
+}
+
+/// Writes the movement of a span of days by the journal that a store keeps, and gives the program's status. The file is
+/// closed first.
+pub fn write_moved<R: Print + Eprint + AllocGlobal, D: Disk + Drop>(
+    rt: &R,
+    store: Store<FileStore<D>>,
+    span: DaySpan,
+) -> u8
+    ensures { IsPrintStatus result }
+{
+    let mut connection = store.release();
+    let moved = write_movement(rt.alloc(), &mut connection, span.first, span.last);
+    let_go(close_tables(connection));
+    print_books(rt, moved)
+}
+
+/// Prints what loans come to by portion, and gives the program's status. The file is closed first.
+pub fn print_portions<R: Print + Eprint + AllocGlobal, D: Disk + Drop>(
+    rt: &R,
+    mut store: Store<FileStore<D>>,
+) -> u8
+    ensures { IsPrintStatus result }
+{
+    let made = write_portions(rt.alloc(), &mut store);
+    let_go(close(store));
+    match made {
+        Ok(text) => print_bytes(rt, &text),
+        Err(fault) => tell_refusal(rt, fault),
+    }
+}
+
+/// Prints what was written of a journal, or says why there is nothing, and gives the program's status.
+fn print_books<R: Print + Eprint>(rt: &R, books: Result<Books, Fault>) -> u8
+    ensures { IsPrintStatus result }
+{
     match books {
         Ok(Books::Written(text)) => print_bytes(rt, &text),
         Ok(Books::NoFounding) => tell_no_founding(rt),

@@ -32,7 +32,8 @@ use mf_ledger_play::BooksAsked;
 use mf_store_files::{Refused, Unjournaled, open, open_existing, open_journaled};
 use microloan_commands::schedule;
 use microloan_words::{
-    ArchiveWords, AuditWords, BatchWords, CollectWords, Command, LedgerWords, ScheduleWords,
+    ArchiveWords, AuditWords, BatchWords, CollectWords, Command, LedgerWords, PortionsWords,
+    ScheduleWords,
     ServeWords, StaffWords, UpgradeWords, Words, command, default_day,
 };
 use std::process::ExitCode;
@@ -72,6 +73,7 @@ fn obey(rt: &HostRuntime, words: &[String]) -> u8 {
         Ok(Command::Upgrade(asked)) => upgrade(rt, &asked),
         Ok(Command::Archive(asked)) => archive(rt, &asked),
         Ok(Command::Ledger(asked)) => print_ledger(rt, &asked),
+        Ok(Command::Portions(asked)) => portions(rt, &asked),
         Err(words) => refuse_words(rt, words),
     }
 }
@@ -226,6 +228,22 @@ fn print_ledger(rt: &HostRuntime, asked: &LedgerWords<'_>) -> u8
         existing: true,
         journal: true,
         day: default_day(),
+    };
+    work_where(rt, asked.file.as_str(), wanted, work, &[])
+}
+
+/// Prints what loans come to by portion, or what moved on a span of days, where the institution must keep a journal.
+fn portions(rt: &HostRuntime, asked: &PortionsWords<'_>) -> u8
+    ensures { IsPrintStatus result }
+{
+    let wanted = Wanted {
+        existing: true,
+        journal: asked.span.is_some(),
+        day: default_day(),
+    };
+    let work = match asked.span {
+        None => Work::Portions,
+        Some(span) => Work::Moved(span),
     };
     work_where(rt, asked.file.as_str(), wanted, work, &[])
 }

@@ -5,7 +5,7 @@ ghost use Rattle.mf_base.specs.DayText.{last_entered_day};
 ghost use Rattle.microloan.specs.Status.{IsPrintStatus};
 
 use crate::archiving::{Archiving, archive_into};
-use crate::ledger::write_ledger;
+use crate::ledger::{print_portions, write_ledger, write_moved};
 use crate::telling::{
     print_line, print_made, tell_cause, tell_end, tell_person, tell_reading, tell_refusal,
     tell_sheet,
@@ -20,6 +20,7 @@ use mf_store_lists::StoreLists;
 use mf_wire_lines::{WatchedReader, WatchedWriter};
 use microloan_commands::{SocketListener, answer_lines, report};
 use microloan_files::{collect_and_close, run_and_close, serve_and_close};
+use microloan_words::DaySpan;
 use sqlite::{FileStore, Files};
 use sqlite_disk::Disk;
 use std::io;
@@ -56,6 +57,10 @@ pub enum Work<'a> {
     Archive(Archiving<'a>),
     /// The books of the institution are written.
     Ledger(BooksAsked),
+    /// What its loans come to by portion is printed.
+    Portions,
+    /// What moved on a span of business days is printed.
+    Moved(DaySpan),
 }
 
 /// Works over the store of a file, closes it (`mf_store_files::close`), and gives the program's status. Where closing
@@ -80,6 +85,8 @@ pub fn work_on<D: Disk + Drop>(
         Work::Upgrade { journal } => upgrade_store(rt, file, store, journal),
         Work::Archive(archiving) => archive_into(rt, file, store, archiving),
         Work::Ledger(asked) => write_ledger(rt, store, &asked),
+        Work::Portions => print_portions(rt, store),
+        Work::Moved(span) => write_moved(rt, store, span),
     }
 }
 

@@ -1,5 +1,5 @@
 -- What the program is asked to do, as it follows from the words.
-use Rattle.std.specs.Prelude.{◌≡◌, ℕ, ◌<◌, ◌≤◌, ◌==◌, Bool, true, false, IsTrue, List, length, codes, Option, Some}
+use Rattle.std.specs.Prelude.{◌≡◌, ℕ, ◌<◌, ◌≤◌, ◌==◌, Bool, true, false, IsTrue, List, length, codes, Option, Some, None}
 use Rattle.std.specs.Prelude.{is_some, IfSome, Result, Ok, IfOk, IfErr, if◌then◌else◌}
 use Rattle.std.specs.Str.Parse.{IsNumeral, digits_value, without_leading_plus}
 use Rattle.clap.specs.Words.{Row, Text, Kinds, first_of, subcommand_of, fault_of}
@@ -23,12 +23,14 @@ use Rattle.microloan_words.specs.declared.asked.ArchiveWords.{ArchiveWords}
 use Rattle.microloan_words.specs.declared.asked.LedgerForm.{LedgerForm}
 use Rattle.microloan_words.specs.declared.asked.LedgerForm.TheVariants.{Hledger, Beancount, Sheet}
 use Rattle.microloan_words.specs.declared.asked.LedgerWords.{LedgerWords}
+use Rattle.microloan_words.specs.declared.asked.DaySpan.{DaySpan}
+use Rattle.microloan_words.specs.declared.asked.PortionsWords.{PortionsWords}
 use Rattle.microloan_words.specs.declared.asked.ScheduleWords.{ScheduleWords}
 use Rattle.microloan_words.specs.declared.asked.Words.{Words}
 use Rattle.microloan_words.specs.declared.asked.Words.TheVariants.{Bad, Help, Version, Memory}
 use Rattle.microloan_words.specs.declared.asked.Command.{Command}
 use Rattle.microloan_words.specs.declared.asked.Command.TheVariants.{Batch, Serve, Collect, Report, Schedule, Why}
-use Rattle.microloan_words.specs.declared.asked.Command.TheVariants.{Audit, Upgrade, Archive, Ledger}
+use Rattle.microloan_words.specs.declared.asked.Command.TheVariants.{Audit, Upgrade, Archive, Ledger, Portions}
 
 -- the option's text is this number in decimal digits, and the number lies in its limits
 pub record IsNumberAt (rows : List Row) (id : Text) (least greatest number : ℕ) : Type 0 where
@@ -176,6 +178,18 @@ pub record AreLedgerWords (rows : List Row) (asked : LedgerWords) : Type 0 where
   pub form : IsFormAt rows asked.form
   pub accrual : first_of (codes "accrual") rows ≡ Some (flag_text asked.accrual)
   pub names : first_of (codes "names") rows ≡ asked.names
+  pub copy : first_of (codes "from-copy") rows ≡ asked.copy
+
+-- the options of a span of days, where one is asked for; and neither of them, where none is
+abbrev pub IsSpanIn : List Row → Option DaySpan → Type 0
+IsSpanIn rows None = (first_of (codes "from") rows ≡ None) × (first_of (codes "to") rows ≡ None)
+IsSpanIn rows (Some span) = IsSpanAt rows span.first span.last
+
+-- the options of `portions`
+pub record ArePortionsWords (rows : List Row) (asked : PortionsWords) : Type 0 where
+  pub file : first_of (codes "file") rows ≡ Some asked.file
+  pub existing : first_of (codes "existing") rows ≡ Some (flag_text asked.existing)
+  pub span : IsSpanIn rows asked.span
 
 -- the options of `schedule`
 pub record AreScheduleWords (rows : List Row) (asked : ScheduleWords) : Type 0 where
@@ -220,6 +234,7 @@ HasLimits (Audit asked) = Unit {0}
 HasLimits (Upgrade asked) = Unit {0}
 HasLimits (Archive asked) = asked.to ≤ last_entered_day
 HasLimits (Ledger asked) = asked.first ≤ asked.last
+HasLimits (Portions asked) = Unit {0}
 
 -- the name of a command
 abbrev pub name_of : Command → Text
@@ -233,6 +248,7 @@ name_of (Audit asked) = codes "audit"
 name_of (Upgrade asked) = codes "upgrade"
 name_of (Archive asked) = codes "archive"
 name_of (Ledger asked) = codes "ledger"
+name_of (Portions asked) = codes "portions"
 
 -- the options are those of the command
 abbrev pub AreWords : List Row → Command → Type 0
@@ -246,6 +262,7 @@ AreWords rows (Audit asked) = AreAuditWords rows asked
 AreWords rows (Upgrade asked) = AreUpgradeWords rows asked
 AreWords rows (Archive asked) = AreArchiveWords rows asked
 AreWords rows (Ledger asked) = AreLedgerWords rows asked
+AreWords rows (Portions asked) = ArePortionsWords rows asked
 
 -- what a command and its options ask for, where `clap` found them
 abbrev pub IsAskedIn : Option (Text × List Row) → Command → Type 0

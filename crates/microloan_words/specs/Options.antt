@@ -123,6 +123,16 @@ ledger_app = app_with (codes "ledger") (
     ∷ flag_rule (codes "beancount")
     ∷ flag_rule (codes "accrual")
     ∷ option_rule (codes "names")
+    ∷ option_rule (codes "from-copy")
+    ∷ [])
+
+-- `portions` with its options
+abbrev pub portions_app : App
+portions_app = app_with (codes "portions") (
+    required_rule (codes "file")
+    ∷ flag_rule (codes "existing")
+    ∷ option_rule (codes "from")
+    ∷ option_rule (codes "to")
     ∷ [])
 
 -- `schedule` with its options
@@ -156,5 +166,5 @@ desk_app = with_subcommand (with_subcommand (with_subcommand (with_subcommand ba
 -- the program with its commands
 abbrev pub microloan_app : App
 microloan_app = with_subcommand (with_subcommand (with_subcommand (with_subcommand (with_subcommand (with_subcommand
-    desk_app schedule_app.top) (file_app (codes "why")).top) audit_app.top) upgrade_app.top) archive_app.top)
-    ledger_app.top
+    (with_subcommand desk_app schedule_app.top) (file_app (codes "why")).top) audit_app.top) upgrade_app.top)
+    archive_app.top) ledger_app.top) portions_app.top

@@ -1,5 +1,5 @@
 -- Which option is told to be wrong: the first that isn't as it should be, in the order in which the command takes them.
-use Rattle.std.specs.Prelude.{◌≡◌, ◌⊎◌, ℕ, Bool, List, [], ◌∷◌, codes, Option, Some}
+use Rattle.std.specs.Prelude.{◌≡◌, ◌⊎◌, ℕ, Bool, true, List, [], ◌∷◌, codes, Option, Some, is_some}
 use Rattle.clap.specs.Words.{Row, Text, first_of}
 use Rattle.mf_base.specs.Choices.{frequency_name}
 use Rattle.mf_base.specs.declared.day.Freq.{Freq}
@@ -107,6 +107,20 @@ form_options = Csv ∷ Beancount ∷ Form ∷ []
 -- of `ledger`
 abbrev pub ledger_options : List Wrong
 ledger_options = File ∷ Existing ∷ From ∷ To ∷ Span ∷ Csv ∷ Beancount ∷ Form ∷ Accrual ∷ []
+
+-- of `portions`, before those of its span
+abbrev pub portions_options : List Wrong
+portions_options = File ∷ Existing ∷ []
+
+-- an option of the span is given
+abbrev pub IsSpanNamed : List Row → Type 0
+IsSpanNamed rows =
+    (is_some (first_of (codes "from") rows) ≡ true) ⊎ (is_some (first_of (codes "to") rows) ≡ true)
+
+-- the option of `portions` that is told to be wrong: the first of these, or of those of a span that is named
+abbrev pub IsPortionsWrong : List Row → Wrong → Type 0
+IsPortionsWrong rows wrong = IsFirstWrong rows portions_options wrong
+    ⊎ (IsRight rows File × IsRight rows Existing × IsSpanNamed rows × IsFirstWrong rows span_options wrong)
 
 -- of `schedule`
 abbrev pub schedule_options : List Wrong

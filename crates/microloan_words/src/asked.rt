@@ -29,6 +29,8 @@ pub enum Command<'a> {
     Archive(ArchiveWords<'a>),
     /// Write the books of an institution that keeps a journal.
     Ledger(LedgerWords<'a>),
+    /// Add up what loans come to by portion, or what it moved on a span of days.
+    Portions(PortionsWords<'a>),
 }
 
 /// The path of a file, as it stands in the words. Contracts see its bytes.
@@ -231,6 +233,27 @@ pub struct LedgerWords<'a> {
     pub accrual: bool,
     /// The file with the names of accounts, where one is named.
     pub names: Option<FilePath<'a>>,
+    /// The file as it was when its journal was begun over its rows; none where the journal begins at a founding.
+    pub copy: Option<FilePath<'a>>,
+}
+
+/// A span of days, the first and the last included.
+#[derive(Clone, Copy, PartialEq, Eq)]
+pub struct DaySpan {
+    pub first: Day,
+    /// It isn't before the first.
+    pub last: Day,
+}
+
+/// The options of `portions`.
+#[derive(Drop)]
+pub struct PortionsWords<'a> {
+    /// The file that holds the institution.
+    pub file: FilePath<'a>,
+    /// Whether `--existing` is given. A file without an institution is refused either way.
+    pub existing: bool,
+    /// The business days whose movement is asked for; none where it is what stands there now.
+    pub span: Option<DaySpan>,
 }
 
 /// The options of `schedule`.

@@ -12,7 +12,7 @@ use crate::asked::{Command, Words};
 use crate::options::microloan_command;
 use crate::reading::{
     archive_words, audit_words, batch_words, collect_words, file_words, ledger_words,
-    schedule_words, serve_words, staff_words, upgrade_words,
+    portions_words, schedule_words, serve_words, staff_words, upgrade_words,
 };
 use crate::refusal::{no_command, refused_by_clap, wrong_option};
 use clap::error::ErrorKind;
@@ -130,6 +130,15 @@ fn ledger_asked<'a>(alloc: Global, options: &ArgMatches<'a>) -> Result<Command<'
     }
 }
 
+fn portions_asked<'a>(alloc: Global, options: &ArgMatches<'a>) -> Result<Command<'a>, Words>
+    ensures { Reads (Some (codes "portions", rows_of (found_of options.now))) result }
+{
+    match portions_words(options) {
+        Ok(asked) => Ok(Command::Portions(asked)),
+        Err(wrong) => Err(wrong_option(alloc, "portions", wrong)),
+    }
+}
+
 /// What the command asks for that `clap` found.
 fn command_asked<'a>(alloc: Global, matches: &ArgMatches<'a>) -> Result<Command<'a>, Words>
     ensures { Reads (subcommand_rows_of matches.now) result }
@@ -161,8 +170,11 @@ fn command_asked<'a>(alloc: Global, matches: &ArgMatches<'a>) -> Result<Command<
     if let Some(options) = options_of(matches, "archive") {
         return archive_asked(alloc, options);
     }
-    match options_of(matches, "ledger") {
-        Some(options) => ledger_asked(alloc, options),
+    if let Some(options) = options_of(matches, "ledger") {
+        return ledger_asked(alloc, options);
+    }
+    match options_of(matches, "portions") {
+        Some(options) => portions_asked(alloc, options),
         None => Err(no_command(alloc)),
     }
 }

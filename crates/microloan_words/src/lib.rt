@@ -9,8 +9,9 @@ mod refusal;
 mod values;
 
 pub use asked::{
-    ArchiveWords, AuditWords, BatchWords, CollectWords, Command, FilePath, FileWords, LedgerForm,
-    LedgerWords, ScheduleWords, ServeWords, StaffWords, ToldText, UpgradeWords, Words,
+    ArchiveWords, AuditWords, BatchWords, CollectWords, Command, DaySpan, FilePath, FileWords,
+    LedgerForm, LedgerWords, PortionsWords, ScheduleWords, ServeWords, StaffWords, ToldText,
+    UpgradeWords, Words,
 };
 pub use asking::command;
 pub use values::default_day;

@@ -5,14 +5,14 @@ ghost use Rattle.clap.specs.Words.{App, app_of, rule_of, new_app, with_subcomman
 ghost use Rattle.clap.specs.declared.Command.TheViews.{out-Command as fields_of};
 ghost use Rattle.microloan_words.specs.Options.{rule_for, with_declared, batch_app, serve_app, collect_app, report_app};
 ghost use Rattle.microloan_words.specs.Options.{schedule_app, file_app, audit_app, upgrade_app, bare_app, desk_app};
-ghost use Rattle.microloan_words.specs.Options.{archive_app, ledger_app, microloan_app};
+ghost use Rattle.microloan_words.specs.Options.{archive_app, ledger_app, portions_app, microloan_app};
 
 use crate::values::DEFAULT_DAY;
 use clap::{Arg, ArgAction, Command};
 use std::alloc::{AllocError, Global};
 
 /// This release, and the schema of the files that it writes.
-const VERSION: &str = "1.8.0 (schema 2)";
+const VERSION: &str = "1.9.0 (schema 2)";
 
 /// Whether an option must be given, has a text that stands where it isn't, or is a flag.
 pub(crate) enum Need {
@@ -194,7 +194,7 @@ const ARCHIVE_OPTIONS: [CommandOption; 4] = [
 ];
 
 /// The options of `ledger`.
-const LEDGER_OPTIONS: [CommandOption; 8] = [
+const LEDGER_OPTIONS: [CommandOption; 9] = [
     FILE,
     EXISTING,
     CommandOption {
@@ -231,6 +231,30 @@ const LEDGER_OPTIONS: [CommandOption; 8] = [
         id: "names",
         value_name: "PATH",
         help: "A file with the names of accounts; see below",
+        need: Need::Optional,
+    },
+    CommandOption {
+        id: "from-copy",
+        value_name: "PATH",
+        help: "The file as it was before it got its journal",
+        need: Need::Optional,
+    },
+];
+
+/// The options of `portions`.
+const PORTIONS_OPTIONS: [CommandOption; 4] = [
+    FILE,
+    EXISTING,
+    CommandOption {
+        id: "from",
+        value_name: "DAY",
+        help: "The first business day whose movement is asked for",
+        need: Need::Optional,
+    },
+    CommandOption {
+        id: "to",
+        value_name: "DAY",
+        help: "The last business day whose movement is asked for",
         need: Need::Optional,
     },
 ];
@@ -543,11 +567,33 @@ fn ledger_command<'a>(alloc: Global) -> Result<Command<'a>, AllocError>
          closed never moves. docs/books.md tells the accounts.\n\n\
          Interest, fees and penalties are income once they are paid. With --accrual they\n\
          are once they fall due; what is due, waived or written off has accounts.\n\n\
+         Where the journal was given later, by upgrade, the books begin with the balances\n\
+         of the copy of the file that was kept before; --from-copy names it.\n\n\
          A line of the file of names gives an account its name in your chart:\n  \
          assets:cash=1010 Cash\n\n\
          Example:\n  microloan ledger --file desk.db --from 2024-01-01 --to 2024-01-31",
     );
     with_options(alloc, command, LEDGER_OPTIONS.as_slice())
+}
+
+/// The command `portions`.
+fn portions_command<'a>(alloc: Global) -> Result<Command<'a>, AllocError>
+    ensures app { IfOk result (λ c. app_of c ≡ portions_app) }
+    ensures local { IfOk result (λ c. (fields_of c).has_globals ≡ false) }
+{
+    let command = command_with_help(
+        alloc,
+        "portions",
+        "Add up interest, fees, penalties and principal",
+        "Standard output is a table of comma-separated values: by office, product and\n\
+         portion what is owed, paid, waived, written off and outstanding. Of principal,\n\
+         what is owed is what was lent. A line without amounts is left out.\n\n\
+         With --from and --to it is the movement of these business days, by the\n\
+         institution's journal: what stood there after the last, less what stood there\n\
+         before the first. What was taken back counts where it was taken back.\n\n\
+         Example:\n  microloan portions --file desk.db --from 2024-01-01 --to 2024-01-31",
+    );
+    with_options(alloc, command, PORTIONS_OPTIONS.as_slice())
 }
 
 /// The program with one more command. That may have failed to be made, so that it is this call alone that drops a
@@ -604,5 +650,6 @@ pub(crate) fn microloan_command<'a>(alloc: Global) -> Result<Command<'a>, AllocE
     let program = with_command(program, audit_command(alloc))?;
     let program = with_command(program, upgrade_command(alloc))?;
     let program = with_command(program, archive_command(alloc))?;
-    with_command(program, ledger_command(alloc))
+    let program = with_command(program, ledger_command(alloc))?;
+    with_command(program, portions_command(alloc))
 }

@@ -9,8 +9,9 @@ ghost use Rattle.microloan_words.specs.Asked.{IsServeWithinLimits, AreUpgradeWor
 ghost use Rattle.microloan_words.specs.Wrong.{IsFirstWrong, IsBatchWrong, IsCollectWrong, IsRight, serve_options};
 ghost use Rattle.microloan_words.specs.Wrong.{staff_options, file_options, audit_options, schedule_options};
 ghost use Rattle.microloan_words.specs.Wrong.{upgrade_options, archive_options, ledger_options, span_options};
-ghost use Rattle.microloan_words.specs.Wrong.{form_options};
+ghost use Rattle.microloan_words.specs.Wrong.{form_options, IsSpanNamed, IsPortionsWrong};
 ghost use Rattle.microloan_words.specs.Asked.{AreArchiveWords, AreLedgerWords, IsSpanAt, IsFormAt};
+ghost use Rattle.microloan_words.specs.Asked.{ArePortionsWords, IsSpanIn};
 ghost use Rattle.mf_office.specs.Texts.{IsCaller};
 ghost use Rattle.microloan_words.specs.declared.asked.BatchWords.{BatchWords};
 ghost use Rattle.microloan_words.specs.declared.asked.ServeWords.{ServeWords};
@@ -22,11 +23,13 @@ ghost use Rattle.microloan_words.specs.declared.asked.UpgradeWords.{UpgradeWords
 ghost use Rattle.microloan_words.specs.declared.asked.ArchiveWords.{ArchiveWords};
 ghost use Rattle.microloan_words.specs.declared.asked.LedgerForm.{LedgerForm};
 ghost use Rattle.microloan_words.specs.declared.asked.LedgerWords.{LedgerWords};
+ghost use Rattle.microloan_words.specs.declared.asked.DaySpan.{DaySpan};
+ghost use Rattle.microloan_words.specs.declared.asked.PortionsWords.{PortionsWords};
 ghost use Rattle.microloan_words.specs.declared.asked.ScheduleWords.{ScheduleWords};
 
 use crate::asked::{
-    ArchiveWords, AuditWords, BatchWords, CollectWords, FileWords, LedgerForm, LedgerWords,
-    ScheduleWords, ServeWords, StaffWords, ToldText, UpgradeWords,
+    ArchiveWords, AuditWords, BatchWords, CollectWords, DaySpan, FileWords, LedgerForm,
+    LedgerWords, PortionsWords, ScheduleWords, ServeWords, StaffWords, ToldText, UpgradeWords,
 };
 use crate::values::{
     MOST_PATIENCE, connections_at, count_at, day_at, file_at, flag_at, frequency_at, method_at,
@@ -292,6 +295,42 @@ fn form_at(options: &ArgMatches<'_>) -> Result<LedgerForm, Wrong>
     }
 }
 
+/// The span of days, where one is asked for, or the first of its options that isn't what it should be.
+fn span_in(options: &ArgMatches<'_>) -> Result<Option<DaySpan>, Wrong>
+    ensures read { IfOk result (IsSpanIn (rows_of (found_of options.now))) }
+    ensures every { (span : Option DaySpan) → IsSpanIn (rows_of (found_of options.now)) span → result ≡ Ok span }
+    ensures wrong { IfErr result (λ wrong. IsSpanNamed (rows_of (found_of options.now))
+        × IsFirstWrong (rows_of (found_of options.now)) span_options wrong) }
+{
+    if text_at(options, "from").is_none() && text_at(options, "to").is_none() {
+        return Ok(None);
+    }
+    match span_at(options) {
+        Ok((first, last)) => Ok(Some(DaySpan { first, last })),
+        Err(wrong) => Err(wrong),
+    }
+}
+
+/// The options of `portions`, or the first that isn't what it should be.
+pub(crate) fn portions_words<'a>(options: &ArgMatches<'a>) -> Result<PortionsWords<'a>, Wrong>
+    ensures read { IfOk result (λ asked. ArePortionsWords (rows_of (found_of options.now)) asked) }
+    ensures every { (asked : PortionsWords) → ArePortionsWords (rows_of (found_of options.now)) asked
+        → result ≡ Ok asked }
+    ensures wrong { IfErr result (IsPortionsWrong (rows_of (found_of options.now))) }
+{
+    let file = file_at(options).ok_or(Wrong::File)?;
+    let existing = flag_at(options, "existing").ok_or(Wrong::Existing)?;
+    let span = match span_in(options) {
+        Ok(span) => span,
+        Err(wrong) => return Err(wrong),
+    };
+    Ok(PortionsWords {
+        file,
+        existing,
+        span,
+    })
+}
+
 /// The options of `ledger`, or the first that isn't what it should be.
 pub(crate) fn ledger_words<'a>(options: &ArgMatches<'a>) -> Result<LedgerWords<'a>, Wrong>
     ensures read { IfOk result (λ asked. AreLedgerWords (rows_of (found_of options.now)) asked) }
@@ -312,6 +351,7 @@ pub(crate) fn ledger_words<'a>(options: &ArgMatches<'a>) -> Result<LedgerWords<'
     };
     let accrual = flag_at(options, "accrual").ok_or(Wrong::Accrual)?;
     let names = path_at(options, "names");
+    let copy = path_at(options, "from-copy");
     Ok(LedgerWords {
         file,
         existing,
@@ -320,6 +360,7 @@ pub(crate) fn ledger_words<'a>(options: &ArgMatches<'a>) -> Result<LedgerWords<'
         form,
         accrual,
         names,
+        copy,
     })
 }
 

@@ -122,8 +122,8 @@ fn owed_text(
     match owed {
         Owed::Help | Owed::Version => format!(in alloc; "{error}"),
         Owed::NoCommand => format!(in alloc;
-            "microloan: name a command: batch, serve, collect, report, schedule, why, audit, upgrade, archive \
-             or ledger; see 'microloan --help'"
+            "microloan: name a command: batch, serve, collect, report, schedule, why, audit, upgrade, archive, \
+             ledger or portions; see 'microloan --help'"
         ),
         Owed::Wrong => one_line(alloc, words, error),
     }
@@ -163,6 +163,7 @@ fn help_on(words: &[String]) -> &'static str {
         "upgrade" => "microloan upgrade --help",
         "archive" => "microloan archive --help",
         "ledger" => "microloan ledger --help",
+        "portions" => "microloan portions --help",
         _ => "microloan --help",
     }
 }

@@ -333,12 +333,46 @@ fn reads_which_books_to_write(rt: HostRuntime) -> Result<(), Fail> {
     Ok(())
 }
 
+#[test]
+fn reads_which_portions_to_add_up(rt: HostRuntime) -> Result<(), Fail> {
+    let alloc = rt.alloc();
+    for (line, existing, is_movement) in [
+        ("microloan portions --file desk.db", false, false),
+        (
+            "microloan portions --to 2024-01-31 --existing --from 2024-01-01 --file=desk.db",
+            true,
+            true,
+        ),
+    ] {
+        let words = words_of(alloc, line)?;
+        let Ok(Command::Portions(asked)) = command(alloc, &words) else {
+            return Err(Fail::from("portions"));
+        };
+        assert_eq!(rt; asked.file.as_str(), "desk.db");
+        assert_eq!(rt; asked.existing, existing);
+        assert_eq!(rt; asked.span.is_some(), is_movement);
+        if let Some(span) = asked.span {
+            assert_eq!(rt; Some(span.first), Day::parse(b"2024-01-01"));
+            assert_eq!(rt; Some(span.last), Day::parse(b"2024-01-31"));
+        }
+    }
+    Ok(())
+}
+
 /// Words that are wrong, and what is said of them.
-const WRONG: [(&str, &str); 30] = [
+const WRONG: [(&str, &str); 32] = [
     (
         "microloan",
-        "microloan: name a command: batch, serve, collect, report, schedule, why, audit, upgrade, archive \
-         or ledger; see 'microloan --help'",
+        "microloan: name a command: batch, serve, collect, report, schedule, why, audit, upgrade, archive, \
+         ledger or portions; see 'microloan --help'",
+    ),
+    (
+        "microloan portions --file f --to 2024-01-31",
+        "microloan: --from wants a day from 2000-01-01 to 2099-12-31, as 2024-01-01; see 'microloan portions --help'",
+    ),
+    (
+        "microloan portions --file f --from 2024-02-01 --to 2024-01-31",
+        "microloan: --from wants a day that isn't after that of --to; see 'microloan portions --help'",
     ),
     (
         "microloan ledger --file f --from 2024-02-01 --to 2024-01-31",
@@ -554,6 +588,7 @@ fn shows_help(rt: HostRuntime) -> Result<(), Fail> {
     assert!(rt; help.as_str().lines().all(|line| line.len() <= 80));
     for command in [
         "batch", "serve", "collect", "report", "why", "audit", "upgrade", "archive", "ledger",
+        "portions",
     ] {
         let line = format!(in alloc; "microloan {command} --help")?;
         let help = help_of(&rt, alloc, line.as_str())?;
@@ -571,7 +606,7 @@ fn tells_the_version(rt: HostRuntime) -> Result<(), Fail> {
         let Err(Words::Version(text)) = command(alloc, &words) else {
             return Err(Fail::from("a version"));
         };
-        assert_eq!(rt; text.as_str(), "microloan 1.8.0 (schema 2)\n");
+        assert_eq!(rt; text.as_str(), "microloan 1.9.0 (schema 2)\n");
     }
     let said = line_of(&rt, alloc, "microloan report --version")?;
     assert!(rt; said.as_str().find("--version").is_some());

@@ -1,0 +1,15 @@
+use Rattle.std.proofs.Common.{ap, ◌∙◌}
+use Rattle.mf_portions.specs.Table.{table_text}
+use Rattle.mf_store_ledger.proofs.movement.movement_since.Goals as goal
+
+pub lines_before-requires-early : goal.lines_before-requires-early
+lines_before-requires-early g c = c.requires.early
+
+pub returns-in_ok-text-clause-answer : goal.returns-in_ok-text-clause-answer
+returns-in_ok-text-clause-answer g c clean its begins lines none keeps =
+    let found = rw c.in-Ok-Ok.field-0-is at (c.in-Ok-Ok.ensures {u = tt}).lines in
+    c.in_ok-text.ensures.text ∙ ap (table_text c.args.before.now) (found clean its begins lines none keeps)
+
+pub returns-in-Ok-Err-clause-answer : goal.returns-in-Ok-Err-clause-answer
+returns-in-Ok-Err-clause-answer g c clean its begins lines none keeps =
+    (rw c.in-Ok-Err.field-0-is at (c.in-Ok-Err.ensures {u = tt}).lines) clean its begins lines none keeps
