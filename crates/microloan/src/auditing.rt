@@ -4,6 +4,7 @@ ghost use Rattle.std.specs.Prelude.{◌≡◌};
 ghost use Rattle.mf_store_verdict.specs.Verdict.{Passes};
 ghost use Rattle.microloan.specs.Status.{IsPrintStatus};
 
+use crate::copies::{read_copy, words_of_copy};
 use crate::following::Following;
 use crate::places::{Place, place_at};
 use crate::telling::{
@@ -12,11 +13,8 @@ use crate::telling::{
 use crate::why::{words_of, words_of_place};
 use mf_base::Fault;
 use mf_store_audit::Audit;
-use mf_store_files::Refused;
 use mf_store_verdict::{Unaudited, Verdict, audit_file, audit_from_copy, passes};
 use microloan_audit::verdict_text;
-use std::fs;
-use std::io::{self, ErrorKind};
 use std::rt::HostRuntime;
 
 /// Prints what an institution's rows come to and what the play of its journal says of them, or which row breaks which
@@ -66,11 +64,10 @@ pub fn say_audit_from(rt: &HostRuntime, file: &str, copy: &str, all: bool) -> u8
 fn say_rows_from(rt: &HostRuntime, file: &str, copy: &str, all: bool) -> u8
     ensures { IsPrintStatus result }
 {
-    let (log, db) = match copied(rt, copy) {
-        Ok(bytes) => bytes,
-        Err(_) => return refuse(rt, "the copy can't be read"),
+    let Ok(copy) = read_copy(rt, copy) else {
+        return refuse(rt, "the copy can't be read");
     };
-    match audit_from_copy(rt, file, &log, &db, all, &mut Following::new(rt, file)) {
+    match audit_from_copy(rt, file, &copy.log, &copy.db, all, &mut Following::new(rt, file)) {
         Ok(verdict) if is_unplayed(&verdict) => tell_no_journal(rt),
         Ok(verdict) => say(rt, &verdict),
         Err(Unaudited::Copy(refused)) => refuse(rt, words_of_copy(refused)),
@@ -81,28 +78,6 @@ fn say_rows_from(rt: &HostRuntime, file: &str, copy: &str, all: bool) -> u8
 /// Whether a sound institution keeps no journal.
 fn is_unplayed(verdict: &Verdict) -> bool {
     matches!(verdict.audit, Audit::Sound { .. }) && verdict.played.is_none()
-}
-
-/// The bytes of the log beside a copy, none where there is no log, and those of the copy.
-fn copied(rt: &HostRuntime, copy: &str) -> io::Result<(Vec<u8>, Vec<u8>)> {
-    let path = fs::canonicalize(rt, copy)?;
-    let log_path = format!(in rt.alloc(); "{}-wal", path.as_str())?;
-    let log = match fs::read(rt, log_path.as_str()) {
-        Ok(log) => log,
-        Err(error) if error.kind() == ErrorKind::NotFound => Vec::new(rt.alloc()),
-        Err(error) => return Err(error),
-    };
-    let db = fs::read(rt, copy)?;
-    Ok((log, db))
-}
-
-/// What is said of a copy of which no institution is made.
-fn words_of_copy(refused: Refused) -> &'static str {
-    match refused {
-        Refused::NoInstitution => "the copy holds no institution",
-        Refused::Failed(Fault::F19) => "the copy holds no sound institution",
-        Refused::Failed(_) => "the copy is no database, or out of memory",
-    }
 }
 
 /// Prints a verdict, and gives the program's status.

@@ -4,7 +4,9 @@ ghost use Rattle.std.specs.Prelude.{◌≡◌, cond, false};
 ghost use Rattle.mf_ledger.specs.declared.basis.Basis.TheVariants.{Cash, Accrual};
 ghost use Rattle.microloan.specs.Status.{IsPrintStatus};
 
-use crate::telling::{print_bytes, tell_no_founding, tell_refusal, tell_stop};
+use crate::copies::{FileCopy, read_copy, words_of_copy};
+use crate::following::Following;
+use crate::telling::{print_bytes, tell_fault, tell_no_founding, tell_refusal, tell_stop};
 use crate::working::let_go;
 use mf_base::{Cause, Fault};
 use mf_ledger::{Basis, Names};
@@ -12,12 +14,12 @@ use mf_ledger_play::{BooksAsked, BooksForm};
 use mf_portions_play::write_portions;
 use mf_store::Store;
 use mf_store_files::close;
-use mf_store_ledger::{Books, write_books, write_movement};
+use mf_store_ledger::{Books, Unwritten, write_books, write_books_from_copy, write_movement};
 use microloan_words::{DaySpan, FilePath, LedgerForm};
 use sqlite::{Connection, FileStore, Files};
 use sqlite_disk::Disk;
-use std::fs;
 use std::rt::HostRuntime;
+use std::{fs, io};
 
 /// The form that the words ask for.
 pub fn form_asked(form: LedgerForm) -> BooksForm {
@@ -49,6 +51,14 @@ pub fn names_in(rt: &HostRuntime, file: &Option<FilePath<'_>>) -> Result<Names, 
     }
 }
 
+/// The copy that the words name, if they name one. What fails is the reading of it.
+pub fn copy_asked(rt: &HostRuntime, file: &Option<FilePath<'_>>) -> io::Result<Option<FileCopy>> {
+    match file {
+        None => Ok(None),
+        Some(file) => Ok(Some(read_copy(rt, file.as_str())?)),
+    }
+}
+
 /// Closes a connection to the tables of a file, as `mf_store_files::close` does.
 fn close_tables<D: Disk + Drop>(
     connection: Connection<FileStore<D>>,
@@ -73,6 +83,34 @@ pub fn write_ledger<R: Print + Eprint + AllocGlobal, D: Disk + Drop>(
     let books = write_books(rt.alloc(), &mut connection, asked);
     let_go(close_tables(connection));
     print_books(rt, books)
+}
+
+/// Writes the same from the copy of the file over whose rows the journal was begun. The file is closed first.
+pub fn write_ledger_from<D: Disk + Drop>(
+    rt: &HostRuntime,
+    file: &str,
+    store: Store<FileStore<D>>,
+    asked: &BooksAsked,
+    copy: &FileCopy,
+) -> u8
+    ensures { IsPrintStatus result }
+{
+    let mut connection = store.release();
+    let mut following = Following::new(rt, file);
+    let books = write_books_from_copy(
+        rt.alloc(),
+        &mut connection,
+        asked,
+        &copy.log,
+        &copy.db,
+        &mut following,
+    );
+    let_go(close_tables(connection));
+    match books {
+        Ok(books) => print_books(rt, Ok(books)),
+        Err(Unwritten::Books(fault)) => tell_refusal(rt, fault),
+        Err(Unwritten::Copy(refused)) => tell_fault(rt, words_of_copy(refused)),
+    }
 }
 
 /// Writes the movement of a span of days by the journal that a store keeps, and gives the program's status. The file is
@@ -112,6 +150,10 @@ fn print_books<R: Print + Eprint>(rt: &R, books: Result<Books, Fault>) -> u8
     match books {
         Ok(Books::Written(text)) => print_bytes(rt, &text),
         Ok(Books::NoFounding) => tell_no_founding(rt),
+        Ok(Books::OtherCopy) => tell_fault(
+            rt,
+            "the journal was begun over other rows than those of the copy",
+        ),
         Ok(Books::Stops { number, why }) => tell_stop(rt, number, why),
         Err(fault) => tell_refusal(rt, fault),
     }

@@ -3,6 +3,7 @@
 
 mod archiving;
 mod auditing;
+mod copies;
 mod following;
 mod ledger;
 mod places;
@@ -19,11 +20,11 @@ ghost use Rattle.microloan.specs.Status.{IsPrintStatus};
 use crate::archiving::Archiving;
 use crate::auditing::{say_audit, say_audit_from};
 use crate::following::Following;
-use crate::ledger::{basis_asked, form_asked, names_in};
+use crate::ledger::{basis_asked, copy_asked, form_asked, names_in};
 use crate::places::place_at;
 use crate::telling::{
-    print_made, refuse_words, tell_cause, tell_checking, tell_no_institution, tell_no_journal,
-    tell_reading, tell_refusal,
+    print_made, refuse_words, tell_cause, tell_checking, tell_fault, tell_no_institution,
+    tell_no_journal, tell_reading, tell_refusal,
 };
 use crate::why::say_why;
 use crate::working::{Served, Work, answer_input_in_memory, work_on};
@@ -33,8 +34,7 @@ use mf_store_files::{Refused, Unjournaled, open, open_existing, open_journaled};
 use microloan_commands::schedule;
 use microloan_words::{
     ArchiveWords, AuditWords, BatchWords, CollectWords, Command, LedgerWords, PortionsWords,
-    ScheduleWords,
-    ServeWords, StaffWords, UpgradeWords, Words, command, default_day,
+    ScheduleWords, ServeWords, StaffWords, UpgradeWords, Words, command, default_day,
 };
 use std::process::ExitCode;
 use std::{env, io};
@@ -209,7 +209,8 @@ fn archive(rt: &HostRuntime, asked: &ArchiveWords<'_>) -> u8
     work_where(rt, asked.file.as_str(), wanted, work, &[])
 }
 
-/// Writes the books of a span of days, of an institution that keeps a journal.
+/// Writes the books of a span of days, of an institution that keeps a journal: from its founding, or from the copy that
+/// is named.
 fn print_ledger(rt: &HostRuntime, asked: &LedgerWords<'_>) -> u8
     ensures { IsPrintStatus result }
 {
@@ -217,13 +218,19 @@ fn print_ledger(rt: &HostRuntime, asked: &LedgerWords<'_>) -> u8
         Ok(names) => names,
         Err(cause) => return tell_cause(rt, cause),
     };
-    let work = Work::Ledger(BooksAsked {
-        form: form_asked(asked.form),
-        basis: basis_asked(asked.accrual),
-        first: asked.first,
-        last: asked.last,
-        names,
-    });
+    let Ok(copy) = copy_asked(rt, &asked.copy) else {
+        return tell_fault(rt, "the copy can't be read");
+    };
+    let work = Work::Ledger {
+        asked: BooksAsked {
+            form: form_asked(asked.form),
+            basis: basis_asked(asked.accrual),
+            first: asked.first,
+            last: asked.last,
+            names,
+        },
+        copy,
+    };
     let wanted = Wanted {
         existing: true,
         journal: true,

@@ -5,7 +5,8 @@ ghost use Rattle.mf_base.specs.DayText.{last_entered_day};
 ghost use Rattle.microloan.specs.Status.{IsPrintStatus};
 
 use crate::archiving::{Archiving, archive_into};
-use crate::ledger::{print_portions, write_ledger, write_moved};
+use crate::copies::FileCopy;
+use crate::ledger::{print_portions, write_ledger, write_ledger_from, write_moved};
 use crate::telling::{
     print_line, print_made, tell_cause, tell_end, tell_person, tell_reading, tell_refusal,
     tell_sheet,
@@ -55,8 +56,11 @@ pub enum Work<'a> {
     Upgrade { journal: bool },
     /// Lines of the journal are moved to an archive.
     Archive(Archiving<'a>),
-    /// The books of the institution are written.
-    Ledger(BooksAsked),
+    /// The books of the institution are written, from a copy where one is given.
+    Ledger {
+        asked: BooksAsked,
+        copy: Option<FileCopy>,
+    },
     /// What its loans come to by portion is printed.
     Portions,
     /// What moved on a span of business days is printed.
@@ -84,7 +88,11 @@ pub fn work_on<D: Disk + Drop>(
         Work::Report(staff) => print_report(rt, store, staff),
         Work::Upgrade { journal } => upgrade_store(rt, file, store, journal),
         Work::Archive(archiving) => archive_into(rt, file, store, archiving),
-        Work::Ledger(asked) => write_ledger(rt, store, &asked),
+        Work::Ledger { asked, copy: None } => write_ledger(rt, store, &asked),
+        Work::Ledger {
+            asked,
+            copy: Some(copy),
+        } => write_ledger_from(rt, file, store, &asked, &copy),
         Work::Portions => print_portions(rt, store),
         Work::Moved(span) => write_moved(rt, store, span),
     }
