@@ -293,11 +293,12 @@ fn reads_which_lines_to_archive(rt: HostRuntime) -> Result<(), Fail> {
 #[test]
 fn reads_which_books_to_write(rt: HostRuntime) -> Result<(), Fail> {
     let alloc = rt.alloc();
-    for (line, form, accrual, names) in [
+    for (line, form, accrual, names, copy) in [
         (
             "microloan ledger --file desk.db --from 2024-01-01 --to 2024-01-31",
             LedgerForm::Hledger,
             false,
+            None,
             None,
         ),
         (
@@ -305,11 +306,13 @@ fn reads_which_books_to_write(rt: HostRuntime) -> Result<(), Fail> {
             LedgerForm::Sheet,
             false,
             None,
+            None,
         ),
         (
             "microloan ledger --accrual --file desk.db --from 2024-01-01 --to 2024-01-31",
             LedgerForm::Hledger,
             true,
+            None,
             None,
         ),
         (
@@ -317,6 +320,14 @@ fn reads_which_books_to_write(rt: HostRuntime) -> Result<(), Fail> {
             LedgerForm::Beancount,
             false,
             Some("chart"),
+            None,
+        ),
+        (
+            "microloan ledger --file desk.db --from-copy old.db --from 2024-01-01 --to 2024-01-31",
+            LedgerForm::Hledger,
+            false,
+            None,
+            Some("old.db"),
         ),
     ] {
         let words = words_of(alloc, line)?;
@@ -329,6 +340,7 @@ fn reads_which_books_to_write(rt: HostRuntime) -> Result<(), Fail> {
         assert!(rt; asked.form == form);
         assert_eq!(rt; asked.accrual, accrual);
         assert_eq!(rt; asked.names.map(|names| names.as_str()), names);
+        assert_eq!(rt; asked.copy.map(|copy| copy.as_str()), copy);
     }
     Ok(())
 }
