@@ -37,8 +37,8 @@ fn connect_in_memory(alloc: Global, log: &[u8], db: &[u8]) -> Result<Connection<
 /// A store in memory of the institution that the bytes of a file hold, and of the log beside it: tables of the first
 /// version are brought to the second's, in memory. No file is changed by what is done over it.
 ///
-/// It is refused where there are no tables, by F19 where they are others than this program makes or no sound institution
-/// has their rows, and by F20 where the bytes hold no database, or out of memory.
+/// It is refused where there are no tables, by F19 where they are others than this program makes or no sound
+/// institution has their rows, and by F20 where the bytes hold no database, or out of memory.
 pub fn copy_in_memory<P: Progress>(
     alloc: Global,
     log: &[u8],

@@ -34,7 +34,8 @@ pub enum Unwritten {
 }
 
 /// The text of the books of the journal that a table keeps, as `write_books_from` writes it, from the copy of the file
-/// over whose rows the journal was begun: the bytes of the copy's log, and of its database file. Only memory is written.
+/// over whose rows the journal was begun: the bytes of the copy's log, and of its database file. Only memory is
+/// written.
 pub fn write_books_from_copy<S: Alter, P: Progress>(
     alloc: Global,
     connection: &mut Connection<S>,

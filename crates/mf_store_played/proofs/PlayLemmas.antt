@@ -56,8 +56,8 @@ stops_within i j done page more place why p s =
 -- ---- page by page
 
 module _ {S : Type 0} (store : Ghosts S) where
-  -- the first of these lines up to a number, the first of which comes after another one, played from an institution, and
-  -- the store stands for what follows
+  -- the first of these lines up to a number, the first of which comes after another one, played from an institution,
+  -- and the store stands for what follows
   pub record Reached (after : ℕ) (i : Institution) (lines : List JournalLine) (here : S) (number : ℕ) : Type 0 where
     pub done : List JournalLine
     pub rest : List JournalLine

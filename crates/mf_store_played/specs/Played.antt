@@ -77,8 +77,8 @@ pub record IsFirstDifference (table : PlayedTable) (row : ℕ) (a b : Lists) : T
 -- ---- lines of a table, played over a store
 
 module _ {S : Type 0} (store : Ghosts S) where
-  -- the lines after a number played, and the store stands for what follows; or the line of this number is the first that
-  -- doesn't play, for this
+  -- the lines after a number played, and the store stands for what follows; or the line of this number is the first
+  -- that doesn't play, for this
   abbrev pub CameToByNumber : ℕ → Institution → List JournalLine → S → Result (Unit {0}) (ℕ × Stop) → Type 0
   CameToByNumber after i lines new (Ok done) = (j : Institution) × PlaysTo i lines j × store.stands new j
   CameToByNumber after i lines new (Err found) =
@@ -87,6 +87,6 @@ module _ {S : Type 0} (store : Ghosts S) where
   -- the same of the lines that a table keeps of a journal that begins after a number, and of each institution that the
   -- store stood for, as long as the disks return what was written
   abbrev pub PlaysTable : ℕ → State → State → S → S → Result (Result (Unit {0}) (ℕ × Stop)) Fault → Type 0
-  PlaysTable after old new was now result = HasCleanDisk new → IsThird old.now.schema → store.clean now → (begins : Head)
-      (lines : List JournalLine) → begins.number ≡ after → KeepsJournalFrom begins old.now.trees lines
+  PlaysTable after old new was now result = HasCleanDisk new → IsThird old.now.schema → store.clean now
+      → (begins : Head) (lines : List JournalLine) → begins.number ≡ after → KeepsJournalFrom begins old.now.trees lines
       → (i : Institution) → store.stands was i → IfOk result (CameToByNumber after i lines now)

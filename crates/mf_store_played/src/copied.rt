@@ -1,6 +1,7 @@
 //! Tables against the play of a journal that was begun over rows, from a copy of these.
 
-ghost use Rattle.std.specs.Prelude.{◌≡◌, ◌≢◌, ◌↔◌, [], List, None, Some, false, IsTrue, OnOk, IfOk, IfErr, IfSome, IfNone};
+ghost use Rattle.std.specs.Prelude.{◌≡◌, ◌≢◌, ◌↔◌, [], List, None, Some, false, IsTrue, OnOk};
+ghost use Rattle.std.specs.Prelude.{IfOk, IfErr, IfSome, IfNone};
 ghost use Rattle.mf_base.specs.declared.fault.Fault.TheVariants.{F20};
 ghost use Rattle.sqlite.specs.Files.{over_files};
 ghost use Rattle.sqlite.specs.Held.{state};
@@ -22,7 +23,7 @@ use sqlite::{Alter, Connection};
 use std::alloc::Global;
 
 /// Whether a journal begins here.
-fn is_at(begins: Option<Head>, other: Head) -> bool
+pub fn is_at(begins: Option<Head>, other: Head) -> bool
     ensures { IsTrue result ↔ (begins ≡ Some other) }
 {
     match begins {
@@ -33,9 +34,9 @@ fn is_at(begins: Option<Head>, other: Head) -> bool
     }
 }
 
-/// A copy in memory with the journal that would be begun over its rows; none where the copy keeps a journal already. The
-/// error is F20.
-fn begun_over(alloc: Global, mut copy: Store<PageStore>) -> Result<Option<Store<PageStore>>, Fault>
+/// A copy in memory with the journal that would be begun over its rows; none where the copy keeps a journal already.
+/// The error is F20.
+pub fn begun_over(alloc: Global, mut copy: Store<PageStore>) -> Result<Option<Store<PageStore>>, Fault>
     ensures begun { IfOk result (λ x. IfSome x (λ store. (copied : Institution) → StandsFor over_files copy copied
         → IsBegunOver copied store)) }
     ensures none { IfOk result (λ x. IfNone x ((copied : Institution) → StandsFor over_files copy copied
@@ -101,8 +102,8 @@ fn play_copied<S: Alter>(
 }
 
 /// What the play of a journal says of the tables beside it, where it was begun over rows: whether its lines, played
-/// from a copy of these, lead to just the tables' rows; else that it was begun over others than the copy's, or the first
-/// line that doesn't play, or the first table and row that differ. It plays in memory, over the copy, and changes
+/// from a copy of these, lead to just the tables' rows; else that it was begun over others than the copy's, or the
+/// first line that doesn't play, or the first table and row that differ. It plays in memory, over the copy, and changes
 /// nothing else. The error is F20.
 ///
 /// The answer speaks of tables of the third version that hold a sound institution with its journal, and of a copy that

@@ -10,7 +10,7 @@ mod played;
 mod playing;
 mod rows;
 
-pub use copied::play_tables_from;
+pub use copied::{begun_over, is_at, play_tables_from};
 pub use founding::{found_in_memory, founding_day};
 pub use pages::number_at;
 pub use played::{Difference, Played, PlayedTable};

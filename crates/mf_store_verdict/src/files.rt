@@ -91,8 +91,8 @@ pub enum Unaudited {
     File(FileFinding),
 }
 
-/// Audits the file at a path as `audit_file_with` does, but plays its journal from a copy of the file over which that was
-/// begun: the bytes of its log, and of its database file. Only memory is written.
+/// Audits the file at a path as `audit_file_with` does, but plays its journal from a copy of the file over which that
+/// was begun: the bytes of its log, and of its database file. Only memory is written.
 pub fn audit_from_copy_with<S: Start, P: Progress>(
     rt: &HostRuntime,
     path: &str,

@@ -49,8 +49,8 @@ fn play<S: Alter>(
     }
 }
 
-/// The same whatever tables stand there. It plays in memory and changes nothing but the copy. The error is F20; so it is
-/// where no journal stands beside the tables.
+/// The same whatever tables stand there. It plays in memory and changes nothing but the copy. The error is F20; so it
+/// is where no journal stands beside the tables.
 pub(crate) fn play_known<S: Alter>(
     alloc: Global,
     connection: &mut Connection<S>,

@@ -11,7 +11,8 @@ ghost use Rattle.mf_store_schema.specs.Schemas.{IsUnchangedUnder};
 ghost use Rattle.mf_store_sound.specs.Told.{IsAny, HaveOwnRowids};
 ghost use Rattle.mf_store_audit.specs.Audits.{FindsSound, IsAuditOf};
 ghost use Rattle.mf_store.specs.Stands.{StandsFor};
-ghost use Rattle.mf_store_verdict.specs.Verdict.{FindsJournal, IsPassed, IsRightBy, IsVerdictBy, IsVerdictFrom, IsVerdictOf, Passes, Shows};
+ghost use Rattle.mf_store_verdict.specs.Verdict.{FindsJournal, IsPassed, IsRightBy, Passes, Shows};
+ghost use Rattle.mf_store_verdict.specs.Verdict.{IsVerdictBy, IsVerdictFrom, IsVerdictOf};
 
 use crate::playing::play_known;
 use mf_base::Fault;

@@ -35,7 +35,8 @@ fn say(rt: &HostRuntime, file: &str, words: &str, more: &str) -> u8
     print_line(rt, format_args!("{file}: {words}{more}"))
 }
 
-/// Says where the journal of an institution stands, behind what is said of its file, and gives the status of printing it.
+/// Says where the journal of an institution stands, behind what is said of its file, and gives the status of printing
+/// it.
 fn say_journaled(rt: &HostRuntime, file: &str) -> u8
     ensures { IsPrintStatus result }
 {

@@ -23,8 +23,8 @@ fn hex_text(alloc: Global, bytes: &[u8]) -> Result<String, Fault>
     Ok(text)
 }
 
-/// Where a journal stands, in words: how many changes there were, and the chain after the last of them, in digits to the
-/// base 16. The error is F20, out of memory.
+/// Where a journal stands, in words: how many changes there were, and the chain after the last of them, in digits to
+/// the base 16. The error is F20, out of memory.
 pub fn head_text(alloc: Global, head: Head) -> Result<String, Fault>
     ensures text { IfOk result (λ text. string_bytes text ≡ spec.head_text head) }
     ensures only { IsOkUnless result Fault.F20 }

@@ -17,7 +17,8 @@ pages-init g c = record {
 pub pages-preserved : goal.pages-preserved
 pages-preserved g c = record {
   mode = c.rows_after.ensures.mode;
-  going = going_on g.T.InstitutionStore c.args.after (state g.S.Store c.args.connection.now) (state g.S.Store c.pages.connection)
+  going = going_on g.T.InstitutionStore c.args.after (state g.S.Store c.args.connection.now)
+      (state g.S.Store c.pages.connection)
       (state g.S.Store c.rows_after.new.connection) c.args.store.now c.pages.store c.pages.number
       c.in_ok-rows.rows.items c.pages.invariant.going c.rows_after.ensures.kept c.in_ok-rows.ensures.rows
       c.play_page.new.store c.play_page.ensures.premise c.in_ok-number.number
@@ -39,7 +40,8 @@ returns-then-is_empty-clause-kept g c =
 pub returns-then-is_empty-clause-plays : goal.returns-then-is_empty-clause-plays
 returns-then-is_empty-clause-plays g c =
     let rows = c.in_ok-rows.rows in
-    going_whole g.T.InstitutionStore c.args.after (state g.S.Store c.args.connection.now) (state g.S.Store c.pages.connection)
+    going_whole g.T.InstitutionStore c.args.after (state g.S.Store c.args.connection.now)
+    (state g.S.Store c.pages.connection)
     (state g.S.Store c.rows_after.new.connection) c.args.store.now c.pages.store c.pages.number rows.items
     c.pages.invariant.going c.rows_after.ensures.kept c.in_ok-rows.ensures.rows
     (nil_from_length rows.items (sym (rows.ok).0 ∙ empty _ c.if-is_empty.ensures))
@@ -56,7 +58,8 @@ returns-in-Ok-Err-clause-kept g c =
 
 pub returns-in-Ok-Err-clause-plays : goal.returns-in-Ok-Err-clause-plays
 returns-in-Ok-Err-clause-plays g c =
-    going_stops g.T.InstitutionStore c.args.after (state g.S.Store c.args.connection.now) (state g.S.Store c.pages.connection)
+    going_stops g.T.InstitutionStore c.args.after (state g.S.Store c.args.connection.now)
+    (state g.S.Store c.pages.connection)
     (state g.S.Store c.rows_after.new.connection) c.args.store.now c.pages.store c.pages.number
     c.in_ok-rows.rows.items c.pages.invariant.going c.rows_after.ensures.kept c.in_ok-rows.ensures.rows
     c.play_page.new.store c.play_page.ensures.premise c.in-Ok-Err.place c.in_ok-told-in-Ok-Err.told c.in-Ok-Err.why
