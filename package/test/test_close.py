@@ -354,6 +354,67 @@ class Months(unittest.TestCase):
             self.assertIn(wanted, file.readlines())
 
 
+class Later(unittest.TestCase):
+    """The months of an institution that got its journal on a later day, from the copy that was kept before."""
+
+    FIRST = "2026-02-10"  # the business day on which the journal was begun, before anything else of that day
+
+    @classmethod
+    def setUpClass(cls):
+        cls.path, cls.copy = (os.path.join(ROOM, f"later-{name}.db") for name in ("desk", "copy"))
+        cls.begun = next(at for at, line in enumerate(DESK.lines, 1) if f'"day":"{cls.FIRST}"' in line)
+        plain = [line.split(" ", 1)[1] for line in DESK.lines]
+        institutions.ended(["batch", "--file", cls.path, "--day", FOUNDED], cls.text(plain[:cls.begun]))
+        institutions.copy(cls.path, cls.copy)
+        institutions.ended(["upgrade", "--existing", "--file", cls.path, "--journal"])
+        institutions.ended(["batch", "--existing", "--journal", "--file", cls.path], cls.text(plain[cls.begun:]))
+
+    @staticmethod
+    def text(lines):
+        return "".join(f"{line}\n" for line in lines).encode()
+
+    def months(self, *more):
+        """Seals all months from the first one on, in a folder of this test."""
+        folder = f"later-{self.id()}"
+        self.addCleanup(shutil.rmtree, os.path.join(ROOM, folder), ignore_errors=True)
+        names = [month for month in MONTHS if month >= self.FIRST[:7]]
+        said = [close(month, self.path, "--from-copy", self.copy, *more, folder=folder) for month in names]
+        self.assertEqual([status for status, _, _ in said], [0] * len(names), said)
+        return [sealed(month, folder) for month in names]
+
+    def test_they_hold_the_books_from_the_copy_on(self):
+        paths = self.months()
+        status, shown, said = verify(*paths, more=("--from-copy", self.copy))
+        self.assertEqual((status, said, shown.count(", the same, head ")), (0, "", len(paths)), shown)
+        books = b"".join(members_of(path)["books.journal"] for path in paths)
+        span = ["--from", self.FIRST, "--to", "2026-05-31", "--from-copy", self.copy]
+        self.assertEqual(books, told_by("ledger", "--existing", "--file", self.path, *span))
+        self.assertTrue(books.startswith(f"{self.FIRST} (0) opening balances\n".encode()), books[:99])
+        for path in paths:
+            self.assertIn(b"\nsound, and the play of its journal (", members_of(path)["audit.txt"])
+
+    def test_they_go_on_from_what_was_kept(self):
+        paths, kept = self.months(), os.path.join(ROOM, "later-kept.db")
+        status, shown, said = verify(*paths[:2], more=("--from-copy", self.copy, "--keep", kept))
+        self.assertEqual((status, said), (0, ""), shown)
+        status, shown, said = verify(*paths[2:], more=("--from-copy", self.copy, "--from", kept))
+        self.assertEqual((status, said, shown.count(", the same, head ")), (0, "", len(paths) - 2), shown)
+
+    def test_without_the_copy_or_with_another(self):
+        paths = self.months()
+        others, beginning = "the journal was begun over other rows than those of the copy", "name the copy of the file"
+        for copy, part in ((DESK.copy("after-2025-12"), others), (self.path, others), (None, beginning)):
+            words = () if copy is None else ("--from-copy", copy)
+            with self.subTest(copy):
+                status, shown, said = verify(*paths, more=words)
+                self.assertEqual((status, shown), (1, ""))
+                self.assertIn(part, said)
+                status, shown, said = close("2026-02", self.path, *words, folder="later-none")
+                self.assertEqual((status, shown), (1, ""))
+                self.assertIn(part, said)
+        self.assertIn(others, close("2025-12", DESK.path, "--from-copy", self.copy, folder="later-none")[2])
+
+
 class Refused(unittest.TestCase):
     """What isn't sealed, and is left as it was."""
 

@@ -334,9 +334,9 @@ def checked(path, program=PROGRAM):
     return before
 
 
-def audit(path, program=PROGRAM):
+def audit(path, program=PROGRAM, *more):
     """Has the program audit a copy."""
-    done = subprocess.run([program, "audit", "--file", path], capture_output=True, text=True, check=False)
+    done = subprocess.run([program, "audit", "--file", path, *more], capture_output=True, text=True, check=False)
     if done.returncode:
         raise Failed(f"{path}: {(done.stdout + done.stderr).strip()}")
 

@@ -40,6 +40,8 @@ TEXTS = ("told", "method", "path", "body")
 NAME = re.compile(r"sealed-[0-9to-]+\.tar")
 SUMS = "SHA256SUMS"
 DONE = (b"200 ", b"201 ")
+OTHER_BEGINNING = "the journal doesn't begin at a founding: name the copy of the file from before it, by --from-copy"
+OTHER_ROWS = "the journal was begun over other rows than those of the copy"
 NONE = (tarfile.TarError, ValueError, KeyError, TypeError, AttributeError)  # what reading something else meets
 
 
@@ -156,10 +158,11 @@ def follow(before, month):
 
 
 class Play:
-    """An institution that the program makes anew of a journal's lines, in a folder."""
+    """An institution that the program makes anew of a journal's lines, in a folder: from its founding, or from a copy of
+    the file as it was when its journal was begun over its rows."""
 
-    def __init__(self, program, folder):
-        self.program = program
+    def __init__(self, program, folder, copy=None):
+        self.program, self.copy = program, copy
         self.made = os.path.join(folder, "made.db")  # by the program, which notes no remarks in its journal
         self.whole = os.path.join(folder, "whole.db")  # the same with the journal as it was
         self.rows = []
@@ -175,11 +178,26 @@ class Play:
         self.run("batch", "--journal", "--file", self.made, "--day", day)
         self.rows = archives.rows_of(self.made)
 
+    def begin_at(self, day, head):
+        """The institution as it was when its journal was begun, at this head: founded on the day, or the copy."""
+        if self.copy is None:
+            self.found(day)
+        else:
+            files.copy_files(self.copy, self.made)
+            self.run("upgrade", "--existing", "--file", self.made, "--journal")
+            self.rows = archives.rows_of(self.made)
+        if self.head()[1] != head:
+            raise Failed(OTHER_BEGINNING if self.copy is None else OTHER_ROWS)
+
     def begin(self, copy):
         """Goes on from a copy of a file."""
         files.copy_files(copy, self.made)
         self.run("batch", "--existing", "--journal", "--file", self.made)
         self.rows = archives.rows_of(self.made)
+
+    def copied(self, option):
+        """The words that name the copy, where there is one."""
+        return [] if self.copy is None else [option, self.copy]
 
     def head(self):
         return self.rows[-1]["number"], self.rows[-1]["chain"].hex()
@@ -212,7 +230,7 @@ class Play:
 
     def audit(self):
         """What `audit` says of that file, which must be the play of its journal."""
-        said = self.run("audit", "--file", self.whole)
+        said = self.run("audit", "--file", self.whole, *self.copied("--from"))
         wanted = "sound, and the play of its journal ({} changes, head {})\n".format(*self.head())
         if not said.endswith(b"\n" + wanted.encode()):
             raise Failed(f"audit of what is played: {said.splitlines()[-1].decode()}")
@@ -240,7 +258,7 @@ class Play:
         heads = [{"number": number, "head": head} for number, head in (before, self.head())]
         about = {"from": first, "to": last, "founded": iso_day(self.rows[0]), "before": heads[0], "after": heads[1]}
         about |= {"follows": follows, "program": program}
-        ledger = ("ledger", "--existing", "--file", self.whole, "--from", first, "--to", last)
+        ledger = ("ledger", "--existing", "--file", self.whole, "--from", first, "--to", last, *self.copied("--from-copy"))
         members = {"about.json": as_json(about), "journal.jsonl": journal_text(rows)}
         members |= {"audit.txt": self.audit(), **arrears}
         members |= {"books.journal": self.run(*ledger), "books.csv": self.run(*ledger, "--csv")}
