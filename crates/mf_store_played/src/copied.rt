@@ -36,7 +36,10 @@ pub fn is_at(begins: Option<Head>, other: Head) -> bool
 
 /// A copy in memory with the journal that would be begun over its rows; none where the copy keeps a journal already.
 /// The error is F20.
-pub fn begun_over(alloc: Global, mut copy: Store<PageStore>) -> Result<Option<Store<PageStore>>, Fault>
+pub fn begun_over(
+    alloc: Global,
+    mut copy: Store<PageStore>,
+) -> Result<Option<Store<PageStore>>, Fault>
     ensures begun { IfOk result (λ x. IfSome x (λ store. (copied : Institution) → StandsFor over_files copy copied
         → IsBegunOver copied store)) }
     ensures none { IfOk result (λ x. IfNone x ((copied : Institution) → StandsFor over_files copy copied

@@ -67,7 +67,14 @@ fn say_rows_from(rt: &HostRuntime, file: &str, copy: &str, all: bool) -> u8
     let Ok(copy) = read_copy(rt, copy) else {
         return refuse(rt, "the copy can't be read");
     };
-    match audit_from_copy(rt, file, &copy.log, &copy.db, all, &mut Following::new(rt, file)) {
+    match audit_from_copy(
+        rt,
+        file,
+        &copy.log,
+        &copy.db,
+        all,
+        &mut Following::new(rt, file),
+    ) {
         Ok(verdict) if is_unplayed(&verdict) => tell_no_journal(rt),
         Ok(verdict) => say(rt, &verdict),
         Err(Unaudited::Copy(refused)) => refuse(rt, words_of_copy(refused)),

@@ -45,7 +45,10 @@ pub struct Served {
 pub enum Work<'a> {
     /// Request lines on standard input are answered; the first word of each may be told of it, and lists may be asked
     /// for.
-    Answer { told: bool, lists: bool },
+    Answer {
+        told: bool,
+        lists: bool,
+    },
     /// HTTP messages on a port of this machine are answered, one a connection.
     Serve(Served),
     /// The sheet on standard input is collected, for this member of staff.
@@ -53,7 +56,9 @@ pub enum Work<'a> {
     /// The report of arrears is printed, as this member of staff sees it.
     Report(Caller),
     /// It is said what the file holds, once a journal was begun where one is asked for and none kept.
-    Upgrade { journal: bool },
+    Upgrade {
+        journal: bool,
+    },
     /// Lines of the journal are moved to an archive.
     Archive(Archiving<'a>),
     /// The books of the institution are written, from a copy where one is given.
