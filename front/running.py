@@ -5,6 +5,7 @@
 import contextlib
 import grp
 import os
+import pwd
 import random
 import shutil
 import signal
@@ -196,6 +197,7 @@ class Nginx:
         self.strangers = os.path.join(folder, "strangers.log")
         self.errors = os.path.join(folder, "nginx-error.log")
         self.shut = os.path.join(folder, "shut")
+        self.visits = os.path.join(folder, "visits")
         self.process = None
 
     def lay_out(self):
@@ -205,6 +207,10 @@ class Nginx:
         os.makedirs(self.people, mode=0o750, exist_ok=True)
         if is_root:
             os.chown(self.people, 0, grp.getgrnam(WORKERS).gr_gid)
+        os.makedirs(self.visits, mode=0o700, exist_ok=True)
+        if is_root:
+            workers = pwd.getpwnam(WORKERS)
+            os.chown(self.visits, workers.pw_uid, workers.pw_gid)
         shutil.rmtree(self.pages, ignore_errors=True)
         subprocess.run([os.path.join(FRONT, "lay-pages"), "--pages", self.source, self.pages], check=True, umask=0o022)
         for name in ("passwords", "staff.map"):
@@ -235,6 +241,8 @@ class Nginx:
             "SHUT": self.shut,
             "PAGES": self.pages,
             "REPLIES": os.path.join(FRONT, "replies.js"),
+            "KEEPER": os.path.join(FRONT, "visits.js"),
+            "VISITS": self.visits,
             "LOG": self.log,
             "STRANGERS": self.strangers,
             "ERRORS": self.errors,
