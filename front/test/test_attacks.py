@@ -83,9 +83,9 @@ def proof(name, at=None):
     return f"Authorization: Basic {desk.credentials(name)}"
 
 
-def message(name, method, target, body=b"", fields=(), version="HTTP/1.1"):
+def message(name, method, target, body=b"", fields=(), version="HTTP/1.1", at=None):
     """The bytes of a message of a person, whatever its target is."""
-    lines = [f"{method} {target} {version}", "Host: x", proof(name), "X-Desk: 1"]
+    lines = [f"{method} {target} {version}", "Host: x", proof(name, at), "X-Desk: 1"]
     lines += [f"Content-Length: {len(body)}", "Connection: close", *fields, "", ""]
     return "\r\n".join(lines).encode("latin-1") + body
 

@@ -841,7 +841,7 @@ class HandOver(Case):
             self.assertEqual(self.figures(zoe)[:2], ["150.00 (2 payments)", none])
 
     def test_notes_of_visits(self):
-        """They stand on the sheet that both sign: the desk has no place for them."""
+        """They stand on the sheet that both sign, each with what became of it."""
         with loans.desk_with(FEW) as it:
             zoe = self.phone(it, "zoe")
             zoe.take_along()
@@ -854,8 +854,8 @@ class HandOver(Case):
             zoe.unlock()
             zoe.wait(lambda: "Notes of visits" in zoe.text(".handover"), "the notes")
             told = [words for words in zoe.script(FACTS) if words[0].startswith("Client")]
-            self.assertEqual(told, [["Client 2 · 0002-000002", "Not at home, her sister promised Friday"],
-                                    ["Client 2 · 0002-000002", "Wants a larger loan"]])
+            self.assertEqual(told, [["Client 2 · 0002-000002", "Not at home, her sister promised Friday\nNot sent yet."],
+                                    ["Client 2 · 0002-000002", "Wants a larger loan\nNot sent yet."]])
             zoe.look("hand-over-notes")
             zoe.script("window.print = () => {}")
             zoe.press("Print on A4")
@@ -1146,7 +1146,7 @@ class Drafts(Case):
             zoe.draft("New client", Name="Bahati Mrema")
             zoe.draft("Application", Client="Bahati Mrema", Principal="500", Instalments="3")
             zoe.draft("Note of a visit", Client="Client 2 · 0002-000002", Note="the roof leaks")
-            self.assertEqual(zoe.bar(), "2 not sent, 0.00, since HH:MM")
+            self.assertEqual(zoe.bar(), "3 not sent, 0.00, since HH:MM")
             zoe.driver.get("about:blank")
             zoe.driver.get(f"{it.url}/#/kept/{PLACE}/drafts")
             zoe.unlock()
@@ -1157,7 +1157,7 @@ class Drafts(Case):
             zoe.network(OPEN)
             it.let_in(zoe.driver, "zoe")
             zoe.open_kept()
-            zoe.follow("Drafts (2)")
+            zoe.follow("Drafts (3)")
             self.press(zoe, "Application")
             self.told(zoe, "Application", "Send the draft of Bahati Mrema first.")
             self.press(zoe, "New client")
@@ -1166,6 +1166,8 @@ class Drafts(Case):
             self.told(zoe, "Application", "Loan 0002-000006 is submitted and waits for approval.")
             self.assertEqual(self.clients(it), ["Bahati Mrema"])
             self.assertEqual(self.applications(it), [("0002-000006", 50000, 3, 100)])
+            self.press(zoe, "Note of a visit")
+            self.told(zoe, "Note of a visit", "It stands on the client’s page.")
             zoe.wait(lambda: zoe.bar() == "", "the end of the bar")
             self.alike(it, zoe)
 

@@ -5,6 +5,7 @@ const MOST_TOGETHER = 8;
 const LOANS_TOGETHER = 320;
 const MOST_MILLISECONDS = 45_000;
 const WAITS_BETWEEN_TRIES = [300, 1000, 2000];
+const NOTHING_DONE = ["origin", "large", "password", "left", "log", "reader", "visit", "full", "disk"];
 
 // Why a request did not succeed. `fault` is the desk's refusal (F1 to F20), `front` the front's, both null where no
 // reply came.
@@ -19,7 +20,7 @@ export class Problem extends Error {
     // whether it is not known that the request was refused: it may have been carried out
     get isLost() {
         return this.fault === "F20" ||
-            (this.fault === null && !["origin", "large", "password", "left", "log", "reader"].includes(this.front));
+            (this.fault === null && !NOTHING_DONE.includes(this.front));
     }
 
     // whether nothing answered at all
@@ -235,6 +236,24 @@ export function change(method, path, body) {
 // 200.
 export function repay(loan, repayment) {
     return tryAgain(() => change("POST", `/loans/${loan}/repayments`, repayment));
+}
+
+function judgedIfKnown(reply) {
+    try {
+        return judged(reply).body;
+    } catch (problem) {
+        if (problem.status === 404 && problem.fault === null) {
+            return null;
+        }
+        throw problem;
+    }
+}
+
+// The body of the reply to a message that is the front's own, which may be sent again. Null where the front is an older
+// one that doesn't know it.
+export function askFront(method, path, body) {
+    const once = () => fetchOnce(method, location.origin + path, body);
+    return tryAgain(async () => judgedIfKnown(await inTurn(method === "GET", once)));
 }
 
 // What the pages begin with. A browser that says there is no network isn't asked again and again.

@@ -71,7 +71,7 @@ function open({node, form, isGrave, cancel, submit}) {
     desk.style.paddingInlineEnd = `${window.innerWidth - document.documentElement.clientWidth}px`;
     desk.inert = true;
     document.body.append(node);
-    (form.querySelector("input, select") ?? (isGrave ? cancel : submit)).focus();
+    (form.querySelector("input, select, textarea") ?? (isGrave ? cancel : submit)).focus();
 }
 
 function listen(dialog) {
@@ -151,7 +151,7 @@ function whenKey(event) {
 
 // The key Tab goes round within the dialog.
 function keepInside(event) {
-    const inside = [...shown.node.querySelectorAll("button, input, select")].filter((one) => !one.disabled);
+    const inside = [...shown.node.querySelectorAll("button, input, select, textarea")].filter((one) => !one.disabled);
     const [from, to] = event.shiftKey ? [inside[0], inside.at(-1)] : [inside.at(-1), inside[0]];
     if (document.activeElement === from) {
         event.preventDefault();

@@ -3,6 +3,7 @@ import {element, freshId} from "./elements.js";
 import {LEAST, MOST} from "./money.js";
 import {FIRST_DAY, LAST_DAY, isDay} from "./days.js";
 import {isFormula, isReceipt} from "./desk.js";
+import {MOST_LETTERS as MOST_OF_A_NOTE} from "./visits.js";
 import {readMoney, say, showCount, showDay, showMoney} from "./words.js";
 
 const MOST_LETTERS = 200;
@@ -58,6 +59,17 @@ function isName(text) {
 
 export function textField({label, hint}) {
     return field({label, input: textInput({maxlength: MOST_LETTERS}), hint, judge: (text) => ({value: text.trim()})});
+}
+
+// A note of several lines. What can't be seen is a space.
+export function noteField({label}) {
+    const input = element("textarea", {class: "form-control", rows: 5, maxlength: MOST_OF_A_NOTE});
+    const range = {least: showCount(1), most: showCount(MOST_OF_A_NOTE)};
+    const judge = (typed) => {
+        const value = typed.replaceAll("\r", "").replace(/[\u0000-\u0009\u000b-\u001f\u007f-\u009f]/g, " ").trim();
+        return value === "" ? {wrong: say("field.note.wrong", range)} : {value};
+    };
+    return field({label, input, hint: say("draft.words.hint", range), judge, wide: true});
 }
 
 // what is not shown as it is typed, and kept by no browser

@@ -12,7 +12,9 @@ export class Told extends Error {
     }
 }
 
-const KINDS = ["origin", "down", "large", "busy", "password", "log", "many", "slow", "reader"];
+const KINDS = [
+    "origin", "down", "large", "busy", "password", "log", "many", "slow", "reader", "visit", "full", "disk"
+];
 
 function keyOf(problem) {
     if (problem.fault !== null && hasWords(`refusal.${problem.fault}.what`)) {

@@ -22,6 +22,7 @@ import {choiceField, moneyField, moneyRange, numberField, numberRange} from "../
 import {keptWriting, Writing} from "../shared/writing.js";
 import {loanTable} from "./loans.js";
 import {previewField} from "./preview.js";
+import {visitsPart} from "./visits.js";
 
 export async function client(page, account) {
     if (!isAccount(account ?? "")) {
@@ -39,7 +40,7 @@ export async function client(page, account) {
             trail: [[say("way.clients"), "#/clients"], [officeWords, `#/clients/${officeOf(account)}`]],
         }),
         card(null, facts([[say("client.number"), account], [say("office"), officeWords]])),
-        element("div", {class: "mt-3"}, card(say("client.loans"), place)));
+        element("div", {class: "mt-3"}, card(say("client.loans"), place)), visitsPart(account));
     const made = (await hasLists()) ? listedLoans(await loansOfListed(account)) : await readLoans(account);
     fill(place, made ?? emptyState(say("client.no-loans")));
 }

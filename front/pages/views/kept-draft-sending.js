@@ -1,10 +1,11 @@
 // A draft becomes a request. The desk gives clients and loans no receipt, so what was sent and has no answer is looked
-// for before it is sent again, and not sent again while it may still be on its way.
+// for before it is sent again, and not sent again while it may still be on its way. A note of a visit has a key.
 import {Problem} from "../shared/api.js";
 import {accountOf, clientsOf, loan as readLoan, loansOfClient} from "../shared/desk.js";
 import {findClients, hasLists, loansOfListed} from "../shared/lists.js";
 import {idOf} from "../shared/kept.js";
 import {Told} from "../shared/refusals.js";
+import {newKey, noteVisit} from "../shared/visits.js";
 import {plain, say, showMoment, showMoney} from "../shared/words.js";
 import {loanWriting} from "./client.js";
 import {clientWriting} from "./clients.js";
@@ -25,6 +26,10 @@ export function sendDraft(round, id, isSure) {
     return withoutOther(async () => {
         const kept = await readRound(idOf(round));
         const draft = kept.drafts.find((one) => one.id === id);
+        if (draft.kind === "note") {
+            await sendNote(kept, draft);
+            return {alike: []};
+        }
         const asked = askedOf(kept, draft);
         const writing = draft.kind === "client" ? clientWriting(kept.office, asked.name) : loanWriting(asked);
         if (draft.isSent && await isFound(kept, draft, writing)) {
@@ -38,17 +43,38 @@ export function sendDraft(round, id, isSure) {
     });
 }
 
-// what is asked of the desk: a loan's client may be a draft, which has to be entered first
+// Of which client a draft is. That may be a draft too, which has to be entered first.
+function clientOf(round, draft) {
+    const drafted = round.drafts.find(({id}) => id === draft.client);
+    if (drafted && drafted.account === null) {
+        throw new Told(say("draft.client-first"), say("draft.client-first.do", {client: drafted.name}));
+    }
+    return drafted?.account ?? draft.client;
+}
+
+// what is asked of the desk
 function askedOf(round, draft) {
     if (draft.kind === "client") {
         return {name: draft.name};
     }
     const {product, principal, periods} = draft;
-    const drafted = round.drafts.find(({id}) => id === draft.client);
-    if (drafted && drafted.account === null) {
-        throw new Told(say("draft.client-first"), say("draft.client-first.do", {client: drafted.name}));
+    return {client: clientOf(round, draft), product, principal, periods};
+}
+
+// Sends a note, which is marked as sent first, with its key. Where the front has no place for it, it stays here.
+async function sendNote(round, draft) {
+    const client = clientOf(round, draft);
+    const key = draft.key ?? newKey();  // older pages gave it none
+    await changeDraft(round, draft.id, () => ({key, isSent: true}));
+    try {
+        const visit = await noteVisit(client, {key, day: round.day, text: draft.words});
+        await changeDraft(round, draft.id, () => ({visit: visit ?? "stays", isSent: visit !== null}));
+    } catch (problem) {
+        if (problem instanceof Problem && !problem.isLost) {
+            await changeDraft(round, draft.id, () => ({isSent: draft.isSent}));
+        }
+        throw problem;
     }
-    return {client: drafted?.account ?? draft.client, product, principal, periods};
 }
 
 function accountIn(body) {

@@ -1,17 +1,18 @@
-// Drafts of a round: a new client, an application, a note of a visit. They are kept on this phone, and the first two
-// become requests once a person sends them.
+// Drafts of a round: a new client, an application, a note of a visit. They are kept on this phone, and become requests
+// once a person sends them.
 import {alertBox, button, card, element, emptyState, fill, link} from "../shared/elements.js";
 import {ask, note} from "../shared/dialogs.js";
-import {choiceField, nameField, textField} from "../shared/forms.js";
+import {choiceField, nameField, noteField} from "../shared/forms.js";
 import {idOf, whenKeptChanges} from "../shared/kept.js";
 import {refusalBox} from "../shared/refusals.js";
 import {session} from "../shared/session.js";
 import {facts, pageHead} from "../shared/tables.js";
+import {newKey} from "../shared/visits.js";
 import {say, showCount, showDay, showMoment, showMoney} from "../shared/words.js";
 import {loanFields} from "./client.js";
 import {ageOf} from "./kept.js";
 import {changeDraft, sendDraft} from "./kept-draft-sending.js";
-import {changeRound, readRound} from "./kept-rounds.js";
+import {changeRound, isWaiting, readRound} from "./kept-rounds.js";
 import {namesIn, officeIn, readPack} from "./pack-kept.js";
 
 // client, kind: whom a draft of that kind is asked for at once, where a page of the day pack leads here
@@ -68,10 +69,31 @@ function clientWords({round, names}, client) {
     return name ? `${name} · ${client}` : draft?.name ?? (client === "none" ? "–" : client);
 }
 
-// The notes of a round: of which client, and their words. names: of the day pack's clients.
+const NOTED = ["entered", "repeated"];  // what became of a note that is on its client's page
+
+function asTyped(words) {
+    return element("div", {class: "as-typed"}, words);
+}
+
+// The notes of a round: of which client, their words, and what became of each that is to be sent. names: of the day
+// pack's clients.
 export function notesOf(round, names) {
     const notes = (round.drafts ?? []).filter(({kind}) => kind === "note");
-    return notes.map(({client, words}) => [clientWords({round, names}, client), words]);
+    const told = (draft) => !isStaying(draft) && element("div", {class: "note-told"}, noteWords(draft));
+    return notes.map((draft) => [clientWords({round, names}, draft.client), asTyped(draft.words), told(draft)]);
+}
+
+// whether a note stays on this phone: it is of no client, or the front has no place for it
+function isStaying({client, visit}) {
+    return client === "none" || visit === "stays";
+}
+
+function noteWords(draft) {
+    if (isStaying(draft)) {
+        return say("draft.stays");
+    }
+    const unsure = draft.isSent ? "visits.unknown" : "draft.waits";
+    return say(NOTED.includes(draft.visit) ? `visits.${draft.visit}` : unsure);
 }
 
 // making them
@@ -107,11 +129,11 @@ function newNote(made) {
     const choices = [["none", "–"], ...clientChoices(made)];
     const fields = {
         client: choiceField({label: say("client"), choices, value: made.asked ?? "none", wide: true}),
-        words: textField({label: say("draft.words"), hint: say("draft.words.hint")})
+        words: noteField({label: say("draft.words")})
     };
     return ask({
         title: say("draft.note"), text: say("draft.note.what"), action: say("draft.keep"), fields,
-        send: ({client, words}) => add(made, {kind: "note", client, words})
+        send: ({client, words}) => add(made, {kind: "note", client, words, key: newKey(), visit: null})
     });
 }
 
@@ -130,32 +152,44 @@ function pairsOf(made, draft) {
             [say("product"), `${draft.product} ${product?.name ?? ""}`], [say("principal"), showMoney(draft.principal)],
             [say("periods"), showCount(draft.periods)]
         ],
-        note: () => [[say("client"), clientWords(made, draft.client)], [say("draft.words"), draft.words]]
+        note: () => [[say("client"), clientWords(made, draft.client)], [say("draft.words"), asTyped(draft.words)]]
     };
     return [...pairs[draft.kind](), [say("draft.made"), showMoment(draft.made)]];
 }
 
 function draftCard(made, draft) {
     const answer = element("div", {"aria-live": "polite"}, made.answers.get(draft.id) ?? []);
-    const isOpen = draft.kind !== "note" && draft.account === null;
     const actions = [
-        isOpen && button(say("draft.send"), () => send(made, draft.id), {
+        maySend(draft) && button(say("draft.send"), () => send(made, draft.id), {
             class: "btn btn-primary", disabled: session.staff === "" || made.isSending
         }),
         draft.kind === "note" && navigator.share && button(say("slip.share"), () => share(made, draft)),
         button(say("round.drop"), () => drop(made, draft), {class: "btn btn-outline-danger", disabled: made.isSending})
     ];
     const node = card(
-        titleOf(draft), facts(pairsOf(made, draft)), element("p", {class: "fw-semibold mb-2"}, stateOf(draft)), answer,
+        titleOf(draft), facts(pairsOf(made, draft)),
+        element("p", {class: "fw-semibold mb-2"}, stateOf(made, draft)), answer,
         element("div", {class: "page-actions"}, actions));
     node.classList.add("mb-3", "draft");
     return node;
 }
 
+// A note that the front had no place for may be sent once more: the front may be another one by then.
+function maySend(draft) {
+    return isWaiting(draft) || (draft.client !== "none" && draft.visit === "stays");
+}
+
+function noteState({round}, draft) {
+    const account = (round.drafts ?? []).find(({id}) => id === draft.client)?.account ?? draft.client;
+    const words = noteWords(draft);
+    return NOTED.includes(draft.visit) ? link(`#/client/${account}`, words) : words;
+}
+
 // what became of a draft
-function stateOf({kind, account, isSent}) {
+function stateOf(made, draft) {
+    const {kind, account, isSent} = draft;
     if (kind === "note") {
-        return say("draft.stays");
+        return noteState(made, draft);
     }
     if (account !== null) {
         const [key, place] = kind === "client" ? ["client.entered", "client"] : ["loan.submitted", "loan"];
@@ -165,8 +199,8 @@ function stateOf({kind, account, isSent}) {
 }
 
 function share(made, draft) {
-    const text = pairsOf(made, draft).map(([words, value]) => `${words}: ${value}`).join("\n");
-    navigator.share({title: titleOf(draft), text}).catch(() => {});
+    const text = pairsOf(made, draft).map(([words, value]) => `${words}: ${value.textContent ?? value}`);
+    navigator.share({title: titleOf(draft), text: text.join("\n")}).catch(() => {});
 }
 
 async function drop(made, draft) {

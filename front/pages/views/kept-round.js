@@ -12,7 +12,7 @@ import {say, sayCount, showDay, showMoney} from "../shared/words.js";
 import {ageOf, nameOf} from "./kept.js";
 import {lock as lockPhone} from "./kept-pin.js";
 import {receiptLinks} from "./kept-receipt.js";
-import {changeLine, countsOf, forgetRound, keepTyped, readRound} from "./kept-rounds.js";
+import {changeLine, countsOf, forgetRound, isWaiting, keepTyped, readRound} from "./kept-rounds.js";
 import {completeLines, isBeingSent, isSendingAnywhere, sendAsked, whenSendingChanges} from "./kept-sending.js";
 import {arrangement, moreWords} from "./round.js";
 import {lineTable} from "./round-lines.js";
@@ -74,7 +74,7 @@ export function showKeptRound(page, round, loan) {
 
 // how many drafts wait, beside the word
 function draftWords({drafts = []}) {
-    const waiting = drafts.filter(({kind, account}) => kind !== "note" && account === null).length;
+    const waiting = drafts.filter(isWaiting).length;
     return waiting === 0 ? say("drafts.title") : `${say("drafts.title")} (${waiting})`;
 }
 

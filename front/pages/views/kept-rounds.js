@@ -48,10 +48,15 @@ async function open(record) {
     return record && roundOf(await unseal(record.id, record.sealed));
 }
 
+// Whether a draft is to become a request and hasn't yet. visit: what became of a note; one of no client stays here.
+export function isWaiting({kind, client, account, visit = null}) {
+    return kind === "note" ? client !== "none" && visit === null : account === null;
+}
+
 // how much of a round is not sent: its lines, and its drafts that are to become requests
 export function countsOf({lines, drafts = []}) {
     const waiting = lines.filter(isTyped);
-    const open = drafts.filter(({kind, account}) => kind !== "note" && account === null);
+    const open = drafts.filter(isWaiting);
     return {
         count: waiting.length + open.length,
         cents: sum(waiting.map(({cents}) => cents ?? 0n)),

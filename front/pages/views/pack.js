@@ -26,6 +26,7 @@ import {
 } from "./pack-kept.js";
 import {dropPack} from "./pack-record.js";
 import {takingCard} from "./pack-taking.js";
+import {visitsPart} from "./visits.js";
 
 const SHOWN_AT_MOST = 50;
 const QUIET = {class: "btn btn-outline-secondary"};
@@ -218,7 +219,7 @@ function showClient(page, kept, office, client) {
     ];
     fill(
         page, pageHead({title: client, badge: name, trail: trailOf(office), actions}), ageLine(kept),
-        loans.length === 0 ? card(null, emptyState(none)) : loans);
+        loans.length === 0 ? card(null, emptyState(none)) : loans, session.staff !== "" && visitsPart(client));
 }
 
 // leads to the loan's line in the round of the pack's day, which gets one where nothing is due
