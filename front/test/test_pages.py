@@ -82,9 +82,9 @@ return poor;
 
 # the fields and buttons that a screen reader has no name for
 NAMELESS = """
-return [...document.querySelectorAll('input, select, button, a[href]')].filter((node) => {
+return [...document.querySelectorAll('input, select, textarea, button, a[href]')].filter((node) => {
     const label = node.id && document.querySelector(`label[for="${node.id}"]`);
-    const own = /INPUT|SELECT/.test(node.tagName) ? '' : node.textContent;
+    const own = /INPUT|SELECT|TEXTAREA/.test(node.tagName) ? '' : node.textContent;
     const words = (node.getAttribute('aria-label') ?? '') + (label?.textContent ?? '') + own;
     return words.trim() === '' && getComputedStyle(node).display !== 'none';
 }).map((node) => node.outerHTML.slice(0, 120));
@@ -92,7 +92,7 @@ return [...document.querySelectorAll('input, select, button, a[href]')].filter((
 
 # what is smaller than a finger
 SMALL = """
-return [...document.querySelectorAll('a[href], button, input, select')].filter((node) => {
+return [...document.querySelectorAll('a[href], button, input, select, textarea')].filter((node) => {
     const box = (node.type === 'checkbox' ? node.closest('label') : node).getBoundingClientRect();
     const isSeen = box.width > 1 && !node.closest('.visually-hidden, .skip-link');
     return isSeen && (box.height < 43.9 || box.width < 43.9);

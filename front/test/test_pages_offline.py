@@ -1081,8 +1081,8 @@ class Sending(Case):
             self.assertEqual((self.sent(it), phone.results()), ([], {}))
 
 
-class Drafts(Case):
-    """A new client, an application, a note of a visit: kept on the phone, and requests once they are sent."""
+class DraftCase(Case):
+    """What is done with drafts."""
 
     LOSING = """
         const real = window.fetch;
@@ -1125,6 +1125,10 @@ class Drafts(Case):
 
     def told(self, zoe, kind, words):
         zoe.wait(lambda: words in self.card(zoe, kind).text, words)
+
+
+class Drafts(DraftCase):
+    """A new client, an application, a note of a visit: kept on the phone, and requests once they are sent."""
 
     def clients(self, it):
         """The names of the office's clients past those of the round."""
