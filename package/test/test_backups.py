@@ -112,8 +112,16 @@ class Backups(roots.ServedDesk):
         self.root.run("systemctl reset-failed microloan; systemctl start microloan")
         return said
 
+    def note_visit(self, client, text):
+        note = {"key": os.urandom(16).hex(), "day": "2026-11-26", "text": text}
+        self.assertEqual(self.ask("POST", f"/visits/{client}", note), (201, {"visit": "entered"}))
+
+    def notes_of(self, client):
+        return [one["text"] for one in self.ask("GET", f"/visits/{client}")[1]["visits"]]
+
     def test_the_timer_s_backup_is_the_whole_desk(self):
         client = self.enter("Before the backup")
+        self.note_visit(client, "not at home")
         self.assertIn("microloan-backup.service", self.root.run("systemctl list-timers --no-pager"))
         self.root.run("systemctl start microloan-backup.service")
         bundle = self.newest()
@@ -125,6 +133,7 @@ class Backups(roots.ServedDesk):
         for name in ("etc/microloan/passwords", "etc/microloan/staff.map", "etc/nginx/sites-available/microloan"):
             self.root.run(f"cmp /root/out/{name} /{name}")
         self.root.run("cmp /root/out/log/messages.log /var/log/microloan/messages.log")
+        self.root.run(f"cmp /root/out/visits/{client} /var/lib/microloan-visits/{client}")
         self.assertEqual(self.root.run("cd /root/out && find . -name '*.key'"), "")
         line = f"1/1 GET /clients/{client}\n"
         said = self.root.run("microloan batch --existing --file /root/out/desk.db", given=line)
@@ -353,6 +362,8 @@ class Backups(roots.ServedDesk):
         staff = {"office": 1, "name": "Zoe", "role": "officer"}
         staff = self.ask("POST", "/api/staff", staff)[1]["staff"]
         self.root.run(f"microloan-people add zoe {staff} --reload", given="a password of zoe's\n")
+        visited = self.enter("Visited")
+        self.note_visit(visited, "before the machine was lost")
         self.back_up()
         self.root.run("logrotate --force /etc/logrotate.d/microloan")
         clients = [self.enter(f"On the lost machine {place}") for place in range(40)]
@@ -361,7 +372,7 @@ class Backups(roots.ServedDesk):
         bundle = "/srv/microloan/" + os.path.basename(self.newest())
         self.root.run("systemctl kill --signal=KILL microloan; systemctl stop microloan; true")
         self.root.run("MICROLOAN_WITHOUT_BACKUP=1 apt-get -qq purge -y microloan 2>&1; systemctl stop rsyslog; rm -rf "
-                      f"/etc/microloan /var/lib/microloan /var/log/microloan {BACKUPS} /root/paper.key")
+                      f"/etc/microloan /var/lib/microloan /var/lib/microloan-visits /var/log/microloan {BACKUPS} /root/paper.key")
         # the new machine: the package, what was taken off the old one, and the sheet of paper
         said = self.follow_the_page(bundle)
         self.assertIn("messages after the backup, the same (40 changed something)", said)
@@ -369,6 +380,7 @@ class Backups(roots.ServedDesk):
         self.assertNotIn("AGE-SECRET-KEY", said)
         self.assertRegex(said, "DESK (OK|WARNING) - ")
         self.assertEqual([self.name_of(it) for it in clients], [f"On the lost machine {it}" for it in range(40)])
+        self.assertEqual(self.notes_of(visited), ["before the machine was lost"])
         zoe = roots.ask(self.root, "zoe", "a password of zoe's", "GET", "/api/business-day")
         self.assertEqual(zoe, (200, {"day": "2026-11-26"}))
         self.assertEqual(self.root.run("microloan-who client | grep -c 'On the lost machine'"), "40\n")

@@ -208,6 +208,15 @@ class Check(roots.ServedDesk):
             self.wait_until(lambda: self.ask("POST", "/api/clients", client)[0] == 201)
         self.root.run(f"truncate -s 0 {LOG}")
 
+    def test_notes_of_visits_that_others_read_or_nobody_keeps(self):
+        folder = "/var/lib/microloan-visits"
+        for broken, told in ((f"chmod 755 {folder}", "isn't nginx's alone"), (f"chown root {folder}", "isn't nginx's alone"),
+                             (f"rmdir {folder}", "no note of a visit is kept")):
+            self.root.run(broken)
+            self.assertIn(told, self.look(1))
+            self.root.run(f"install -d -m 700 -o www-data -g www-data {folder}")
+        self.look(0)
+
     def test_backups_that_are_old_or_stay_here(self):
         self.root.run(f"mkdir /root/aside; mv {BACKUPS}/* /root/aside")
         self.assertIn("there is no backup", self.look(2))

@@ -134,6 +134,7 @@ class Installed(unittest.TestCase):
         wanted = {
             "/var/lib/microloan": "700 microloan:microloan",
             "/var/lib/microloan/desk.db": "600 microloan:microloan",
+            "/var/lib/microloan-visits": "700 www-data:www-data",
             "/var/backups/microloan": "700 root:root",
             "/etc/microloan/keys": "700 root:root",
             "/etc/microloan/keys/sign.key": "600 root:root",
@@ -154,6 +155,11 @@ class Installed(unittest.TestCase):
         client = {"office": 1, "name": "Awa Diallo"}
         self.wait_until(lambda: self.ask("zoe", "a password of zoe's", "GET", "/api/offices")[0] == 200)
         self.assertEqual(self.ask("zoe", "a password of zoe's", "POST", "/api/clients", client)[0], 201)
+        note = {"key": "0" * 32, "day": "2026-11-26", "text": "not at home"}
+        kept = self.ask("zoe", "a password of zoe's", "POST", "/visits/0001-000001", note)
+        self.assertEqual(kept, (201, {"visit": "entered"}))
+        notes = "/var/lib/microloan-visits/0001-000001"
+        self.assertEqual(self.modes(notes), {notes: "600 www-data:www-data"})
         script = "import urllib.request as r\nprint(r.urlopen('http://127.0.0.1:8190{}').headers['Content-Type'])"
         scripts = ("/lib/chart/chart.min.js", "/lib/dsv/d3-dsv.min.js", "/lib/qrcode/qrcode.js")
         for path in ("/lib/bootstrap/css/bootstrap.min.css", *scripts):
@@ -196,6 +202,7 @@ class Installed(unittest.TestCase):
         said = self.root.run("apt-get -qq purge -y microloan 2>&1")
         self.assertIn("the backups in /var/backups/microloan are kept", said)
         gone = ("/var/lib/microloan", "/etc/microloan", "/var/log/microloan", "/etc/nginx/sites-available/microloan")
+        gone += ("/var/lib/microloan-visits",)
         for path in gone + ("/etc/nginx/sites-enabled/microloan", "/usr/share/microloan", "/usr/bin/microloan"):
             self.assertEqual(self.root.run(f"ls -d {path} 2>/dev/null", wanted=2), "")
         self.root.run(f"test -s {backup} && nginx -q -t")

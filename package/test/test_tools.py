@@ -3,9 +3,11 @@ import contextlib
 import datetime
 import importlib.machinery
 import importlib.util
+import io
 import json
 import os
 import pty
+import pwd
 import random
 import signal
 import sqlite3
@@ -583,6 +585,85 @@ class Backups(unittest.TestCase):
         self.assertGreater(len(entered), 50)
 
 
+def tool(name):
+    """A tool as a module."""
+    loader = importlib.machinery.SourceFileLoader(name.replace("-", "_"), os.path.join(TOOLS, name))
+    made = importlib.util.module_from_spec(importlib.util.spec_from_loader(loader.name, loader))
+    loader.exec_module(made)
+    return made
+
+
+class Visits(unittest.TestCase):
+    """Notes of visits: in a backup, back on a new machine, and looked at by microloan-check."""
+
+    def setUp(self):
+        room = tempfile.TemporaryDirectory()
+        self.addCleanup(room.cleanup)
+        self.keys, self.folder, self.bundle = (os.path.join(room.name, name) for name in ("keys", "visits", "bundle"))
+        desk_bundle.make_keys(self.keys)
+        os.mkdir(self.folder, 0o700)
+        for client, text in (("0002-000001", "one\n"), ("0002-000002", "two\n"), ("other", "no client's\n")):
+            with open(os.path.join(self.folder, client), "w", encoding="utf-8") as file:
+                file.write(text)
+        os.symlink("/etc/hostname", os.path.join(self.folder, "0002-000003"))
+        os.mkfifo(os.path.join(self.folder, "0002-000004"))
+
+    def sealed(self, folder):
+        with desk_bundle.sealed(self.bundle, self.keys) as tar:
+            desk_bundle.add_text(tar, "desk.json", "{}")
+            desk_bundle.add_visits(tar, folder)
+
+    def in_bundle(self):
+        with desk_bundle.opened(self.bundle, os.path.join(self.keys, "machine.key")) as (tar, _):
+            members = (member for member in tar if member.name != "desk.json")  # which is read already
+            return {member.name: tar.extractfile(member).read() for member in members}
+
+    def test_in_a_backup(self):
+        """The notes of clients, and nothing else that lies there."""
+        self.sealed(self.folder)
+        self.assertEqual(self.in_bundle(), {"visits/0002-000001": b"one\n", "visits/0002-000002": b"two\n"})
+        self.sealed(self.folder + "-missing")
+        self.assertEqual(self.in_bundle(), {})
+
+    @unittest.skipUnless(os.geteuid() == 0, "gives files to nginx's workers")
+    def test_on_a_new_machine(self):
+        """They are put in place as nginx's workers' own; those that are there stay."""
+        self.sealed(self.folder)
+        place = self.folder + "-new"
+        os.mkdir(place, 0o700)
+        with open(os.path.join(place, "0002-000002"), "w", encoding="utf-8") as file:
+            file.write("noted here\n")
+        restore = tool("microloan-restore")
+        with unittest.mock.patch.object(restore.bundle, "VISITS", place), contextlib.redirect_stdout(io.StringIO()):
+            with desk_bundle.opened(self.bundle, os.path.join(self.keys, "machine.key")) as (tar, about):
+                restore.restore_settings(tar, about, [])
+        found = {}
+        for name in sorted(os.listdir(place)):
+            with open(os.path.join(place, name), encoding="utf-8") as file:
+                found[name] = file.read()
+        self.assertEqual(found, {"0002-000001": "one\n", "0002-000002": "noted here\n"})
+        about = os.stat(os.path.join(place, "0002-000001"))
+        self.assertEqual((about.st_mode & 0o777, about.st_uid), (0o600, pwd.getpwnam("www-data").pw_uid))
+
+    def test_looked_at(self):
+        check = tool("microloan-check")
+        owner = pwd.getpwnam("www-data").pw_uid
+        if os.geteuid() == 0:
+            os.chown(self.folder, owner, -1)
+
+        def found(folder):
+            look = check.Look()
+            with unittest.mock.patch.object(check.bundle, "VISITS", folder):
+                check.look_at_visits(look)
+            return look.level(), look.line()
+
+        self.assertEqual(found(self.folder)[0], 0 if os.stat(self.folder).st_uid == owner else 1)
+        os.chmod(self.folder, 0o755)
+        self.assertEqual(found(self.folder)[0], 1)
+        self.assertIn("isn't nginx's alone", found(self.folder)[1])
+        self.assertIn("no note of a visit is kept", found(self.folder + "-missing")[1])
+
+
 class Journals(unittest.TestCase):
     """Of an institution with a journal that nobody serves: its head is noted, and told where it isn't that any more."""
 
@@ -638,9 +719,7 @@ class Journals(unittest.TestCase):
 
     def check_says(self):
         """What microloan-check finds of the journal."""
-        loader = importlib.machinery.SourceFileLoader("microloan_check", os.path.join(TOOLS, "microloan-check"))
-        check = importlib.util.module_from_spec(importlib.util.spec_from_loader("microloan_check", loader))
-        loader.exec_module(check)
+        check = tool("microloan-check")
         with unittest.mock.patch.multiple(journal_heads, PLACE=self.heads, MARK=self.heads):
             look = check.Look()
             check.look_at_journal(look)

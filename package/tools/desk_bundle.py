@@ -6,7 +6,8 @@ The folder of the keys is root's alone:
     sign.key, sign.pub the pair of minisign by which bundles are signed
 
 A bundle holds, in this order: desk.json (when and where it was made, what it holds, its place in the log), desk.db,
-then the settings as etc/.., the people of the sign-in by sessions as sign-in/.., and the log as log/.. .
+then the settings as etc/.., the people of the sign-in by sessions as sign-in/.., the notes of visits as visits/.., and
+the log as log/.. .
 """
 import contextlib
 import gzip
@@ -23,6 +24,8 @@ KEYS = "/etc/microloan/keys"
 LOG_FOLDER = "log/"
 SIGN_IN = "/var/lib/microloan-signin"
 SETTINGS = ("/etc/microloan", "/etc/microloan-client", "/etc/nginx/sites-available/microloan")
+VISITS = "/var/lib/microloan-visits"
+NOTES = re.compile(r"visits/([0-9]{4}-[0-9]{6})")  # of one client
 RECIPIENT = re.compile(r"age1[0-9a-z]{20,}")
 
 
@@ -152,6 +155,14 @@ def add_sign_in(tar):
     for name in names:
         if os.path.isfile(os.path.join(SIGN_IN, name)):
             add_file(tar, f"sign-in/{name}", os.path.join(SIGN_IN, name))
+
+
+def add_visits(tar, folder=VISITS):
+    """Puts the notes of visits, a file a client, into a tar file. nginx's workers own the folder."""
+    for name in sorted(os.listdir(folder)) if os.path.isdir(folder) else ():
+        path = os.path.join(folder, name)
+        if NOTES.fullmatch(f"visits/{name}") and not os.path.islink(path):
+            add_file(tar, f"visits/{name}", path)
 
 
 def sign(path, keys, comment):
