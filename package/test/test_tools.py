@@ -625,6 +625,21 @@ class Visits(unittest.TestCase):
         self.sealed(self.folder + "-missing")
         self.assertEqual(self.in_bundle(), {})
 
+    def test_of_clients_that_are_not_there_any_more(self):
+        """After a restore their notes are named, since the next clients get their numbers."""
+        path = os.path.join(os.path.dirname(self.folder), "desk.db")
+        running.answer_lines(path, b'''1/1 POST /offices {"number":2,"parent":1,"name":"North"}
+1/1 POST /clients {"office":2,"name":"Amina"}
+''')
+        restore, said = tool("microloan-restore"), io.StringIO()
+        with unittest.mock.patch.object(restore.bundle, "VISITS", self.folder), contextlib.redirect_stdout(said):
+            with unittest.mock.patch.object(restore.files, "FILE", path):
+                restore.tell_notes_of_nobody(unittest.mock.Mock(file=path))
+            restore.tell_notes_of_nobody(unittest.mock.Mock(file=path))  # not the desk's own file
+        command = f"cd {self.folder} && rm 0002-000002 0002-000003 0002-000004\n"
+        self.assertEqual([line for line in said.getvalue().splitlines(True) if "rm" in line],
+                         ["next clients get those numbers: " + command])
+
     @unittest.skipUnless(os.geteuid() == 0, "gives files to nginx's workers")
     def test_on_a_new_machine(self):
         """They are put in place as nginx's workers' own; those that are there stay."""

@@ -157,12 +157,17 @@ def add_sign_in(tar):
             add_file(tar, f"sign-in/{name}", os.path.join(SIGN_IN, name))
 
 
-def add_visits(tar, folder=VISITS):
-    """Puts the notes of visits, a file a client, into a tar file. nginx's workers own the folder."""
-    for name in sorted(os.listdir(folder)) if os.path.isdir(folder) else ():
-        path = os.path.join(folder, name)
-        if NOTES.fullmatch(f"visits/{name}") and not os.path.islink(path):
-            add_file(tar, f"visits/{name}", path)
+def visited(folder):
+    """The clients of which there are notes of visits: a file each, in a folder of nginx's workers."""
+    names = sorted(os.listdir(folder)) if os.path.isdir(folder) else []
+    return [name for name in names if NOTES.fullmatch(f"visits/{name}")]
+
+
+def add_visits(tar, folder):
+    """Puts the notes of visits into a tar file."""
+    for name in visited(folder):
+        if not os.path.islink(os.path.join(folder, name)):
+            add_file(tar, f"visits/{name}", os.path.join(folder, name))
 
 
 def sign(path, keys, comment):

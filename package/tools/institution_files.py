@@ -315,6 +315,12 @@ def counts_of(path):
     return day, clients, loans, entries
 
 
+def clients_of(path):
+    """The clients of a whole file, by number, as 0021-000007."""
+    with contextlib.closing(sqlite3.connect(f"file:{quoted(path)}?mode=ro&immutable=1", uri=True)) as database:
+        return [f"{office:04}-{number:06}" for office, number in database.execute("select office, number from clients")]
+
+
 def quoted(path):
     return path.replace("%", "%25").replace("?", "%3f").replace("#", "%23")
 

@@ -25,7 +25,8 @@ async function show(place, client) {
 }
 
 function visitsCard(place, client, visits) {
-    const list = element("ul", {class: "visits"}, [...visits].reverse().map(visitLine));
+    const newestFirst = [...visits].reverse().sort((one, other) => other.day.localeCompare(one.day));
+    const list = element("ul", {class: "visits"}, newestFirst.map(visitLine));
     const add = button(say("visits.note"), () => noteOne(place, client));
     return card(
         say("visits.title"), visits.length === 0 ? emptyState(say("visits.none")) : list,
