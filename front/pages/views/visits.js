@@ -46,7 +46,7 @@ function keptOnce(client) {
         last = last.text === text ? last : {text, key: newKey()};
         const visit = await noteVisit(client, {...values, key: last.key});
         if (visit === null) {
-            throw new Told(say("visits.no-place"), say("visits.no-place.do"));
+            throw new Told(say("refusal.F5.what"), say("refusal.F5.do"));  // a front of before, since the page was read
         }
         return visit;
     };

@@ -218,8 +218,6 @@ export default {
     "visits.entered": "It stands on the client’s page.",
     "visits.repeated": "It stood on the client’s page already.",
     "visits.unknown": "Sent, and no reply came. Send it again: it is kept once.",
-    "visits.no-place": "The desk's front is an older one, and has no place for notes.",
-    "visits.no-place.do": "It was not kept. Write it down, or tell whoever runs the desk.",
 
     // loans
     "loans.title": "Loans",

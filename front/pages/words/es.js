@@ -218,8 +218,6 @@ export default {
     "visits.entered": "Está en la página del cliente.",
     "visits.repeated": "Ya estaba en la página del cliente.",
     "visits.unknown": "Enviada, sin respuesta. Envíela de nuevo: se guarda una sola vez.",
-    "visits.no-place": "El servidor es de una versión anterior, y no tiene sitio para notas.",
-    "visits.no-place.do": "No se guardó. Anótela en papel, o dígaselo a quien lleva el sistema.",
 
     // loans
     "loans.title": "Préstamos",

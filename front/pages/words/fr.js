@@ -218,8 +218,6 @@ export default {
     "visits.entered": "Elle est sur la page du client.",
     "visits.repeated": "Elle était déjà sur la page du client.",
     "visits.unknown": "Envoyée, sans réponse. Envoyez-la de nouveau : elle n’est gardée qu’une fois.",
-    "visits.no-place": "Le serveur est d’une version antérieure, et n’a pas de place pour les notes.",
-    "visits.no-place.do": "Elle n’a pas été gardée. Notez-la sur papier, ou dites-le à qui gère le système.",
 
     // loans
     "loans.title": "Prêts",

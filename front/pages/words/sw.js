@@ -218,8 +218,6 @@ export default {
     "visits.entered": "Yapo kwenye ukurasa wa mteja.",
     "visits.repeated": "Yalikuwapo tayari kwenye ukurasa wa mteja.",
     "visits.unknown": "Yametumwa, hakuna jibu. Yatume tena: yanahifadhiwa mara moja.",
-    "visits.no-place": "Seva ni ya toleo la zamani, na haina nafasi ya maelezo.",
-    "visits.no-place.do": "Hayakuhifadhiwa. Yaandike kwenye karatasi, au mwambie anayeendesha mfumo.",
 
     // loans
     "loans.title": "Mikopo",
