@@ -1,5 +1,5 @@
-"""Notes of visits in the pages: written without a network, sent when back, seen on the client's page by whoever sees the
-client; and noted there at once."""
+"""Notes of visits in the pages: written without a network, sent when back, seen on the client's page by whoever sees
+the client; and noted there at once."""
 import contextlib
 import json
 import os
@@ -51,7 +51,7 @@ class Sent(offline.DraftCase):
     """A note that was written on a phone becomes a request once it is sent."""
 
     def test_written_without_a_network(self):
-        """Sent when back; another one of the office reads it on the client's page, and one of another office doesn't."""
+        """Sent when back; another person of the office reads it on the client's page, one of another office doesn't."""
         with desk_of_two_offices() as it:
             zoe = self.on_phone(it)
             zoe.network(offline.CUT)
@@ -69,7 +69,8 @@ class Sent(offline.DraftCase):
             self.assertIsNone(self.button(zoe, NOTE, "Send"))
             zoe.look("visits-outbox-sent")
             (note,) = kept(it)
-            self.assertEqual((note["user"], note["staff"], note["day"], note["text"]), ("zoe", "2/2", "2024-03-31", WORDS))
+            told = [note[name] for name in ("user", "staff", "day", "text")]
+            self.assertEqual(told, ["zoe", "2/2", "2024-03-31", WORDS])
             self.on_the_sheet(it, zoe)
             self.seen_by_others(it)
 

@@ -3,11 +3,13 @@ import json
 import os
 import re
 import subprocess
+import sys
 import threading
 import time
 import unittest
 
 import desk
+import running
 import test_attacks as attacks
 from test_front import LINES, PEOPLE, REFUSED_ORIGIN, desk_wait
 
@@ -173,6 +175,41 @@ class Notes(Case):
         self.assertEqual(send(noted(1)), ENTERED)
 
 
+def fill_the_disk():
+    """Where the disk of the notes has 20 kB: what notes are answered, in a mount namespace of this process's own."""
+    with desk.Desk(lines=TWO_CLIENTS, people=PEOPLE) as it:
+
+        def send_all(count):
+            bodies = [noted(number, "é" * 900) for number in range(count)]
+            return [it.send("zoe", "POST", VISITS, body)[0] for body in bodies]
+
+        owner = os.stat(it.nginx.visits)
+        options = f"size=20k,mode=700,uid={owner.st_uid},gid={owner.st_gid}"
+        subprocess.run(["mount", "-t", "tmpfs", "-o", options, "tmpfs", it.nginx.visits], check=True)
+        told = {"first": send_all(12)}
+        told["size"] = os.path.getsize(os.path.join(it.nginx.visits, "0002-000001"))
+        told["shown"] = len(it.send("zoe", "GET", VISITS)[1]["visits"])
+        subprocess.run(["mount", "-o", "remount,size=200k", it.nginx.visits], check=True)
+        told["again"] = send_all(12)
+        told["all"] = len(it.send("zoe", "GET", VISITS)[1]["visits"])
+        it.nginx.stop()
+        subprocess.run(["umount", it.nginx.visits], check=True)
+    print(json.dumps(told))
+
+
+class FullDisk(unittest.TestCase):
+    @unittest.skipIf(os.geteuid() != 0, "mounting needs root")
+    def test_what_was_told_as_entered_stands(self):
+        """The note that the disk cut short is refused, is shown nowhere, and stands once there is room."""
+        inside = "import sys; sys.path.insert(0, sys.argv[1]); import test_visits; test_visits.fill_the_disk()"
+        words = ["unshare", "-m", "--propagation", "private", sys.executable, "-c", inside]
+        done = subprocess.run([*words, os.path.dirname(__file__)], capture_output=True, text=True, check=False)
+        self.assertEqual(done.returncode, 0, done.stderr)
+        told = json.loads(done.stdout.splitlines()[-1])
+        self.assertEqual((told["first"], told["size"], told["shown"]), ([201] * 10 + [503] * 2, 20480, 10))
+        self.assertEqual((told["again"], told["all"]), ([200] * 10 + [201] * 2, 12))
+
+
 class Guards(Case):
     """Who may note and be told: those who see the client, by one spelling, from the front's own pages."""
 
@@ -279,6 +316,14 @@ class Guards(Case):
         self.assertEqual(send(json.dumps(noted(1)).encode().ljust(64000)), ENTERED)
 
 
+def audited_day():
+    """What restores and audits know the messages of the log by."""
+    sys.path.append(os.path.join(running.TOP, "audit"))
+    import day
+
+    return day
+
+
 class Log(Case):
     TOLD = ("user", "staff", "method", "path", "status", "upstream", "reply")
 
@@ -304,6 +349,7 @@ class Log(Case):
         ]
         self.assertEqual(sorted([line[name] for name in self.TOLD] for line in lines), sorted(wanted))
         self.assertEqual([json.loads(line["body"]) for line in lines if line["status"] == 201], [noted(1)])
+        self.assertEqual([line for line in lines if audited_day().is_passed_on(line)], [])
 
     def test_who_noted(self):
         """The tool that tells who did what tells of notes too."""

@@ -210,9 +210,10 @@ class Check(roots.ServedDesk):
 
     def test_notes_of_visits_that_others_read_or_nobody_keeps(self):
         folder = "/var/lib/microloan-visits"
-        for broken, told in ((f"chmod 755 {folder}", "isn't nginx's alone"), (f"chown root {folder}", "isn't nginx's alone"),
-                             (f"rmdir {folder}", "no note of a visit is kept")):
-            self.root.run(broken)
+        cases = {"chmod 755": "isn't nginx's alone", "chown root": "isn't nginx's alone",
+                 "rmdir": "no note of a visit is kept"}
+        for broken, told in cases.items():
+            self.root.run(f"{broken} {folder}")
             self.assertIn(told, self.look(1))
             self.root.run(f"install -d -m 700 -o www-data -g www-data {folder}")
         self.look(0)
