@@ -7,6 +7,7 @@ import os
 import desk
 import test_pages_loans as loans
 import test_pages_offline as offline
+import test_pages_pack as pack
 
 PLACE = offline.PLACE
 CLIENT = "Client 2 · 0002-000002"
@@ -215,6 +216,22 @@ class OnThePage(offline.DraftCase):
             tom.script("document.querySelector('.toast')?.remove()")
             tom.script("[...document.querySelectorAll('.card')].at(-1).scrollIntoView()")
             tom.look("visits-client-two")
+
+    def test_on_the_page_of_a_day_pack(self):
+        """Where the desk answers it has the visits; without a network it is as ever."""
+        with loans.desk_with(offline.FEW) as it:
+            zoe = pack.Phone(it, "zoe")
+            self.addCleanup(zoe.close)
+            zoe.take_day()
+            zoe.go("pack/2/0002-000002")
+            self.noted(zoe, WORDS)
+            zoe.send("Keep the note")
+            zoe.wait(lambda: visits(zoe) == [("Mar 31, 2024 · zoe · 2/2", WORDS)], "the visit")
+            zoe.network(offline.CUT)
+            zoe.open_pack("pack/2/0002-000002")
+            zoe.wait(lambda: "Loan 0002-000002" in zoe.text("main"), "the loan")
+            zoe.settle()
+            self.assertEqual((visits(zoe), zoe.all("main .alert-danger")), ([], []))
 
     def test_a_lost_reply(self):
         """Sent again, the same words are kept once; other words are another note."""

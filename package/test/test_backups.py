@@ -372,7 +372,8 @@ class Backups(roots.ServedDesk):
         bundle = "/srv/microloan/" + os.path.basename(self.newest())
         self.root.run("systemctl kill --signal=KILL microloan; systemctl stop microloan; true")
         self.root.run("MICROLOAN_WITHOUT_BACKUP=1 apt-get -qq purge -y microloan 2>&1; systemctl stop rsyslog; rm -rf "
-                      f"/etc/microloan /var/lib/microloan /var/lib/microloan-visits /var/log/microloan {BACKUPS} /root/paper.key")
+                      f"/etc/microloan /var/lib/microloan /var/lib/microloan-visits /var/log/microloan {BACKUPS} "
+                      "/root/paper.key")
         # the new machine: the package, what was taken off the old one, and the sheet of paper
         said = self.follow_the_page(bundle)
         self.assertIn("messages after the backup, the same (40 changed something)", said)

@@ -638,7 +638,7 @@ class Visits(unittest.TestCase):
             restore.tell_notes_of_nobody(unittest.mock.Mock(file=path))  # not the desk's own file
         command = f"cd {self.folder} && rm 0002-000002 0002-000003 0002-000004\n"
         self.assertEqual([line for line in said.getvalue().splitlines(True) if "rm" in line],
-                         ["next clients get those numbers: " + command])
+                         ["the next clients get those numbers: " + command])
 
     @unittest.skipUnless(os.geteuid() == 0, "gives files to nginx's workers")
     def test_on_a_new_machine(self):

@@ -219,7 +219,8 @@ function showClient(page, kept, office, client) {
     ];
     fill(
         page, pageHead({title: client, badge: name, trail: trailOf(office), actions}), ageLine(kept),
-        loans.length === 0 ? card(null, emptyState(none)) : loans, session.staff !== "" && visitsPart(client));
+        loans.length === 0 ? card(null, emptyState(none)) : loans,
+        name !== undefined && session.staff !== "" && visitsPart(client, true));
 }
 
 // leads to the loan's line in the round of the pack's day, which gets one where nothing is due

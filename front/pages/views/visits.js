@@ -8,19 +8,22 @@ import {day as dayCell} from "../shared/tables.js";
 import {newKey, noteVisit, visitsOf} from "../shared/visits.js";
 import {say} from "../shared/words.js";
 
-// The part of a page with the visits to a client. It stays empty where the front has no place for them.
-export function visitsPart(client) {
+// The part of a page with the visits to a client. It stays empty where the front has no place for them. isBeside: also
+// where nothing answers, as on a page that a phone shows without a network.
+export function visitsPart(client, isBeside = false) {
     const place = element("div", {class: "mt-3"});
-    show(place, client);
+    show(place, client, isBeside);
     return place;
 }
 
-async function show(place, client) {
+async function show(place, client, isBeside = false) {
     try {
         const visits = await visitsOf(client);
         fill(place, visits && visitsCard(place, client, visits));
     } catch (problem) {
-        showRefusal(place, problem, () => show(place, client));
+        if (!isBeside || !problem.hasNoReply) {
+            showRefusal(place, problem, () => show(place, client));
+        }
     }
 }
 
