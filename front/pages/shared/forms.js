@@ -66,7 +66,7 @@ export function noteField({label}) {
     const input = element("textarea", {class: "form-control", rows: 5, maxlength: MOST_OF_A_NOTE});
     const range = {least: showCount(1), most: showCount(MOST_OF_A_NOTE)};
     const judge = (typed) => {
-        const value = typed.replaceAll("\r", "").replace(/[\u0000-\u0009\u000b-\u001f\u007f-\u009f]/g, " ").trim();
+        const value = typed.replace(/[\u0000-\u0009\u000b-\u001f\u007f-\u009f]/g, " ").trim();
         return value === "" ? {wrong: say("field.note.wrong", range)} : {value};
     };
     return field({label, input, hint: say("draft.words.hint", range), judge, wide: true});

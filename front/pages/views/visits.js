@@ -43,11 +43,11 @@ function visitLine({day, user, staff, text}) {
 
 // The same words are sent with the same key: those of which no reply came are kept once.
 function keptOnce(client) {
-    let last = {text: null, key: null};
+    const keys = new Map();
     return async (values) => {
-        const text = JSON.stringify(values);
-        last = last.text === text ? last : {text, key: newKey()};
-        const visit = await noteVisit(client, {...values, key: last.key});
+        const words = JSON.stringify(values);
+        keys.set(words, keys.get(words) ?? newKey());
+        const visit = await noteVisit(client, {...values, key: keys.get(words)});
         if (visit === null) {
             throw new Told(say("refusal.F5.what"), say("refusal.F5.do"));  // a front of before, since the page was read
         }
