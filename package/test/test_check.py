@@ -216,7 +216,7 @@ class Check(roots.ServedDesk):
             self.root.run(f"{broken} {folder}")
             self.assertIn(told, self.look(1))
             self.root.run(f"install -d -m 700 -o www-data -g www-data {folder}")
-        self.look(0)
+        self.assertNotIn(folder, self.root.run("microloan-check; true"))
 
     def test_backups_that_are_old_or_stay_here(self):
         self.root.run(f"mkdir /root/aside; mv {BACKUPS}/* /root/aside")
