@@ -15,8 +15,8 @@ function keep(request, part, flags) {
 const MOST_LOANS = 1000;
 const LAST_LOAN = 999999;
 
-// The loans of a message by offices: 2:1.16.3 has 0002-000001, 0002-000017 and 0002-000020. Null where it names too many,
-// a number that no loan has, or offices that don't ascend: what is asked for has one spelling.
+// The loans of a message by offices: 2:1.16.3 has 0002-000001, 0002-000017 and 0002-000020. Null where it names too
+// many, a number that no loan has, or offices that don't ascend: what is asked for has one spelling.
 function loansOf(spelled) {
     const loans = [];
     let before = 0;
@@ -48,8 +48,8 @@ function routesOf(variables) {
 const MOST_HELD = 4 * 1024 * 1024;  // characters of replies, after which no further reading is passed on
 const NOT_READ = {status: 413, text: '{"front":"large"}'};
 
-// Answers several readings by one message: a list of what each is answered, as its status and its text. One is asked for
-// once the one before is read: by promises in place of a callback each would take 4 kB more until the last one is.
+// Answers several readings by one message: a list of what each is answered, as its status and its text. One is asked
+// for once the one before is read. A promise for each would take 4 kB more than a callback does, until the last one is.
 function several(request) {
     const routes = routesOf(request.variables);
     if (routes === null) {

@@ -327,8 +327,24 @@ class Several(OverTheProgram):
         "/accounts?0002-000001/entries", "/accounts?/loans/0002-000001", "/accounts?../offices-1", "/accounts/?0002-000001",
         "/accounts?" + "&".join(["0002-000001"] * 321), "/ACCOUNTS?0002-000001", "/%61ccounts?0002-000001",
         "/api/accounts?0002-000001", "/several?0002-000001", "/accounts?/offices",
+        "/accounts?2:1.", "/accounts?2:.1", "/accounts?2:1..1", "/accounts?2:1&", "/accounts?&2:1", "/accounts?2:1&&3:1",
+        "/accounts?2", "/accounts?2:", "/accounts?:1", "/accounts?2:1:1", "/accounts?2:1;3:1", "/accounts?2:1,1",
+        "/accounts?2:1+1", "/accounts?2:-1", "/accounts?2:1?", "/accounts?2:1#x", "/accounts?2%3A1", "/accounts?2:1%2E1",
+        "/accounts?2:1%263:1", "/accounts?2:%31", "/accounts?2:1/entries", "/accounts?2:../offices", "/accounts/?2:1",
+        "/accounts?2-1", "/accounts?2-1.1", "/accounts?2:1&0003-000001", "/accounts?0002-000001&3:1", "/several?2:1",
+        "/accounts?02:1", "/accounts?2:01", "/accounts?2:1.01", "/accounts?0:1", "/accounts?2:0", "/accounts?2:1.0",
+        "/accounts?2:1&2:1", "/accounts?2:1&2:2", "/accounts?3:1&2:1", "/accounts?2:1&4:1&3:1",  # offices ascend
+        "/accounts?10000:1", "/accounts?2:1000000", "/accounts?2:999999.1", "/accounts?2:1.999999",  # no such number
+        "/accounts?2:" + ".".join(["1"] * 1001), "/accounts?2:1&3:" + ".".join(["1"] * 1000),  # too many
+        "/ACCOUNTS?2:1", "/%61ccounts?2:1", "/api/accounts?2:1",
     )
     LOANS = ("0002-000001", "0003-000001", "0009-000009")
+    MOST = {  # as many loans as a message may name, by either spelling
+        "/accounts?" + "&".join(f"0002-{number:06}" for number in range(1, 321)): [(2, one) for one in range(1, 321)],
+        "/accounts?2:" + ".".join(["1"] * 1000): [(2, one) for one in range(1, 1001)],
+        "/accounts?2:1999" + ".1002" * 996 + "&17:999999&9999:7.999992":
+            [(2, 1999 + 1002 * step) for step in range(997)] + [(17, 999999), (9999, 7), (9999, 999999)],
+    }
     TOLD = ("from", "user", "staff", "method", "path", "body", "status", "upstream", "reply")
 
     def ask(self, *paths, name="tom"):
@@ -345,7 +361,8 @@ class Several(OverTheProgram):
 
     def test_each_account_as_by_itself(self):
         paths = [path for loan in self.LOANS for path in (f"/loans/{loan}", f"/loans/{loan}/entries")]
-        self.as_by_itself("/accounts?" + "&".join(self.LOANS), paths)
+        for named in ("&".join(self.LOANS), "2:1&3:1&9:9"):
+            self.as_by_itself("/accounts?" + named, paths)
 
     def as_by_itself(self, target, paths):
         for name in PEOPLE:
@@ -362,17 +379,23 @@ class Several(OverTheProgram):
                 self.assertEqual(self.lines_since(logged, len(paths)), lines)
 
     def test_as_many_accounts_as_can_be(self):
-        """320 loans by one message: each is read, in the order of the message."""
-        loans = [f"0002-{number:06}" for number in range(1, 321)]
+        """320 loans by one message, and 1,000 by the shorter spelling: each is read, in the order of the message."""
         DESK.stop_serve()
-        with Program(DESK.serve.port) as program:
-            status, told = DESK.send("zoe", "GET", "/accounts?" + "&".join(loans))
-        self.assertEqual((status, told), (200, [{"status": 200, "text": "{}"}] * 640))
-        asked = [path.encode() for loan in loans for path in (f"/loans/{loan}", f"/loans/{loan}/entries")]
-        self.assertEqual([got.split(b" ", 2)[1] for got in program.got], asked)
+        for target, numbers in self.MOST.items():
+            with self.subTest(target[:20]), Program(DESK.serve.port) as program:
+                status, told = DESK.send("zoe", "GET", target)
+                self.assertEqual((status, told), (200, [{"status": 200, "text": "{}"}] * 2 * len(numbers)))
+                loans = [f"{office:04}-{number:06}" for office, number in numbers]
+                asked = [path.encode() for loan in loans for path in (f"/loans/{loan}", f"/loans/{loan}/entries")]
+                self.assertEqual([got.split(b" ", 2)[1] for got in program.got], asked)
+
+    def test_a_line_that_is_too_long(self):
+        """8 kB are a line's most: nothing longer is read."""
+        longest = "/accounts?" + "&".join(f"{office}:1" for office in range(1000, 2200))
+        self.assertEqual(status_of(answered(message("tom", "GET", longest))), 414)
 
     def test_no_stranger(self):
-        for asked in ("/several?/offices&/business-day", "/accounts?0002-000001"):
+        for asked in ("/several?/offices&/business-day", "/accounts?0002-000001", "/accounts?2:1"):
             for name, password in ((None, None), ("tom", "wrong"), ("nobody", "word")):
                 if name is None or not DESK.sign_in:
                     self.assertEqual(DESK.send(name, "GET", asked, password=password), (401, {"front": "password"}))
@@ -384,7 +407,7 @@ class Several(OverTheProgram):
                 with self.subTest(target):
                     self.assertIn(status_of(answered(message("tom", "GET", target))), (400, 404, 405))
             for method in ("POST", "HEAD", "PUT", "DELETE", "OPTIONS"):
-                for target in ("/several?/offices", "/accounts?0002-000001"):
+                for target in ("/several?/offices", "/accounts?0002-000001", "/accounts?2:1"):
                     with self.subTest(f"{method} {target}"):
                         self.assertEqual(status_of(answered(message("tom", method, target, b"{}"))), 404)
         self.assertEqual(program.got, [])
@@ -428,11 +451,36 @@ class Several(OverTheProgram):
         """Behind 4 MB of replies no further reading is passed on: a message can't take more of the front's memory."""
         DESK.stop_serve()
         large = json.dumps({"a": "x" * 500_000}).encode()
-        with Program(DESK.serve.port, *[replied(large)] * 9) as program:
-            _, told = DESK.send("zoe", "GET", "/accounts?" + "&".join(["0002-000001"] * 320))
-        self.assertEqual(told[:9], [{"status": 200, "text": large.decode()}] * 9)
-        self.assertEqual(told[9:], [{"status": 413, "text": '{"front":"large"}'}] * 631)
-        self.assertEqual(len(program.got), 9)
+        for target, numbers in self.MOST.items():
+            with Program(DESK.serve.port, *[replied(large)] * 9) as program:
+                _, told = DESK.send("zoe", "GET", target)
+            self.assertEqual(told[:9], [{"status": 200, "text": large.decode()}] * 9)
+            self.assertEqual(told[9:], [{"status": 413, "text": '{"front":"large"}'}] * (2 * len(numbers) - 9))
+            self.assertEqual(len(program.got), 9)
+
+
+    def test_memory(self):
+        """1,000 loans whose replies have 3 MB take less than 45 MB of one of nginx's workers."""
+        DESK.stop_serve()
+        texts = [json.dumps({"a": "x" * size}).encode() for size in (500, 2500)]
+        with open(f"/proc/{DESK.nginx.process.pid}/task/{DESK.nginx.process.pid}/children", encoding="ascii") as file:
+            workers = file.read().split()
+        before = {worker: memory_of(worker) for worker in workers}
+        with Program(DESK.serve.port, *[replied(text) for text in texts] * 1000):
+            status, told = DESK.send("zoe", "GET", "/accounts?2:" + ".".join(["1"] * 1000))
+        self.assertEqual((status, [one["text"].encode() for one in told]), (200, texts * 1000))
+        taken = [memory_of(worker, "VmHWM") - before[worker] for worker in workers]
+        print(f"    {max(taken) / 1000:.0f} MB", end=" ")
+        self.assertLess(max(taken), 45_000)
+
+
+def memory_of(process, name="VmRSS"):
+    """The kB of memory that a process has, or has had at most since this was asked for it now."""
+    if name == "VmRSS":
+        with open(f"/proc/{process}/clear_refs", "w", encoding="ascii") as file:
+            file.write("5")
+    with open(f"/proc/{process}/status", encoding="ascii") as file:
+        return next(int(line.split()[1]) for line in file if line.startswith(f"{name}:"))
 
 
 def median_time(name, address="127.0.0.1", count=60):
@@ -524,7 +572,7 @@ class Holding(OverTheProgram):
         self.few_are_passed_on("/several?" + "&".join(["/offices"] * 8), SEVERAL_OF_ONE_PERSON)
 
     def test_messages_for_accounts_are_fewer_still(self):
-        self.few_are_passed_on("/accounts?" + "&".join(["0002-000001"] * 320), ACCOUNTS_OF_ONE_PERSON)
+        self.few_are_passed_on("/accounts?2:" + ".".join(["1"] * 1000), ACCOUNTS_OF_ONE_PERSON)
 
     def few_are_passed_on(self, target, most):
         DESK.stop_serve()

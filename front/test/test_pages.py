@@ -270,7 +270,7 @@ class Weight(unittest.TestCase):
             for name in os.listdir(os.path.join(pages, part)):
                 with open(os.path.join(pages, part, name), encoding="utf-8") as file:
                     lines += len(file.readlines())
-        self.assertLessEqual(lines, 9200)
+        self.assertLessEqual(lines, 9300)
 
 
 class Languages(unittest.TestCase):

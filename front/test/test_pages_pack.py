@@ -1,6 +1,7 @@
 """The day pack: one press takes a day along, and it is looked up, and rounds are typed from it, without a network. The
 loans are those of the tests of rounds (on 2024-03-31 each has 683.33 due: 343.33 since 2024-02-29, and 340.00 since
 that day); in office 3, below theirs, a loan falls due within the week."""
+import itertools
 import json
 import random
 import re
@@ -49,10 +50,32 @@ const real = window.fetch;
 window.fetch = (url, more) => /[/](several|accounts)[?]/.test(url) ? Promise.resolve(new Response('<html>', {status: 404})) :
     real(url, more);
 """
-# a desk that is too slow to tell accounts
+# a desk that is too slow to tell accounts, but for so many messages
 LOST = """
+const real = window.fetch; let told = 0;
+window.fetch = (url, more) => url.includes('/accounts?') && ++told > MESSAGES ? Promise.reject(new TypeError('lost')) :
+    real(url, more);
+"""
+# a front that has room for the replies of so many loans in a message
+ROOM = """
 const real = window.fetch;
-window.fetch = (url, more) => url.includes('/accounts?') ? Promise.reject(new TypeError('lost')) : real(url, more);
+window.fetch = async (url, more) => {
+    const reply = await real(url, more);
+    if (!url.includes('/accounts?')) { return reply; }
+    const parts = await reply.json();
+    return new Response(JSON.stringify(parts.map((part, i) =>
+        i < 2 * LOANS ? part : {status: 413, text: '{"front":"large"}'})));
+};
+"""
+# the numbers of the loans whose accounts are in the pack
+WITH_ACCOUNT = """
+const {lines} = (await (await load('views/pack-kept.js')).readPack()).offices[0];
+return lines.filter(({account}) => account).map(({loan}) => Number(loan.slice(5)));
+"""
+# how a message names each of these lists of loans
+SPELLED = """
+const {spelled} = await load('views/pack-accounts.js');
+return CASES.map((loans) => spelled(loans));
 """
 # breaks a part of the first replies to several readings off, as where the program ends in the midst
 BROKEN = """
@@ -322,7 +345,7 @@ class Pack(offline.Case):
         with loans.desk_with(institution(rounds.COUNT)) as it:
             zoe = self.phone(it, "zoe")
             products = [f"/products/{number}" for number in range(1, 5)]  # a few ahead
-            accounts = "/accounts?" + "&".join(f"0002-{number:06}" for number in range(1, rounds.COUNT + 1))
+            accounts = "/accounts?2:" + ".".join(["1"] * rounds.COUNT)
             at_once = self.at_once(*products, *due, "/lists/clients/2/0")
             self.assertEqual(self.asked(zoe, True)[0], [*at_once, accounts])
             it.send("zoe", "POST", "/api/clients", {"office": 2, "name": "Bahati Mrema"})
@@ -350,7 +373,7 @@ class Pack(offline.Case):
 
     def test_3000_loans(self):
         """An office of 3,000 loans of 3,000 clients, 400 of them overdue and 700 due within the week: all of them are in the
-        pack, and the accounts of 960, those first that are due. Wanted are at most 12 requests and 300 kB."""
+        pack, with their accounts. Wanted are at most 12 requests and 300 kB."""
         with loans.desk_with(b"".join(large_office())) as it:
             zoe = self.phone(it, "zoe")
             for pin in (True, False):
@@ -361,11 +384,13 @@ class Pack(offline.Case):
             self.assertEqual(self.rows(zoe, "Day pack", "Office", "Clients"), [["2 North", "3,000"]])
             known = "return (await (await load('views/pack-kept.js')).readPack()).offices[0]"
             office = zoe.module(f"const {{lines, clients}} = (await (async () => {{ {known} }})());"
-                                "return [lines.map(({loan}) => loan), clients,"
-                                "lines.filter(({account}) => account).map(({loan}) => Number(loan.slice(5)))]")
+                                "return [lines.map(({loan}) => loan), clients]")
             self.assertEqual(office[0], [f"0002-{number:06}" for number in range(1, LARGE + 1)])
             self.assertEqual(office[1], [f"Client {number}" for number in range(1, 3001)])
-            self.assertEqual(office[2], list(range(1, 961)))
+            self.assertEqual(zoe.module(WITH_ACCOUNT), list(range(1, LARGE + 1)))
+            self.assertNotIn("aren't in the pack", zoe.text("main"))
+            messages = [f"/accounts?2:{first}" + ".1" * 999 for first in (1, 1001, 2001)]  # those first that are due
+            self.assertEqual(asked[-3:], messages)
 
     def test_all_pages_of_loans(self):
         """Loans whose numbers lie close together or far apart: each once and in order, by few pages more than they fill."""
@@ -408,15 +433,83 @@ class Pack(offline.Case):
             zoe.open_pack("pack/3/0003-000002")
             zoe.wait(lambda: "No active loan." in zoe.text("main"), "who has no loan")
 
+    def test_how_loans_are_named(self):
+        """Loans of some offices, close together or far apart, are those that their message is read as, in its order."""
+        draw = random.Random(7)
+        numbers = draw.sample(range(1, 10**6), 997)
+        cases = [
+            ["0002-000001"], ["0002-000001", "0002-000017", "0003-000005"], ["0001-000001", "9999-999999"],
+            sorted(f"{draw.choice([1, 2, 30, 4000]):04}-{number:06}" for number in numbers),
+        ]
+        with loans.desk_with(institution()) as it:
+            told = self.phone(it, "zoe").module(SPELLED.replace("CASES", json.dumps(cases)))
+        self.assertEqual(told[:3], ["2:1", "2:1.16&3:5", "1:1&9999:999999"])
+        for case, text in zip(cases, told):
+            read = []
+            for part in text.split("&"):
+                office, steps = part.split(":")
+                numbers = itertools.accumulate(int(step) for step in steps.split("."))
+                read += [f"{int(office):04}-{number:06}" for number in numbers]
+            self.assertEqual(read, case)
+
+    def test_what_the_front_has_no_room_for(self):
+        """It is asked for first by the next message, which names no more than there was room for. What four messages
+        don't bring isn't in the pack, and the pages say so."""
+        with loans.desk_with(institution(7)) as it:
+            zoe = self.phone(it, "zoe")
+            zoe.go("pack")
+            zoe.wait(lambda: zoe.box("2 North"), "the offices")
+            zoe.settle()
+            zoe.script(ROOM.replace("LOANS", "1"))
+            zoe.script("performance.clearResourceTimings()")
+            zoe.take_here()
+            asked = [one for one in zoe.script(SENT)[0] if one.startswith("/accounts")]
+            self.assertEqual(asked, [f"/accounts?2:{named}" for named in ("1.1.1.1.1.1.1", "2", "3", "4")])
+            told = "The entries of 3 loans aren't in the pack. Their receipts say what is left for certain."
+            self.assertIn(told, zoe.text("main"))
+            zoe.look("pack-without-accounts")
+            zoe.follow("2 North")
+            zoe.wait(lambda: told in zoe.text("main"), "that of the office")
+            self.assertEqual(zoe.module(WITH_ACCOUNT), [1, 2, 3, 4])
+
     def test_accounts_that_do_not_come(self):
-        """There is a pack all the same, and a receipt tells what is certain."""
+        """There is a pack all the same, and a receipt tells what is certain. What came before stays."""
         with loans.desk_with(institution()) as it:
             zoe = self.phone(it, "zoe")
             zoe.go("pack")
             zoe.wait(lambda: zoe.box("2 North"), "the offices")
-            zoe.script(LOST)
+            zoe.script(LOST.replace("MESSAGES", "0"))
             zoe.take_here()
-            self.is_certain(zoe)
+            self.assertIn("The entries of 3 loans aren't in the pack.", zoe.text("main"))
+            zoe.go("pack")
+            zoe.unlock()
+            zoe.wait(lambda: zoe.box("2 North"), "the offices")
+            zoe.script(LOST.replace("MESSAGES", "1"))
+            zoe.script(ROOM.replace("LOANS", "1"))
+            zoe.take_here(pin=False)
+            self.assertIn("The entries of 2 loans aren't in the pack.", zoe.text("main"))
+
+    def test_a_pack_of_1_8(self):
+        """It has the accounts as they are, of some loans: they are read all the same."""
+        with loans.desk_with(institution()) as it:
+            zoe = self.phone(it, "zoe")
+            zoe.take_day()
+            zoe.module(
+                "const {readPack} = await load('views/pack-kept.js'); const pack = await readPack();"
+                "const [one, two, three] = pack.offices[0].lines;"
+                "[one, two].forEach((line) => (line.account = JSON.parse(line.account))); delete three.account;"
+                "const plain = (_, value) => typeof value === 'bigint' ? String(value) : value;"
+                "const {seal} = await load('views/kept-pin.js'); const sealed = await seal('pack', JSON.stringify(pack, plain));"
+                "await (await load('views/pack-record.js')).keepSealedPack({taken: pack.taken, sealed});"
+            )
+            zoe.open_pack("pack/2")
+            zoe.wait(lambda: "The entries of 1 loan aren't in the pack." in zoe.text("main"), "the pack")
+            self.assertEqual(zoe.module(WITH_ACCOUNT), [1, 2])
+            zoe.open_round()
+            zoe.type(1, "100")
+            zoe.follow("Receipt", ".round-lines")
+            zoe.wait(lambda: zoe.all(".code"), "the receipt")
+            self.assertEqual(dict(zoe.script(offline.FACTS))["Left to pay"], "920.00")
 
     def is_certain(self, zoe):
         zoe.follow("2 North")
@@ -436,6 +529,7 @@ class Pack(offline.Case):
             zoe.script(OLDER)
             zoe.take_here()
             self.assertEqual(self.rows(zoe, "Day pack", "Office", "Clients"), [["2 North", str(FEW)]])
+            self.assertIn("The entries of 3 loans aren't in the pack.", zoe.text("main"))
             self.is_certain(zoe)
 
     def test_broken_off(self):

@@ -2,8 +2,7 @@
 
 const MOST_AT_ONCE = 4;
 const MOST_TOGETHER = 8;
-const LOANS_TOGETHER = 320;
-const MOST_MILLISECONDS = 45_000;
+const MOST_MILLISECONDS = 45_000;  // without a byte of a reply
 const WAITS_BETWEEN_TRIES = [300, 1000, 2000];
 const NOTHING_DONE = ["origin", "large", "password", "left", "log", "reader", "visit", "full", "disk"];
 
@@ -96,11 +95,38 @@ export function readJson(text) {
     return JSON.parse(text.replace(/"(?:[^"\\]|\\.)*"|-?\d{16,}/g, (part) => (isString(part) ? part : `"${part}"`)));
 }
 
+// Runs a clock that ends a request where nothing comes for too long. tell: says that something came.
+function patience(ending) {
+    let clock = null;
+    const stop = () => clearTimeout(clock);
+    const tell = () => {
+        stop();
+        clock = setTimeout(() => ending.abort(), MOST_MILLISECONDS);
+    };
+    tell();
+    return {tell, stop};
+}
+
+// the text of a reply; tell: is called with each part of it
+async function textOf(reply, tell) {
+    const reader = reply.body?.getReader();
+    const decoder = new TextDecoder();
+    let text = "";
+    for (;;) {
+        const {done, value} = await reader?.read() ?? {done: true};
+        if (done) {
+            return text + decoder.decode();
+        }
+        tell();
+        text += decoder.decode(value, {stream: true});
+    }
+}
+
 async function fetchOnce(method, url, body) {
     const isWriting = method !== "GET";
     const headers = isWriting ? {"X-Desk": "1", "Content-Type": "application/json"} : {};
     const ending = new AbortController();
-    const clock = setTimeout(() => ending.abort(), MOST_MILLISECONDS);
+    const {tell, stop} = patience(ending);
     try {
         const reply = await fetch(url, {
             method,
@@ -110,11 +136,11 @@ async function fetchOnce(method, url, body) {
             signal: ending.signal,
             body: body === undefined ? undefined : JSON.stringify(body),
         });
-        return {status: reply.status, text: await reply.text()};
+        return {status: reply.status, text: await textOf(reply, tell)};
     } catch {
         throw new Problem({});
     } finally {
-        clearTimeout(clock);
+        stop();
     }
 }
 
@@ -198,21 +224,21 @@ export function readTogether(path) {
     });
 }
 
-async function someLoans(loans) {
-    const parts = await tryAgain(() => severalOnce(`/accounts?${loans.join("&")}`)) ?? [];
-    const isRead = (i) => parts[i]?.status === "fulfilled";
-    const told = (i) => [loans[i / 2], {loan: parts[i].value, entries: parts[i + 1].value.entries}];
-    return parts.flatMap((_, i) => (i % 2 === 0 && isRead(i) && isRead(i + 1) ? [told(i)] : []));
-}
-
-// Of many loans what the desk tells of each, and its entries, by number: one message after another, since the front
-// holds a whole one in its memory. Without those that aren't seen, and without any where the front is an older one.
-export async function readLoans(loans) {
-    const told = new Map();
-    for (let i = 0; i < loans.length; i += LOANS_TOGETHER) {
-        (await someLoans(loans.slice(i, i + LOANS_TOGETHER))).forEach(([loan, its]) => told.set(loan, its));
+// What the desk tells of loans, and the entries of each, by one message: each as [loan, {loan, entries}], without those
+// that aren't seen. And those for which the front had no room. Null where the front is an older one.
+export async function readLoans(message, loans) {
+    const parts = await tryAgain(() => severalOnce(message));
+    if (parts === null) {
+        return null;
     }
-    return told;
+    const both = loans.map((loan, i) => [loan, parts[2 * i], parts[2 * i + 1]]);
+    const isRead = ([, ...its]) => its.every(({status}) => status === "fulfilled");
+    const hadNoRoom = ([, ...its]) => its.some(({reason}) => reason?.front === "large");
+    const toldOf = ([number, its, listed]) => [number, {loan: its.value, entries: listed.value.entries}];
+    return {
+        told: both.filter(isRead).map(toldOf),
+        beyond: both.filter(hadNoRoom).map(([loan]) => loan)
+    };
 }
 
 // the body of the reply, or null where the thing isn't there or isn't seen

@@ -12,11 +12,28 @@ import {nextReceipt} from "./round-receipts.js";
 
 const CENTS = ["due", "later", "owed"];
 
+// A line's account is a text within the text: thousands of them are opened with the pack, and few are looked at.
+function asKept(name, value) {
+    if (name === "account" && typeof value === "object") {
+        return value && JSON.stringify(value);
+    }
+    return typeof value === "bigint" ? String(value) : value;
+}
+
+// a line's account, or null where the pack has none; pages of 1.8 kept it as it is
+function accountIn({account}) {
+    return typeof account === "string" ? JSON.parse(account) : account ?? null;
+}
+
+// of how many lines the pack has no account: a receipt says of these what is left for certain
+export function withoutAccount(lines) {
+    return lines.filter(({account}) => !account).length;
+}
+
 // Keeps a pack in place of the one before, while the PIN isn't changed. Locks where it was changed in another window:
 // this one has the key of the PIN before.
 export async function keepPack(pack) {
-    const text = JSON.stringify(pack, (_, value) => (typeof value === "bigint" ? String(value) : value));
-    const sealed = await seal(PACK, text);
+    const sealed = await seal(PACK, JSON.stringify(pack, asKept));
     await navigator.locks.request(`kept ${PACK}`, async () => {
         if ((await keptPin())?.mark !== sealed.mark) {
             lock();
@@ -86,7 +103,7 @@ export function linesOn(pack, office, day) {
 // A line of a round of the pack: of its loan nothing is known but what is in the pack. seen: how many entries of the
 // loan the pack knows of. packed: its account as the pack has it, where it does; the desk's is read before it is sent.
 export function roundLine(pack, place, line) {
-    const {loan, client, name, since, owed, last, account} = line;
+    const {loan, client, name, since, owed, last} = line;
     return {
         ...place,
         loan,
@@ -99,7 +116,7 @@ export function roundLine(pack, place, line) {
         seen: last?.entry ?? 0,
         known: null,
         account: null,
-        packed: account ?? null,
+        packed: accountIn(line),
         payments: [],
         isFurther: false,
         results: {},

@@ -1,8 +1,8 @@
 // Takes a day along: of some offices all active loans, what falls due of them within a week and what is left to pay,
-// their clients, and the products. Names and terms never change, so those of the pack before aren't read again. What is
-// asked for at one moment goes by one message.
+// their accounts and clients, and the products. Names and terms never change, so those of the pack before aren't read
+// again. What is asked for at one moment goes by one message.
 import {alertBox, button, card, element, fill, freshId} from "../shared/elements.js";
-import {Problem, readIfThere, readLoans, readTogether} from "../shared/api.js";
+import {Problem, readIfThere, readTogether} from "../shared/api.js";
 import {asTree, numberOf, offices, readOn, total} from "../shared/desk.js";
 import {dayOfNumber, daysBetween, LAST_DAY, numberOfDay} from "../shared/days.js";
 import {note} from "../shared/dialogs.js";
@@ -13,12 +13,12 @@ import {may, OFFICER, renewDay, session} from "../shared/session.js";
 import {say} from "../shared/words.js";
 import {openByPin} from "./kept-asking.js";
 import {termsOf} from "./kept-left.js";
-import {canSeal, Locked} from "./kept-pin.js";
+import {canSeal, Locked, touch} from "./kept-pin.js";
+import {readAccounts} from "./pack-accounts.js";
 import {keepPack, officeIn} from "./pack-kept.js";
 import {accountOf} from "./round-state.js";
 
 const DAYS = 7;  // how far ahead
-const MOST_ACCOUNTS = 960;  // loans of which the entries are read: three messages
 
 // The names of an office's clients, by number. The last one that is known is read again: where it has another name, the
 // desk is another one, and nothing that was known counts.
@@ -82,29 +82,20 @@ function productsFrom(known) {
     return readOn([...known], (number) => readIfThere(`/products/${number}`, readTogether));
 }
 
-// The loans that a round of the week asks for: those first that are due by the business day, and of these and of the
-// others those that fall due nearest to it.
-function nearest(lines, day) {
+// All loans, those first that a round of the week asks for: what is due by the business day, what falls due within the
+// week, and the others. Of each of these those first that fall due nearest to the business day.
+function nearestFirst(lines, day) {
+    const rank = ({due, later}) => (isAskedFor(due) ? 0 : isAskedFor(due + later) ? 1 : 2);
     const distance = ({since}) => Math.abs(daysBetween(since, day));
-    const inOrder = (some) => some.sort((one, other) => distance(one) - distance(other));
-    const asked = lines.filter(({due}) => isAskedFor(due));
-    const later = lines.filter(({due, later}) => !isAskedFor(due) && isAskedFor(due + later));
-    return [...inOrder(asked), ...inOrder(later)];
-}
-
-// A pack without accounts is better than none: where a desk is too slow to tell them, a receipt says what is certain.
-function withoutAccounts(problem) {
-    if (!(problem instanceof Problem)) {
-        throw problem;
-    }
-    console.warn("no accounts in the pack", problem);
-    return new Map();
+    const ranked = lines.map((line) => ({line, rank: rank(line), distance: distance(line)}));
+    ranked.sort((one, other) => one.rank - other.rank || one.distance - other.distance);
+    return ranked.map(({line}) => line);
 }
 
 // Gives lines the accounts of their loans, by which this phone works out what a payment leaves. Where something was
-// entered between two readings a line has none.
+// entered between two readings a line has none. What comes counts as a touch: the phone isn't locked before it is kept.
 async function giveAccounts(lines) {
-    const told = await readLoans(lines.map(({loan}) => loan)).catch(withoutAccounts);
+    const told = await readAccounts(lines.map(({loan}) => loan), touch);
     for (const line of lines.filter(({loan}) => told.has(loan))) {
         const {loan, entries} = told.get(line.loan);
         line.account = total(loan.outstanding) === line.owed ? accountOf(loan, entries) : null;
@@ -134,9 +125,9 @@ async function readDay(offices, before) {
     ]);
     const isKnown = known.length === 0 || isSameDesk(before, packed);
     const products = isKnown || !mayEnter ? more : await productsFrom([]);
-    const wanted = nearest(packed.flatMap(({lines}) => lines), day).slice(0, MOST_ACCOUNTS);
-    await giveAccounts(wanted);
-    const terms = await termsOfLines(wanted, isKnown ? before?.terms : {}, products);
+    const lines = packed.flatMap((office) => office.lines);
+    await giveAccounts(nearestFirst(lines, day));
+    const terms = await termsOfLines(lines, isKnown ? before?.terms : {}, products);
     return {
         taken, businessDay: day, until, by: `${session.user} ${session.staff}`, mayEnter, products, terms, offices: packed
     };

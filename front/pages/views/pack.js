@@ -22,7 +22,8 @@ import {
     readPack,
     roundFrom,
     roundLine,
-    undatedOn
+    undatedOn,
+    withoutAccount
 } from "./pack-kept.js";
 import {dropPack} from "./pack-record.js";
 import {takingCard} from "./pack-taking.js";
@@ -78,7 +79,8 @@ async function showOffices(page, kept, show) {
     const taking = session.staff === "" ? noDesk(kept) : await takingCard(kept, show);
     fill(
         page, pageHead({title: say("pack.title"), trail: [[say("kept.title"), "#/kept"]], actions}),
-        kept && [ageLine(kept), card(null, officeTable(kept))], element("div", {class: "mt-3"}, taking));
+        kept && [ageLine(kept), card(null, officeTable(kept), accountNote(kept.offices.flatMap(({lines}) => lines)))],
+        element("div", {class: "mt-3"}, taking));
 }
 
 function noDesk(kept) {
@@ -125,7 +127,7 @@ function showOffice(page, kept, office) {
     search.addEventListener("input", show);
     fill(
         page, pageHead({title: `${office.number} ${office.name}`, trail: trailOf()}), ageLine(kept),
-        card(say("pack.rounds"), roundTable(kept, office), undatedNote(kept, office)),
+        card(say("pack.rounds"), roundTable(kept, office), undatedNote(kept, office), accountNote(office.lines)),
         element("div", {class: "mt-3"}, card(say("clients.title"), label, search, place)));
     show();
 }
@@ -163,6 +165,12 @@ function undatedNote(kept, office) {
     const count = undatedOn(kept, office, dayOfNumber(numberOfDay(kept.businessDay) + 1));
     const words = () => sayCount("pack.undated", count, {day: showDay(kept.until)});
     return count > 0 && element("p", {class: "text-muted mt-2 mb-0"}, words());
+}
+
+// of which loans the phone can't tell what the desk will say
+function accountNote(lines) {
+    const count = withoutAccount(lines);
+    return count > 0 && element("p", {class: "text-muted mt-2 mb-0"}, sayCount("pack.no-account", count));
 }
 
 // A round that is on the phone already stays as it is: more may be known of it than the pack has. One that came from an

@@ -418,6 +418,9 @@ export default {
         "on {day} alone.",
     "pack.undated.other": "{count} overdue loans have one more instalment by {day}. Its day isn't known here: it " +
         "counts on {day} alone.",
+    "pack.no-account.one": "The entries of {count} loan aren't in the pack. Its receipt says what is left for certain.",
+    "pack.no-account.other": "The entries of {count} loans aren't in the pack. Their receipts say what is left for " +
+        "certain.",
     "pack.no-loan": "No active loan.",
     "pack.lost": "The day pack goes too. It is a copy: take it along anew.",
     "pack.last": "Last entry",

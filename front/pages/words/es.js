@@ -422,6 +422,10 @@ export default {
         "cuenta el {day}.",
     "pack.undated.other": "{count} préstamos en mora tienen otra cuota hasta el {day}. Aquí no se sabe su día: solo " +
         "cuenta el {day}.",
+    "pack.no-account.one": "Los asientos de {count} préstamo no están en el paquete. Su recibo dice lo pendiente " +
+        "seguro.",
+    "pack.no-account.other": "Los asientos de {count} préstamos no están en el paquete. Sus recibos dicen lo " +
+        "pendiente seguro.",
     "pack.no-loan": "Ningún préstamo activo.",
     "pack.lost": "El paquete del día también se pierde. Es una copia: llévelo de nuevo.",
     "pack.last": "Último asiento",

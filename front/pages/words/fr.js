@@ -424,6 +424,10 @@ export default {
         "elle ne compte qu’au {day}.",
     "pack.undated.other": "{count} prêts en retard ont encore une échéance d’ici au {day}. Son jour n’est pas connu " +
         "ici : elle ne compte qu’au {day}.",
+    "pack.no-account.one": "Les écritures de {count} prêt ne sont pas dans le dossier. Son reçu dit ce qui reste " +
+        "certain.",
+    "pack.no-account.other": "Les écritures de {count} prêts ne sont pas dans le dossier. Leurs reçus disent ce qui " +
+        "reste certain.",
     "pack.no-loan": "Aucun prêt actif.",
     "pack.lost": "Le dossier du jour part aussi. C’est une copie : emportez-le à nouveau.",
     "pack.last": "Dernière écriture",

@@ -418,6 +418,9 @@ export default {
         "inahesabiwa {day} tu.",
     "pack.undated.other": "Mikopo {count} iliyochelewa ina awamu nyingine kufikia {day}. Siku yake haijulikani hapa: " +
         "inahesabiwa {day} tu.",
+    "pack.no-account.one": "Maingizo ya mkopo {count} hayamo katika mzigo. Risiti yake inasema iliyobaki kwa hakika.",
+    "pack.no-account.other": "Maingizo ya mikopo {count} hayamo katika mzigo. Risiti zake zinasema iliyobaki kwa " +
+        "hakika.",
     "pack.no-loan": "Hakuna mkopo hai.",
     "pack.lost": "Mzigo wa siku unaondoka pia. Ni nakala: uchukue upya.",
     "pack.last": "Ingizo la mwisho",
