@@ -56,6 +56,30 @@ const real = window.fetch; let told = 0;
 window.fetch = (url, more) => url.includes('/accounts?') && ++told > MESSAGES ? Promise.reject(new TypeError('lost')) :
     real(url, more);
 """
+# A reply about accounts that comes in three parts with so many milliseconds between them. What waits for 45 seconds
+# waits for a hundredth of it.
+PARTS = """
+const later = window.setTimeout;
+window.setTimeout = (work, milliseconds) => later(work, milliseconds === 45000 ? 450 : milliseconds);
+const real = window.fetch;
+window.fetch = async (url, more) => {
+    const reply = await real(url, more);
+    if (!url.includes('/accounts?')) { return reply; }
+    const bytes = new Uint8Array(await reply.arrayBuffer());
+    const third = Math.ceil(bytes.length / 3);
+    return new Response(new ReadableStream({
+        async start(stream) {
+            more.signal.addEventListener('abort', () => stream.error(new DOMException('', 'AbortError')));
+            for (const begin of [0, third, 2 * third]) {
+                await new Promise((go) => later(go, PAUSE));
+                if (more.signal.aborted) { return; }
+                stream.enqueue(bytes.slice(begin, begin + third));
+            }
+            stream.close();
+        }
+    }));
+};
+"""
 # a front that has room for the replies of so many loans in a message
 ROOM = """
 const real = window.fetch;
@@ -372,8 +396,8 @@ class Pack(offline.Case):
         return zoe.script(SENT)
 
     def test_3000_loans(self):
-        """An office of 3,000 loans of 3,000 clients, 400 of them overdue and 700 due within the week: all of them are in the
-        pack, with their accounts. Wanted are at most 12 requests and 300 kB."""
+        """An office of 3,000 loans of 3,000 clients, 400 of them overdue and 700 due within the week: all of them are in
+        the pack, with their accounts. Wanted are at most 12 requests and 300 kB."""
         with loans.desk_with(b"".join(large_office())) as it:
             zoe = self.phone(it, "zoe")
             for pin in (True, False):
@@ -489,6 +513,17 @@ class Pack(offline.Case):
             zoe.take_here(pin=False)
             self.assertIn("The entries of 2 loans aren't in the pack.", zoe.text("main"))
 
+    def test_a_reply_that_comes_slowly(self):
+        """It isn't given up as long as parts of it come, however long all of it takes."""
+        for milliseconds, count in (300, FEW), (900, 0):
+            with self.subTest(milliseconds), loans.desk_with(institution()) as it:
+                zoe = self.phone(it, "zoe")
+                zoe.go("pack")
+                zoe.wait(lambda: zoe.box("2 North"), "the offices")
+                zoe.script(PARTS.replace("PAUSE", str(milliseconds)))
+                zoe.take_here()
+                self.assertEqual(len(zoe.module(WITH_ACCOUNT)), count)
+
     def test_a_pack_of_1_8(self):
         """It has the accounts as they are, of some loans: they are read all the same."""
         with loans.desk_with(institution()) as it:
@@ -499,7 +534,8 @@ class Pack(offline.Case):
                 "const [one, two, three] = pack.offices[0].lines;"
                 "[one, two].forEach((line) => (line.account = JSON.parse(line.account))); delete three.account;"
                 "const plain = (_, value) => typeof value === 'bigint' ? String(value) : value;"
-                "const {seal} = await load('views/kept-pin.js'); const sealed = await seal('pack', JSON.stringify(pack, plain));"
+                "const {seal} = await load('views/kept-pin.js');"
+                "const sealed = await seal('pack', JSON.stringify(pack, plain));"
                 "await (await load('views/pack-record.js')).keepSealedPack({taken: pack.taken, sealed});"
             )
             zoe.open_pack("pack/2")
