@@ -1,6 +1,6 @@
 -- The text of lines by portion: what they have, less what lines before had.
-use Rattle.std.specs.Prelude.{ℕ, ◌==◌, ◌-◌, nat_le, Bool, not, ◌&&◌, ◌||◌, cond, List, [], ◌∷◌, ◌++◌, codes, decimal}
-use Rattle.std.specs.List.{flat_map}
+use Rattle.std.specs.Prelude.{ℕ, ◌==◌, ◌-◌, nat_le, Bool, not, ◌&&◌, ◌||◌, cond, List, [], ◌++◌, unwrap_or, codes, decimal}
+use Rattle.std.specs.List.{find, flat_map}
 use Rattle.mf_base.specs.Money.{money_text}
 use Rattle.mf_portions.specs.declared.lines.Heading.{Heading}
 use Rattle.mf_portions.specs.declared.lines.Heading.TheVariants.{Penalties, Fees, Interest, Principal, Kept}
@@ -42,8 +42,7 @@ nothing_like l = record {
 
 -- what lines have for a line: the first that is like it, and else nothing
 abbrev pub line_before : List PortionLine → PortionLine → PortionLine
-line_before [] l = nothing_like l
-line_before (x ∷ xs) l = cond (is_like x l) x (line_before xs l)
+line_before before l = unwrap_or (find (λ (x : PortionLine). is_like x l) before) (nothing_like l)
 
 -- any figure is another than it was before
 abbrev pub moves : PortionLine → PortionLine → Bool

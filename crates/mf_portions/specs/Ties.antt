@@ -1,10 +1,14 @@
--- What lines come to, over the offices and products that are meant.
-use Rattle.std.specs.Prelude.{◌==◌, ◌&&◌, ℤ, pos, neg_ℤ, List}
+-- How the figures of a line add up, and what lines come to, over the offices and products that are meant.
+use Rattle.std.specs.Prelude.{◌≡◌, ◌+◌, ◌==◌, ◌&&◌, ℤ, pos, neg_ℤ, List}
 use Rattle.mf_ledger.specs.Books.{signed_sum}
 use Rattle.mf_ledger.specs.Runs.{Selection, where_meant}
 use Rattle.mf_portions.specs.Table.{heading_number}
 use Rattle.mf_portions.specs.declared.lines.Heading.{Heading}
 use Rattle.mf_portions.specs.declared.lines.PortionLine.{PortionLine}
+
+-- what is owed in a line is paid, waived, written off or outstanding
+abbrev pub AddsUp : PortionLine → Type 0
+AddsUp l = l.owed ≡ l.paid + l.waived + l.written_off + l.outstanding
 
 -- what is outstanding in a line
 abbrev pub left : PortionLine → ℤ

@@ -2,15 +2,20 @@
 //! tells.
 
 ghost use Rattle.std.specs.Prelude.{◌≡◌, ◌≤◌, ◌+◌, ℕ, ◌+ℤ◌, List};
-ghost use Rattle.mf_account.specs.declared.balances.Balances.{Balances};
+ghost use Rattle.std.specs.List.{AllByRecursion};
 ghost use Rattle.mf_ledger.specs.Runs.{Selection, at_end_of, balance, between, posted, transactions};
 ghost use Rattle.mf_ledger.specs.declared.books.Title.TheVariants as title;
 ghost use Rattle.mf_model.specs.Institution.{Institution};
 ghost use Rattle.mf_model.specs.Run.{Line};
 ghost use Rattle.mf_model.specs.Sound.{AreInRange, IsSound};
 ghost use Rattle.mf_portions.specs.Portions.{portion_lines};
-ghost use Rattle.mf_portions.specs.Ties.{come_to, earned, left, lost};
+ghost use Rattle.mf_portions.specs.Ties.{AddsUp, come_to, earned, left, lost};
 ghost use Rattle.mf_portions.specs.declared.lines.Heading.TheVariants as heading;
+
+/// Each line of a sound institution adds up: what is owed is paid, waived, written off or outstanding, to the cent.
+pub fn each_line_adds_up()
+    ensures { (i : Institution) → IsSound i → AllByRecursion AddsUp (portion_lines i) }
+{}
 
 /// Over any offices and products, the lines of a sound institution come to what its books have there: principal
 /// outstanding and written off, and what was paid of interest, fees and penalties and kept at the pay-out, as income.

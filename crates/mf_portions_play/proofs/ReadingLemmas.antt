@@ -11,9 +11,8 @@ use Rattle.mf_account.specs.Balance.{balances_of}
 use Rattle.mf_account.specs.Change.{account_by_replay}
 use Rattle.mf_account.specs.Loan.{DisbursedLoan}
 use Rattle.mf_account.specs.declared.balances.Balances.{Balances}
-use Rattle.mf_office.specs.declared.account.Account.{Account}
 use Rattle.mf_office.specs.declared.office.Office as shown
-use Rattle.mf_office.specs.Numbers.{number_up_to, is_number_up_to}
+use Rattle.mf_office.specs.Numbers.{number_up_to}
 use Rattle.mf_ledger_play.specs.Due.{held_of, numbered}
 use Rattle.mf_ledger_play.specs.Playing.{Holds}
 use Rattle.mf_ledger_play.specs.declared.held.HeldLoan.{HeldLoan}

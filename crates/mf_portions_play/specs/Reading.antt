@@ -1,5 +1,5 @@
 -- The lines by portion that are read from a store.
-use Rattle.std.specs.Prelude.{◌≡◌, ℕ, ◌==◌, List, [], ◌++◌, length, map, filter, Option, Some, None}
+use Rattle.std.specs.Prelude.{◌≡◌, ℕ, ◌==◌, List, [], ◌++◌, map, filter, Option, Some, None}
 use Rattle.std.specs.List.{range_with_len}
 use Rattle.mf_account.specs.Balance.{balances_by}
 use Rattle.mf_account.specs.Change.{KeptAccount}

@@ -1,12 +1,9 @@
 //! The lines by portion of the institution that a store stands for.
 
-ghost use Rattle.std.specs.Prelude.{◌≡◌, ◌++◌, ◌==◌, ℕ, List, [], map, filter, option_map, IfOk, IfErr, OnOk, IsOkUnless};
+ghost use Rattle.std.specs.Prelude.{◌≡◌, ◌++◌, ℕ, List, map, IfOk, IfErr, OnOk};
 ghost use Rattle.std.specs.List.{range_with_len};
-ghost use Rattle.mf_account.specs.Change.{account_by_replay};
-ghost use Rattle.mf_base.specs.declared.fault.Fault as fault;
 ghost use Rattle.mf_base.specs.declared.fault.Fault.TheVariants.{F20};
 ghost use Rattle.mf_ledger_play.specs.Due.{held_of, numbered};
-ghost use Rattle.mf_ledger_play.specs.declared.held.HeldLoan as held_loan;
 ghost use Rattle.mf_model.specs.Institution.{Catalogue, Ledger};
 ghost use Rattle.mf_portions.specs.Portions.{lines_of, lines_of_some, portion_lines};
 ghost use Rattle.mf_portions_play.specs.Reading.{PutsOffice, Tells, held_balances, kept_balances, portions_text};
