@@ -1,4 +1,5 @@
 pub mod Accrual
+pub mod Adjusting
 pub mod Basis
 pub mod Books
 pub mod Names

@@ -3,6 +3,7 @@
 #![tactic(auto)]
 
 mod accrual;
+mod adjusting;
 mod basis;
 mod books;
 pub mod laws;
@@ -13,6 +14,7 @@ mod sheet;
 mod text;
 
 pub use accrual::{AccruedSums, adjusting_postings};
+pub use adjusting::opening_adjustments;
 pub use basis::Basis;
 pub use books::{BookAccount, LoanSums, Posting, Title, Transaction, postings};
 pub use names::{GivenName, Names, Program};

@@ -1,3 +1,4 @@
 pub mod Told
 pub mod Due
+pub mod Opening
 pub mod Playing

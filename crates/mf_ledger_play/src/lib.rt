@@ -7,8 +7,10 @@ pub mod laws;
 mod line;
 mod lines;
 mod loans;
+mod opening;
 mod passed;
 
 pub use form::{BooksAsked, BooksForm};
 pub use held::{HeldLoan, hold_office};
 pub use lines::book_lines;
+pub use opening::book_opening;

@@ -7,7 +7,7 @@ use Rattle.mf_play.specs.Play.{PlaysTo, StopsAt}
 use Rattle.mf_store_journal.specs.Written.{KeepsJournalFrom}
 use Rattle.mf_store_ledger.specs.Journal.{books_text}
 use Rattle.mf_store_ledger.specs.declared.answer.Books.{Books}
-use Rattle.mf_store_ledger.specs.declared.answer.Books.TheVariants.{Written, NoFounding, Stops}
+use Rattle.mf_store_ledger.specs.declared.answer.Books.TheVariants.{Written, NoFounding, OtherCopy, Stops}
 use Rattle.mf_ledger_play.specs.declared.form.BooksAsked.{BooksAsked}
 use Rattle.mf_store_played.specs.Played.{IsFounding, founded}
 
@@ -17,6 +17,7 @@ abbrev pub IsAnswer : BooksAsked → Head → List JournalLine → Books → Typ
 IsAnswer asked begins lines (Written text) = (day : ℕ) × IsFounding begins day × (i : Institution)
     × PlaysTo (founded day) lines i × (text.items ≡ books_text asked day lines)
 IsAnswer asked begins lines NoFounding = (day : ℕ) → ¬ IsFounding begins day
+IsAnswer asked begins lines OtherCopy = ⊥
 IsAnswer asked begins lines (Stops number why) = (day : ℕ) × IsFounding begins day × (place : ℕ)
     × (number ≡ place + 1) × StopsAt (founded day) lines place why
 

@@ -9,6 +9,8 @@ pub enum Books {
     Written(Vec<u8>),
     /// The journal doesn't begin at the founding of an institution.
     NoFounding,
+    /// The journal was not begun over the rows of the copy that was given.
+    OtherCopy,
     /// The first line that doesn't play, by its number, and why.
     Stops { number: u64, why: Stop },
 }

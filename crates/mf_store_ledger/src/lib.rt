@@ -3,6 +3,7 @@
 #![tactic(auto)]
 
 mod answer;
+mod copied;
 mod ends;
 pub mod laws;
 mod movement;
@@ -10,5 +11,6 @@ mod pages;
 mod writing;
 
 pub use answer::Books;
+pub use copied::write_books_from;
 pub use movement::write_movement;
 pub use writing::write_books;

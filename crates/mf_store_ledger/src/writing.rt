@@ -23,7 +23,7 @@ use sqlite::{Alter, Connection};
 use std::alloc::Global;
 
 /// What stands before the first transaction. The error is F20.
-fn begun(alloc: Global, form: BooksForm) -> Result<Vec<u8>, Fault>
+pub(crate) fn begun(alloc: Global, form: BooksForm) -> Result<Vec<u8>, Fault>
     ensures text { IfOk result (λ text. text.items ≡ form_head form) }
     ensures gives_up { IfErr result (λ fault. fault ≡ F20) }
 {
