@@ -124,7 +124,7 @@ same_accrued day k m l same = ap read same
 
 module _ (title : Title) (meant : Selection) (day : ℕ) where
   -- what a request adds, at a day
-  abbrev at_day : ℕ → Request → Institution → Institution → List Transaction
+  abbrev pub at_day : ℕ → Request → Institution → Institution → List Transaction
   at_day n (request.Loan loan asked) i j = record {
     number = n;
     day = day;
@@ -134,7 +134,7 @@ module _ (title : Title) (meant : Selection) (day : ℕ) where
   } ∷ []
   at_day n _ i j = []
 
-  abbrev Adds : Request → ℕ → Institution → Institution → Type 0
+  abbrev pub Adds : Request → ℕ → Institution → Institution → Type 0
   Adds r n i j = accrued title meant day j ≡ accrued title meant day i +ℤ posted title meant (at_day n r i j)
 
   loan_adds : (asked : LoanRequest) (loan : Account) (n : ℕ) (i : Institution) (f : Office) (l : Ledger)
@@ -255,7 +255,7 @@ module _ (title : Title) (meant : Selection) (day : ℕ) where
       (ap (λ (x : Change). accrued title meant day (after_noted noted x i)) (sym added)
       ∙ office_put_in (office_accrued title meant day i.catalogue) (new_office number parent name) i.offices refl)
 
-  call_adds : (call : Call) (n : ℕ) (i : Institution) (change : Change) (noted : Noted) → IsSound i
+  pub call_adds : (call : Call) (n : ℕ) (i : Institution) (change : Change) (noted : Noted) → IsSound i
       → IsInRange call.request → change_in (outcome call i) ≡ Some change
       → Adds call.request n i (after_noted noted change i)
   call_adds call n i change noted s r h =
@@ -267,7 +267,7 @@ module _ (title : Title) (meant : Selection) (day : ℕ) where
       (by_sound call.caller call.request i change s r h known.made_is) refl h effect
 
 -- on the business day of the request
-same_day : (title : Title) (meant : Selection) (n : ℕ) (r : Request) (i j : Institution)
+pub same_day : (title : Title) (meant : Selection) (n : ℕ) (r : Request) (i j : Institution)
     → posted title meant (at_day title meant i.catalogue.day n r i j) ≡ posted title meant (adjusting_of n r i j)
 same_day title meant n (request.Unreadable flaw) i j = refl
 same_day title meant n (request.Catalogue asked) i j = refl
@@ -324,7 +324,7 @@ module _ (title : Title) (meant : Selection) where
       ∙ sum-difference (office_accrued title meant (day - 1) i.catalogue) (office_accrued title meant day i.catalogue)
       i.offices
 
-  due_days : (n first last : ℕ) (i : Institution) → first ≤ last → posted title meant (due_between n first last i)
+  pub due_days : (n first last : ℕ) (i : Institution) → first ≤ last → posted title meant (due_between n first last i)
       ≡ accrued title meant last i -ℤ accrued title meant first i
   due_days n first last i order =
       let end : first + (last - first) ≡ last = omega (arith, order) in
@@ -337,11 +337,11 @@ module _ (title : Title) (meant : Selection) where
 
   -- ---- one line, and a run
 
-  abbrev Runs : (n : ℕ) (l : Line) (i j : Institution) → Type 0
+  abbrev pub Runs : (n : ℕ) (l : Line) (i j : Institution) → Type 0
   Runs n l i j = accrued title meant j.catalogue.day j ≡ accrued title meant i.catalogue.day i
       +ℤ posted title meant (adjustments_of n l.call.request i j)
 
-  line_adds : (l : Line) (n : ℕ) (i : Institution) (change : Change) → IsSound i → IsInRange l.call.request
+  pub line_adds : (l : Line) (n : ℕ) (i : Institution) (change : Change) → IsSound i → IsInRange l.call.request
       → change_of_line l i ≡ Some change → Runs n l i (next l i)
   line_adds l n i change s r e =
       let d : ℕ = i.catalogue.day in
@@ -363,7 +363,7 @@ module _ (title : Title) (meant : Selection) where
       sums : (w x y p q u z : ℤ) → x ≡ y +ℤ p → p ≡ q → u ≡ w -ℤ x → z ≡ q +ℤ u → w ≡ y +ℤ z
       sums w x y p q u z a b c d = omega (arith, ints, a, b, c, d)
 
-  line_leaves : (l : Line) (i : Institution) → change_of_line l i ≡ None
+  pub line_leaves : (l : Line) (i : Institution) → change_of_line l i ≡ None
       → accrued title meant (next l i).catalogue.day (next l i) ≡ accrued title meant i.catalogue.day i
   line_leaves l i e =
       ap (λ (c : Option Change). accrued title meant (after_line (noted_of l.call i) c i).catalogue.day
@@ -510,7 +510,7 @@ offices_from a n day k (f ∷ fs) h =
     (flat_map (λ (g : Office). due_of_loans n day k g.number 1 g.rows.loans) fs)
     (loans_from a n day k f.number 1 f.rows.loans h) (offices_from a n day k fs h)
 
-days_from : (a n first count : ℕ) (i : Institution) → a ≤ first
+pub days_from : (a n first count : ℕ) (i : Institution) → a ≤ first
     → AllByRecursion (IsFrom a) (flat_map (due_on n i) (range_with_len first count))
 days_from a n first zero i h = tt
 days_from a n first (suc count) i h =

@@ -5,7 +5,10 @@ pub mod RunBooks
 pub mod OpeningLemmas
 pub mod AccrualBooks
 pub mod BasisBooks
+pub mod AdjustingLemmas
+pub mod AccrualDays
 pub mod TieLemmas
 pub mod RowLemmas
 pub mod SheetLemmas
 pub mod TextLemmas
+pub mod WorkedDays

@@ -45,7 +45,7 @@ each-same f g each (x ∷ xs) =
     omega (arith, ints, here, rest)
 
 -- what is meant of a sum is the sum of what is meant
-meant-sum : {X : Type 0} (b : Bool) (read : X → ℤ) (xs : List X)
+pub meant-sum : {X : Type 0} (b : Bool) (read : X → ℤ) (xs : List X)
     → where_meant b (signed_sum read xs) ≡ signed_sum (λ x. where_meant b (read x)) xs
 meant-sum true read xs = refl
 meant-sum false read xs = sym (sum-zero (λ x. pos 0) (λ x. refl) xs)
@@ -63,7 +63,7 @@ none-before a (suc n) p read h =
     omega (arith, ints, here, rest)
 
 -- of the numbers from one on, one alone is a number of them
-one-of : (a n p : ℕ) (read : ℕ → ℤ) → a ≤ p → p < a + n
+pub one-of : (a n p : ℕ) (read : ℕ → ℤ) → a ≤ p → p < a + n
     → signed_sum (λ q. where_meant (p == q) (read q)) (range_with_len a n) ≡ read p
 one-of a zero p read low high = absurd (omega (arith, low, high))
 one-of a (suc n) p read low high = go (p == a) refl
@@ -91,7 +91,7 @@ numbered_within xs (suc n) x h =
     let within = slice_get_within xs n x (sym (numbered_suc xs n) ∙ h) in
     (omega arith, omega (arith, within))
 
-product_within : (k : Catalogue) (n principal periods : ℕ) → lends (product_in k n) principal periods ≡ true
+pub product_within : (k : Catalogue) (n principal periods : ℕ) → lends (product_in k n) principal periods ≡ true
     → (1 ≤ n) × (n < 1 + length k.products)
 product_within k n principal periods h = go (item_numbered k.products n) refl
   where

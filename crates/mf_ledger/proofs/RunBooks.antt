@@ -211,7 +211,7 @@ each_from (l ∷ ls) n i t = go (is_some (change_of_line l i))
 
 -- ---- spans of days
 
-abbrev in_span : ℕ → ℕ → Transaction → Bool
+abbrev pub in_span : ℕ → ℕ → Transaction → Bool
 in_span first last t = nat_le first t.day && nat_le t.day last
 
 meant_both : (a b c : Bool) (z : ℤ) → (a ≡ true → (b ≡ true → c ≡ true → ⊥) × (b ≡ false → c ≡ true))
@@ -254,7 +254,7 @@ spans_meet title meant first middle last ts low high =
 
 -- ---- the end of a business day
 
-filter-both : {X : Type 0} (test : X → Bool) (xs ys : List X)
+pub filter-both : {X : Type 0} (test : X → Bool) (xs ys : List X)
     → filter test (xs ++ ys) ≡ filter test xs ++ filter test ys
 filter-both test [] ys = refl
 filter-both {X = X} test (x ∷ xs) ys = go (test x) (filter-both test xs ys)
@@ -265,7 +265,7 @@ filter-both {X = X} test (x ∷ xs) ys = go (test x) (filter-both test xs ys)
     go true rest = ap (λ zs. x ∷ zs) rest
     go false rest = rest
 
-none-later : (day from : ℕ) → day < from → (ts : List Transaction) → AllByRecursion (IsFrom from) ts
+pub none-later : (day from : ℕ) → day < from → (ts : List Transaction) → AllByRecursion (IsFrom from) ts
     → between 0 day ts ≡ []
 none-later day from late [] all = refl
 none-later day from late (t ∷ ts) all = go (in_span 0 day t) refl (none-later day from late ts all.1)

@@ -11,7 +11,7 @@ use Rattle.mf_ledger.specs.declared.books.Title.{Title}
 use Rattle.mf_ledger.specs.Accrual.{accrual_titles, accrued, accrued_in, accrued_on}
 use Rattle.mf_ledger.specs.Books.{signed_sum}
 use Rattle.mf_ledger.specs.Opening.{opening_postings, product_numbers}
-use Rattle.mf_ledger.specs.Runs.{Selection, balance}
+use Rattle.mf_ledger.specs.Runs.{Selection, balance, posted_by}
 
 -- what accrual adds on the account of a title for loans of one office and product together
 abbrev pub accrued_posting : ℕ → ℕ → List AccruedSums → Title → Posting
@@ -44,6 +44,11 @@ adjusting_opening day i = flat_map (office_adjusting day i.catalogue) i.offices
 abbrev pub openings : Basis → Institution → List (List Posting)
 openings Cash i = opening_postings i ∷ []
 openings Accrual i = opening_postings i ∷ adjusting_opening i.catalogue.day i ∷ []
+
+-- what the opening transactions have on the accounts of a title, over the offices and products that are meant
+abbrev pub opened : Basis → Title → Selection → Institution → ℤ
+opened basis title meant i =
+    signed_sum (λ postings. signed_sum (posted_by title meant) postings) (openings basis i)
 
 -- What an institution has on the accounts of a title in books on a basis at the end of a day, over the offices and
 -- products that are meant.

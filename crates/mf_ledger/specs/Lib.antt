@@ -8,4 +8,5 @@ pub mod Runs
 pub mod Sheet
 pub mod Text
 pub mod WorkedBooks
+pub mod WorkedOpenings
 pub mod WorkedTexts

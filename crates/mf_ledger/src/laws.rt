@@ -26,6 +26,7 @@ ghost use Rattle.mf_ledger.specs.declared.names.Program.TheVariants.{Hledger, Be
 ghost use Rattle.mf_ledger.specs.declared.occasion.Occasion.{Occasion};
 ghost use Rattle.mf_ledger.specs.Accrual.{accrued, accrued_in, office_accrued, due_open, adjustments};
 ghost use Rattle.mf_ledger.specs.Accrual.{receivable_of, waived_of, written_off_of, income_of};
+ghost use Rattle.mf_ledger.specs.Adjusting.{opened, openings, standing};
 ghost use Rattle.mf_ledger.specs.Basis.{booked};
 ghost use Rattle.mf_ledger.specs.Books.{signed_sum, some_moves, titles, lent_on};
 ghost use Rattle.mf_ledger.specs.Runs.{Selection, everything, balance, office_balance, transactions, posted};
@@ -37,6 +38,8 @@ ghost use Rattle.mf_ledger.specs.Sheet.{IsOccasion, IsWritten};
 ghost use Rattle.mf_ledger.specs.Text.{preamble, transaction_text, opening_text};
 ghost use Rattle.mf_ledger.specs.WorkedBooks.{worked_days, worked_transactions, worked_opening};
 ghost use Rattle.mf_ledger.specs.WorkedBooks.{worked_adjustments};
+ghost use Rattle.mf_ledger.specs.WorkedOpenings.{worked_until_waived, worked_waived_openings};
+ghost use Rattle.mf_ledger.specs.WorkedOpenings.{worked_repaid_openings, accrual_opening_lines};
 ghost use Rattle.mf_ledger.specs.WorkedTexts.{journal_of, sheet_of, till_names, chart_names, hledger_lines};
 ghost use Rattle.mf_ledger.specs.WorkedTexts.{beancount_lines, csv_lines, opening_lines};
 
@@ -230,4 +233,32 @@ pub fn worked_texts()
         ≡ sheet_of (codes "2024-03-31,0,,assets:cash:office-0001:product-001,33.33,"
         ∷ codes "2024-03-31,0,,income:interest:office-0001:product-001,,13.33"
         ∷ codes "2024-03-31,0,,income:disbursement-fees:office-0001:product-001,,20.00" ∷ []) }
+{}
+
+/// Books that are kept from a day on, on either basis, begin with opening transactions that have what stands on each
+/// account at the end of that business day, over any offices and products. Each of them comes to 0. With the
+/// transactions up to a later business day they come to what stands there at the end of it.
+pub fn books_open_on_either_basis()
+    ensures opening { (kept_on : Basis) (i : Institution) (title : Title) (meant : Selection) → IsSound i →
+        opened kept_on title meant i ≡ standing kept_on title meant i.catalogue.day i }
+    ensures nothing { (kept_on : Basis) (i : Institution) → IsSound i →
+        AllByRecursion (λ (postings : List Posting). signed_sum (λ (p : Posting). p.amount) postings ≡ pos 0)
+        (openings kept_on i) }
+    ensures day_end { (kept_on : Basis) (i : Institution) (lines : List Line) (n day : ℕ) (title : Title)
+        (meant : Selection) → IsSound i → AreInRange lines →
+        i.catalogue.day ≤ day → day ≤ (last lines i).catalogue.day →
+        standing kept_on title meant day (at_end_of day lines i)
+        ≡ opened kept_on title meant i +ℤ posted title meant (between 0 day (booked kept_on n lines i)) }
+{}
+
+/// Worked out, line by line: what books on either basis open with once interest was waived, and once all was repaid.
+pub fn worked_openings()
+    ensures waived { openings basis.Accrual (last (map (λ row. row.0) worked_until_waived) (newly_made january))
+        ≡ worked_waived_openings }
+    ensures repaid { openings basis.Accrual (last (map (λ row. row.0) worked_days) (newly_made january))
+        ≡ worked_repaid_openings }
+    ensures cash { openings basis.Cash (last (map (λ row. row.0) worked_days) (newly_made january))
+        ≡ worked_opening ∷ [] }
+    ensures hledger { flat_map (opening_text Hledger [] march) worked_waived_openings
+        ≡ journal_of accrual_opening_lines }
 {}
