@@ -72,14 +72,14 @@ numbered_size office m [] = refl
 numbered_size office m (x ∷ xs) = ap suc (numbered_size office (m + 1) xs)
 
 -- the loan at a place has the next number
-at_number : (ls : List Ledger) (place : ℕ) (l : Ledger) → slice_get ls place ≡ Some l
+pub at_number : (ls : List Ledger) (place : ℕ) (l : Ledger) → slice_get ls place ≡ Some l
     → item_numbered ls (place + 1) ≡ Some l
 at_number ls place l there =
     let some : (place + 1 == 0) ≡ false = grind (arith, nat_tests) in
     let back : place + 1 - 1 ≡ place = omega arith in
     ap₂ (λ b n. cond b None (slice_get ls n)) some back ∙ there
 
-there_at : (ls : List Ledger) (place : ℕ) → place < length ls → (l : Ledger) × (slice_get ls place ≡ Some l)
+pub there_at : (ls : List Ledger) (place : ℕ) → place < length ls → (l : Ledger) × (slice_get ls place ≡ Some l)
 there_at [] place low = absurd (omega (arith, low))
 there_at (x ∷ xs) zero low = (x, refl)
 there_at (x ∷ xs) (suc place) low = there_at xs place (omega (arith, low))
@@ -168,7 +168,7 @@ above_at n (x ∷ xs) zero f up there = let same : x ≡ f = cc in subst (λ (g 
 above_at n (x ∷ xs) (suc place) f up there = above_at n xs place f up.1 there
 
 -- each is found by its number
-found_at : (fs : List Office) (place : ℕ) (f : Office) → Ascending fs → slice_get fs place ≡ Some f
+pub found_at : (fs : List Office) (place : ℕ) (f : Office) → Ascending fs → slice_get fs place ≡ Some f
     → office_at f.number fs ≡ Some f
 found_at [] place f up there = cc
 found_at (x ∷ xs) zero f up there =
@@ -182,7 +182,7 @@ found_at (x ∷ xs) (suc place) f up there =
     ap (λ b. cond b (Some x) (office_at f.number xs)) apart ∙ found_at xs place f up.1 there
 
 -- the office that is shown at a place
-shown_at : (fs : List Office) (place : ℕ) (o : shown.Office) → slice_get (map office_shown fs) place ≡ Some o
+pub shown_at : (fs : List Office) (place : ℕ) (o : shown.Office) → slice_get (map office_shown fs) place ≡ Some o
     → (f : Office) × (slice_get fs place ≡ Some f) × (f.number ≡ o.number)
 shown_at [] place o there = cc
 shown_at (x ∷ xs) zero o there =
@@ -190,7 +190,7 @@ shown_at (x ∷ xs) zero o there =
 shown_at (x ∷ xs) (suc place) o there = shown_at xs place o there
 
 -- the first offices with the next
-office_taken : (fs : List Office) (place : ℕ) (f : Office) → slice_get fs place ≡ Some f
+pub office_taken : (fs : List Office) (place : ℕ) (f : Office) → slice_get fs place ≡ Some f
     → take place fs ++ f ∷ [] ≡ take (suc place) fs
 office_taken [] place f there = cc
 office_taken (x ∷ xs) zero f there = let same : x ≡ f = cc in ap (λ y. y ∷ []) (sym same)

@@ -3,3 +3,5 @@ pub mod LoanLemmas
 pub mod HeldLemmas
 pub mod PassedLemmas
 pub mod LineLemmas
+pub mod MovingLemmas
+pub mod OpeningLemmas

@@ -1,16 +1,17 @@
 -- The answers about the books of a journal are right.
-use Rattle.std.proofs.Common.{◌≡◌, List, sym, subst}
+use Rattle.std.proofs.Common.{◌≡◌, ◌++◌, ℕ, List, sym, subst, ap, ◌∙◌, append_assoc}
 use Rattle.std.specs.Prelude.{Result, Ok, Err, IfOk}
 use Rattle.sqlite.specs.Effect.{Database}
 use Rattle.sqlite.specs.Tree.{Trees}
 use Rattle.mf_base.specs.declared.fault.Fault.{Fault}
 use Rattle.mf_journal.specs.declared.following.Head.{Head}
 use Rattle.mf_ledger_play.specs.declared.form.BooksAsked.{BooksAsked}
-use Rattle.mf_model.specs.Institution.{JournalLine}
+use Rattle.mf_model.specs.Institution.{Institution, JournalLine}
 use Rattle.mf_store_journal.specs.Rows.{head_with_all}
 use Rattle.mf_store_journal.specs.Written.{KeepsJournalFrom}
 use Rattle.mf_store_journal.specs.declared.journal.Journal.{Journal}
 use Rattle.mf_store_ledger.specs.Answer.{IsAnswer, IsAnswerOf}
+use Rattle.mf_store_ledger.specs.Copied.{IsCopyAnswer, IsCopyAnswerOf}
 use Rattle.mf_store_ledger.specs.declared.answer.Books.{Books}
 
 -- the answer of a call for the journal that was read
@@ -37,3 +38,36 @@ pub answer_before : (asked : BooksAsked) (old mid : Database) → mid ≡ old �
     → AreAnswers asked old.trees journal result
 answer_before asked old mid same journal result told =
     subst (λ (d : Database). AreAnswers asked d.trees journal result) same told
+
+-- ---- from a copy
+
+-- the answer of a call for the journal that was read
+abbrev AreCopyAnswers : BooksAsked → Institution → Trees → Journal → Result Books Fault → Type 0
+AreCopyAnswers asked copied trees journal result = (lines : List JournalLine)
+    → KeepsJournalFrom journal.begins trees lines → IfOk result (IsCopyAnswer asked copied journal.begins lines)
+
+-- the journal that was read is the one that is kept
+pub copy_answer_of_one : (asked : BooksAsked) (copied : Institution) (trees : Trees) (journal : Journal)
+    → ((begins : Head) (lines : List JournalLine) → KeepsJournalFrom begins trees lines → (journal.begins ≡ begins)
+    × (journal.head ≡ head_with_all begins lines)) → (result : Result Books Fault)
+    → AreCopyAnswers asked copied trees journal result → IfOk result (IsCopyAnswerOf asked copied trees)
+copy_answer_of_one asked copied trees journal only (Err fault) told = tt
+copy_answer_of_one asked copied trees journal only (Ok books) told = record {
+  right = λ begins lines keeps.
+      let one = (only begins lines keeps).0 in
+      subst (λ h. IsCopyAnswer asked copied h lines books) one
+      (told lines (subst (λ h. KeepsJournalFrom h trees lines) (sym one) keeps));
+}
+
+-- the answer of a call that came after another one that changed nothing
+pub copy_answer_before : (asked : BooksAsked) (copied : Institution) (old mid : Database) → mid ≡ old
+    → (journal : Journal) (result : Result Books Fault) → AreCopyAnswers asked copied mid.trees journal result
+    → AreCopyAnswers asked copied old.trees journal result
+copy_answer_before asked copied old mid same journal result told =
+    subst (λ (d : Database). AreCopyAnswers asked copied d.trees journal result) same told
+
+-- the opening, and the transactions behind it
+pub copied_text : (head opening span before middle after : List ℕ) → before ≡ head → middle ≡ before ++ opening
+    → after ≡ middle ++ span → after ≡ head ++ (opening ++ span)
+copied_text head opening span before middle after first second third =
+    third ∙ ap (λ text. text ++ span) (second ∙ ap (λ text. text ++ opening) first) ∙ append_assoc head opening span
