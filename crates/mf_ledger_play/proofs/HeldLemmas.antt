@@ -1,13 +1,12 @@
 -- The loans of an institution, read once each and held.
 use Rattle.std.proofs.Common.{◌≡◌, ◌<◌, ℕ, zero, suc, ◌+◌, ◌-◌, Bool, true, false, cond, List, [], ◌∷◌, ◌++◌, map, take, length}
 use Rattle.std.proofs.Common.{Option, Some, None, Ok, refl, sym, ap, ap₂, ◌∙◌, subst, arith, append-nil, append_assoc}
-use Rattle.std.specs.Prelude.{◌==◌, slice_get, option_map, is_some}
+use Rattle.std.specs.Prelude.{◌==◌, slice_get, option_map}
 use Rattle.std.specs.List.{flat_map}
 use Rattle.std.proofs.Math.Seq.{take-length}
 use Rattle.std.proofs.lemmas.Bool.Decides.{nat_tests}
 use Rattle.std.proofs.lemmas.Grind.{flat_map-append}
 use Rattle.std.proofs.lemmas.List.{length-map, map-append}
-use Rattle.std.proofs.lemmas.Option.{slice_get-map}
 use Rattle.mf_account.specs.Change.{KeptAccount}
 use Rattle.mf_office.specs.declared.account.Account.{Account}
 use Rattle.mf_office.specs.Numbers.{number_up_to, is_number_up_to}
@@ -15,7 +14,7 @@ use Rattle.mf_model.proofs.Views.{seen_by_head}
 use Rattle.mf_model.specs.Desk.{office_shown}
 use Rattle.mf_model.specs.Institution.{Institution, Ledger, Office, office_at, item_numbered}
 use Rattle.mf_model.specs.Sound.{IsSound}
-use Rattle.mf_model.specs.Store.{Reads, counts_at, ledger_at, loan_with_account_at, rows_at, rows_of, with_account}
+use Rattle.mf_model.specs.Store.{Reads, counts_at, loan_with_account_at, rows_at, rows_of, with_account}
 use Rattle.mf_model.specs.Tree.{Above, Ascending, seen_by}
 use Rattle.mf_model.specs.declared.loan.Loan.{Loan}
 use Rattle.mf_model.specs.declared.store.Counts.{Counts}

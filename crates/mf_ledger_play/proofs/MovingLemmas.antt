@@ -1,9 +1,8 @@
 -- Postings that move nothing are in no text.
-use Rattle.std.proofs.Common.{◌≡◌, ℕ, Bool, true, false, cond, List, [], ◌∷◌, ◌++◌, refl, sym, ap, ◌∙◌}
-use Rattle.std.specs.Prelude.{codes, filter, map}
-use Rattle.std.specs.List.{flat_map}
+use Rattle.std.proofs.Common.{◌≡◌, Bool, true, false, cond, List, [], ◌∷◌, ◌++◌, refl, sym, ap, ◌∙◌}
+use Rattle.std.specs.Prelude.{◌||◌, codes, map}
 use Rattle.mf_ledger.specs.Books.{is_moved, some_moves}
-use Rattle.mf_ledger.specs.Sheet.{fields_of, rows_of, sheet_text}
+use Rattle.mf_ledger.specs.Sheet.{fields_of, sheet_text}
 use Rattle.mf_ledger.specs.Text.{booked_text, heading, moved_text, posting_text, postings_text}
 use Rattle.mf_ledger.specs.declared.books.Posting.{Posting}
 use Rattle.mf_ledger.specs.declared.names.GivenName.{GivenName}
@@ -21,10 +20,9 @@ moves_same [] = refl
 moves_same (p ∷ ps) = go (is_moved p.amount) refl (moves_same ps)
   where
     go : (b : Bool) → is_moved p.amount ≡ b → some_moves (moving ps) ≡ some_moves ps
-        → some_moves (cond b (p ∷ moving ps) (moving ps)) ≡ cond (is_moved p.amount) true (some_moves ps)
-    go true e rest =
-        ap (λ b. cond b true (some_moves (moving ps))) e ∙ sym (ap (λ b. cond b true (some_moves ps)) e)
-    go false e rest = rest ∙ sym (ap (λ b. cond b true (some_moves ps)) e)
+        → some_moves (cond b (p ∷ moving ps) (moving ps)) ≡ (is_moved p.amount || some_moves ps)
+    go true e rest = ap (λ b. is_moved p.amount || b) rest
+    go false e rest = rest ∙ sym (ap (λ b. b || some_moves ps) e)
 
 -- their lines are those
 lines_same : (which : Program) (gs : List GivenName) (ps : List Posting)

@@ -1,6 +1,6 @@
 -- What books of the loans of a store open with.
 use Rattle.std.proofs.Common.{◌≡◌, ◌<◌, ℕ, zero, suc, ◌+◌, Bool, true, false, cond, List, [], ◌∷◌, ◌++◌, map, take, length}
-use Rattle.std.proofs.Common.{Some, Ok, refl, sym, ap, ap₂, ◌∙◌, subst, arith, append-nil}
+use Rattle.std.proofs.Common.{Some, Ok, refl, sym, ap, ap₂, ◌∙◌, subst, arith, append-nil, append_assoc}
 use Rattle.std.specs.Prelude.{◌==◌, ◌&&◌, nat_le, filter, option_map, slice_get}
 use Rattle.std.specs.List.{flat_map, range_with_len}
 use Rattle.std.proofs.Math.Seq.{take-length}
@@ -8,7 +8,6 @@ use Rattle.std.proofs.lemmas.Grind.{flat_map-append}
 use Rattle.std.proofs.lemmas.List.{length-map}
 use Rattle.std.proofs.lemmas.List.Elements.{filter-append}
 use Rattle.std.proofs.lemmas.Option.{slice_get-map}
-use Rattle.mf_office.specs.declared.account.Account.{Account}
 use Rattle.mf_office.specs.declared.office.Office as shown
 use Rattle.mf_office.specs.Numbers.{number_up_to}
 use Rattle.mf_ledger.specs.Accrual.{accrued_in}
@@ -16,28 +15,29 @@ use Rattle.mf_ledger.specs.Adjusting.{accrued_of_product, adjusting_on, adjustin
 use Rattle.mf_ledger.specs.Books.{is_moved, sums_in}
 use Rattle.mf_ledger.specs.Opening.{office_opening, opening_on, opening_postings, product_numbers, sums_of_product}
 use Rattle.mf_ledger.specs.Text.{opening_of}
-use Rattle.mf_ledger.specs.declared.basis.Basis.{Basis}
+use Rattle.mf_ledger.specs.declared.basis.Basis.TheVariants as basis
 use Rattle.mf_ledger.specs.declared.books.Posting.{Posting}
 use Rattle.mf_model.proofs.Views.{seen_by_head}
 use Rattle.mf_model.specs.Desk.{office_shown}
-use Rattle.mf_model.specs.Institution.{Catalogue, Institution, Ledger, Office, item_numbered, office_at}
+use Rattle.mf_model.specs.Institution.{Catalogue, Institution, Ledger, Office, item_numbered}
 use Rattle.mf_model.specs.Sound.{IsSound}
 use Rattle.mf_model.specs.Store.{Reads, catalogue_counts, counts_at, rows_at, rows_of}
 use Rattle.mf_model.specs.Tree.{seen_by}
 use Rattle.mf_model.specs.declared.store.CatalogueCounts.{CatalogueCounts}
 use Rattle.mf_model.specs.declared.store.Counts.{Counts}
 use Rattle.mf_model.specs.declared.store.InstitutionStore.{Ghosts}
-use Rattle.mf_ledger_play.specs.Opening.{OpensBooks, ReadsOpening, ReadsStates, accrued_with, moving, opening_text}
+use Rattle.mf_ledger_play.specs.Opening.{OpensBooks, ReadsOpening, ReadsStates, accrued_with, moving}
 use Rattle.mf_ledger_play.specs.Opening.{states_of, sums_with}
 use Rattle.mf_ledger_play.specs.Told.{form_booked, state_at, state_in}
 use Rattle.mf_ledger_play.specs.declared.form.BooksAsked.{BooksAsked}
 use Rattle.mf_ledger_play.specs.declared.loans.LoanState.{LoanState}
 use Rattle.mf_ledger_play.specs.declared.opening.OpeningPostings.{OpeningPostings}
+use Rattle.mf_ledger_play.proofs.MovingLemmas.{form_same}
 use Rattle.mf_ledger_play.proofs.HeldLemmas.{at_number, found_at, number_made, office_taken, shown_at, there_at}
 
 -- ---- what is read of loans is what the definitions read
 
-pub sums_same : (day : ℕ) (k : Catalogue) (product : ℕ) (ls : List Ledger)
+sums_same : (day : ℕ) (k : Catalogue) (product : ℕ) (ls : List Ledger)
     → sums_with product (states_of day k ls) ≡ sums_of_product k product ls
 sums_same day k product [] = refl
 sums_same day k product (l ∷ ls) = go (l.loan.product == product) (sums_same day k product ls)
@@ -51,7 +51,7 @@ sums_same day k product (l ∷ ls) = go (l.loan.product == product) (sums_same d
     go true rest = ap (λ ss. sums_in k l ∷ ss) rest
     go false rest = rest
 
-pub accrued_same : (day : ℕ) (k : Catalogue) (product : ℕ) (ls : List Ledger)
+accrued_same : (day : ℕ) (k : Catalogue) (product : ℕ) (ls : List Ledger)
     → accrued_with product (states_of day k ls) ≡ accrued_of_product day k product ls
 accrued_same day k product [] = refl
 accrued_same day k product (l ∷ ls) = go (l.loan.product == product) (accrued_same day k product ls)
@@ -71,7 +71,7 @@ each_list f g same (x ∷ xs) = ap₂ ◌++◌ (same x) (each_list f g same xs)
 
 -- ---- products, one after the other
 
-pub moving_both : (ps qs : List Posting) → moving (ps ++ qs) ≡ moving ps ++ moving qs
+moving_both : (ps qs : List Posting) → moving (ps ++ qs) ≡ moving ps ++ moving qs
 moving_both ps qs = filter-append (λ (p : Posting). is_moved p.amount) ps qs
 
 range_more : (a count : ℕ) → range_with_len a count ++ (a + count) ∷ [] ≡ range_with_len a (suc count)
@@ -81,7 +81,7 @@ range_more a (suc count) =
     ap (λ ms. a ∷ ms) (ap (λ m. range_with_len (a + 1) count ++ m ∷ []) same ∙ range_more (a + 1) count)
 
 -- what the first numbers give, with the next
-pub products_more : (part : ℕ → List Posting) (place : ℕ)
+products_more : (part : ℕ → List Posting) (place : ℕ)
     → moving (flat_map part (range_with_len 1 place)) ++ moving (part (place + 1))
     ≡ moving (flat_map part (range_with_len 1 (place + 1)))
 products_more part place =
@@ -92,6 +92,14 @@ products_more part place =
     ∙ ap moving (sym (flat_map-append part (range_with_len 1 place) ((place + 1) ∷ [])))
     ∙ ap (λ ns. moving (flat_map part ns)) (ap (λ n. range_with_len 1 place ++ n ∷ []) (sym its) ∙ range_more 1 place
     ∙ ap (range_with_len 1) step)
+
+pub one_product_more : (part : ℕ → List Posting) (place : ℕ) (was text now : List Posting)
+    → text ≡ was ++ moving (flat_map part (range_with_len 1 place)) → now ≡ text ++ moving (part (place + 1))
+    → now ≡ was ++ moving (flat_map part (range_with_len 1 (place + 1)))
+one_product_more part place was text now so one =
+    one ∙ ap (λ ps. ps ++ moving (part (place + 1))) so
+    ∙ append_assoc was (moving (flat_map part (range_with_len 1 place))) (moving (part (place + 1)))
+    ∙ ap (λ ps. was ++ ps) (products_more part place)
 
 -- ---- the loans of an office
 
@@ -123,13 +131,14 @@ module _ {S : Type 0} (store : Ghosts S) (office day loans : ℕ) where
     read = λ k i s. sym (none_taken (states_of day i.catalogue (rows_at office i).loans));
   }
 
-  pub read_more : (place number : ℕ) (there : List LoanState) (state : LoanState) (old now new : S) → place < loans
+  pub read_more : (place number : ℕ) (there next : List LoanState) (state : LoanState) (old now new : S)
+      → place < loans
       → number ≡ place + 1 → ReadSome place there old now
       → Reads store.stands store.clean store.leaves (state_at day (record { office = office; number = number })) now new
-      (Ok state) → ReadSome (place + 1) (there ++ state ∷ []) old new
-  read_more place number there state old now new low is so one =
+      (Ok state) → next ≡ there ++ state ∷ [] → ReadSome (place + 1) next old new
+  read_more place number there next state old now new low is so one more =
       let step : suc place ≡ place + 1 = omega arith in
-      subst (λ p. ReadSome p (there ++ state ∷ []) old new) step (record {
+      subst (λ p. ReadSome p next old new) step (record {
         premise = λ k. so.premise (one.premise k);
         same = λ k i s. one.same k i (so.same (one.premise k) i s);
         count = λ k i s. so.count (one.premise k) i s;
@@ -142,7 +151,7 @@ module _ {S : Type 0} (store : Ghosts S) (office day loans : ℕ) where
             let its : state ≡ state_in day i.catalogue (Some at.0) =
             one.value_is k i (so.same early i s)
             ∙ ap (state_in day i.catalogue) (ap (item_numbered ls) is ∙ at_number ls place at.0 at.1) in
-            ap₂ (λ xs x. xs ++ x ∷ []) (so.read early i s) its
+            more ∙ ap₂ (λ xs x. xs ++ x ∷ []) (so.read early i s) its
             ∙ taken states place (state_in day i.catalogue (Some at.0))
             (slice_get-map (λ l. state_in day i.catalogue (Some l)) ls place
             ∙ ap (option_map (λ l. state_in day i.catalogue (Some l))) at.1);
@@ -162,7 +171,7 @@ module _ {S : Type 0} (store : Ghosts S) (office day loans : ℕ) where
 -- ---- the loans of all offices
 
 -- what the books open with in an office, from what was read of its loans
-pub office_cash : (day : ℕ) (k : Catalogue) (f : Office)
+office_cash : (day : ℕ) (k : Catalogue) (f : Office)
     → flat_map (λ product. opening_on f.number product (sums_with product (states_of day k f.rows.loans)))
     (product_numbers k) ≡ office_opening k f
 office_cash day k f =
@@ -170,7 +179,7 @@ office_cash day k f =
     (λ product. opening_on f.number product (sums_of_product k product f.rows.loans))
     (λ product. ap (opening_on f.number product) (sums_same day k product f.rows.loans)) (product_numbers k)
 
-pub office_added : (day : ℕ) (k : Catalogue) (f : Office)
+office_added : (day : ℕ) (k : Catalogue) (f : Office)
     → flat_map (λ product. adjusting_on f.number product (accrued_with product (states_of day k f.rows.loans)))
     (product_numbers k) ≡ office_adjusting day k f
 office_added day k f =
@@ -179,7 +188,7 @@ office_added day k f =
     (λ product. ap (adjusting_on f.number product) (accrued_same day k product f.rows.loans)) (product_numbers k)
 
 -- one office more
-pub offices_joined : (part : Office → List Posting) (fs : List Office) (place : ℕ) (f : Office)
+offices_joined : (part : Office → List Posting) (fs : List Office) (place : ℕ) (f : Office)
     → slice_get fs place ≡ Some f
     → moving (flat_map part (take place fs)) ++ moving (part f) ≡ moving (flat_map part (take (suc place) fs))
 offices_joined part fs place f there =
@@ -220,15 +229,16 @@ module _ {S : Type 0} (store : Ghosts S) (offices : List shown.Office) (products
         ap (λ fs. moving (flat_map (office_adjusting day i.catalogue) fs)) (sym (none_taken i.offices));
   }
 
-  pub opens_more : (place : ℕ) (o : shown.Office) (states : List LoanState) (cash added more_cash more_added : List Posting)
-      (old now new : S) → slice_get offices place ≡ Some o → OpensOffices place cash added old now
+  pub opens_more : (place : ℕ) (o : shown.Office) (states told : List LoanState)
+      (cash added more_cash more_added : List Posting) (old now new : S) → slice_get offices place ≡ Some o → OpensOffices place cash added old now
       → ReadsStates store (λ i. states_of day i.catalogue (rows_at o.number i).loans) states now new
-      → more_cash ≡ cash ++ moving (flat_map (λ product. opening_on o.number product (sums_with product states))
+      → told ≡ states
+      → more_cash ≡ cash ++ moving (flat_map (λ product. opening_on o.number product (sums_with product told))
       (range_with_len 1 products))
-      → more_added ≡ added ++ moving (flat_map (λ product. adjusting_on o.number product (accrued_with product states))
+      → more_added ≡ added ++ moving (flat_map (λ product. adjusting_on o.number product (accrued_with product told))
       (range_with_len 1 products))
       → OpensOffices (place + 1) more_cash more_added old new
-  opens_more place o states cash added more_cash more_added old now new there so one cash_more added_more =
+  opens_more place o states told cash added more_cash more_added old now new there so one same cash_more added_more =
       let step : suc place ≡ place + 1 = omega arith in
       subst (λ p. OpensOffices p more_cash more_added old new) step (record {
         premise = λ k. so.premise (one.premise k);
@@ -242,10 +252,10 @@ module _ {S : Type 0} (store : Ghosts S) (offices : List shown.Office) (products
             let f = at.0 in
             cash_more
             ∙ ap₂ (λ ps qs. ps ++ moving qs) (so.cash_is early i s)
-            (ap₂ (λ n ms. flat_map (λ product. opening_on n product (sums_with product states)) ms) (sym at.2)
+            (ap₂ (λ n ms. flat_map (λ product. opening_on n product (sums_with product told)) ms) (sym at.2)
             (ap (range_with_len 1) (so.count early i s))
             ∙ ap (λ ss. flat_map (λ product. opening_on f.number product (sums_with product ss))
-            (product_numbers i.catalogue)) (one.read_is k i (so.same early i s) ∙ at.3 i.catalogue)
+            (product_numbers i.catalogue)) (same ∙ one.read_is k i (so.same early i s) ∙ at.3 i.catalogue)
             ∙ office_cash day i.catalogue f)
             ∙ offices_joined (office_opening i.catalogue) i.offices place f at.1;
         added_is = λ k i s.
@@ -254,10 +264,10 @@ module _ {S : Type 0} (store : Ghosts S) (offices : List shown.Office) (products
             let f = at.0 in
             added_more
             ∙ ap₂ (λ ps qs. ps ++ moving qs) (so.added_is early i s)
-            (ap₂ (λ n ms. flat_map (λ product. adjusting_on n product (accrued_with product states)) ms) (sym at.2)
+            (ap₂ (λ n ms. flat_map (λ product. adjusting_on n product (accrued_with product told)) ms) (sym at.2)
             (ap (range_with_len 1) (so.count early i s))
             ∙ ap (λ ss. flat_map (λ product. adjusting_on f.number product (accrued_with product ss))
-            (product_numbers i.catalogue)) (one.read_is k i (so.same early i s) ∙ at.3 i.catalogue)
+            (product_numbers i.catalogue)) (same ∙ one.read_is k i (so.same early i s) ∙ at.3 i.catalogue)
             ∙ office_added day i.catalogue f)
             ∙ offices_joined (office_adjusting day i.catalogue) i.offices place f at.1;
       })
@@ -271,9 +281,13 @@ module _ {S : Type 0} (store : Ghosts S) (offices : List shown.Office) (products
           let listed = so.listed early i s in
           let at = shown_at i.offices place o (ap (λ os. slice_get os place) (sym listed) ∙ there) in
           let f = at.0 in
-          let found = found_at i.offices place f ((so.sound i s).tree).ascending at.1 in
-          (f, at.1, at.2, λ k. ap (λ n. states_of day k (rows_at n i).loans) (sym at.2)
-          ∙ ap (λ g. states_of day k (rows_of g).loans) found)
+          let found = found_at i.offices place f ((so.sound i s).tree).ascending at.1 in (
+            f,
+            at.1,
+            at.2,
+            λ k. ap (λ n. states_of day k (rows_at n i).loans) (sym at.2)
+                ∙ ap (λ g. states_of day k (rows_of g).loans) found,
+          )
 
   pub opens_all : (place : ℕ) (opening : OpeningPostings) (old now : S) → length offices ≡ place
       → OpensOffices place opening.cash.items opening.added.items old now → ReadsOpening store day opening old now
@@ -281,15 +295,48 @@ module _ {S : Type 0} (store : Ghosts S) (offices : List shown.Office) (products
     premise = so.premise;
     same = so.same;
     cash = λ k i s. so.cash_is k i s
-        ∙ ap (λ fs. moving (flat_map (office_opening i.catalogue) fs)) (whole (so.listed k i s));
+        ∙ ap (λ fs. moving (flat_map (office_opening i.catalogue) fs)) (whole i (so.listed k i s));
     added = λ k i s. so.added_is k i s
-        ∙ ap (λ fs. moving (flat_map (office_adjusting day i.catalogue) fs)) (whole (so.listed k i s));
+        ∙ ap (λ fs. moving (flat_map (office_adjusting day i.catalogue) fs)) (whole i (so.listed k i s));
   }
     where
-      whole : {i : Institution} → offices ≡ map office_shown i.offices → take place i.offices ≡ i.offices
-      whole {i = i} listed =
+      whole : (i : Institution) → offices ≡ map office_shown i.offices → take place i.offices ≡ i.offices
+      whole i listed =
           ap (λ p. take p i.offices) (sym all ∙ ap length listed ∙ length-map i.offices office_shown)
           ∙ take-length i.offices
+
+-- ---- the opening transactions of a day
+
+module _ (asked : BooksAsked) (day : ℕ) (i : Institution) (was mid now : List ℕ) (cash added : List Posting) where
+  -- the text of postings of the opening
+  abbrev opened_text : List Posting → List ℕ
+  opened_text postings = form_booked asked.form asked.names (opening_of day) postings
+
+  -- on a cash basis
+  pub one_written : asked.basis ≡ basis.Cash → cash ≡ moving (opening_postings i) → mid ≡ was ++ opened_text cash
+      → mid ≡ was ++ flat_map opened_text (openings asked.basis i)
+  one_written is cash_is first =
+      first
+      ∙ ap (λ text. was ++ text) (ap opened_text cash_is
+      ∙ form_same asked.form asked.names (opening_of day) (opening_postings i)
+      ∙ sym (append-nil (opened_text (opening_postings i))))
+      ∙ ap (λ b. was ++ flat_map opened_text (openings b i)) (sym is)
+
+  -- and on an accrual basis
+  pub two_written : asked.basis ≡ basis.Accrual → day ≡ i.catalogue.day → cash ≡ moving (opening_postings i)
+      → added ≡ moving (adjusting_opening day i) → mid ≡ was ++ opened_text cash → now ≡ mid ++ opened_text added
+      → now ≡ was ++ flat_map opened_text (openings asked.basis i)
+  two_written is today cash_is added_is first second =
+      let one = opened_text (opening_postings i) in
+      let two = opened_text (adjusting_opening i.catalogue.day i) in
+      let cash_text : opened_text cash ≡ one =
+      ap opened_text cash_is ∙ form_same asked.form asked.names (opening_of day) (opening_postings i) in
+      let added_text : opened_text added ≡ two =
+      ap opened_text (added_is ∙ ap (λ d. moving (adjusting_opening d i)) today)
+      ∙ form_same asked.form asked.names (opening_of day) (adjusting_opening i.catalogue.day i) in
+      second ∙ ap₂ ◌++◌ (first ∙ ap (λ text. was ++ text) cash_text) added_text ∙ append_assoc was one two
+      ∙ ap (λ text. was ++ (one ++ text)) (sym (append-nil two))
+      ∙ ap (λ b. was ++ flat_map opened_text (openings b i)) (sym is)
 
 -- ---- the opening that is asked for
 

@@ -1,6 +1,6 @@
 -- What the passing of days adds.
 use Rattle.std.proofs.Common.{◌≡◌, ◌≤◌, ℕ, zero, suc, ◌+◌, ◌-◌, Bool, true, false, cond, List, [], ◌∷◌, ◌++◌, map, take}
-use Rattle.std.proofs.Common.{length, Some, Ok, refl, sym, ap, ap₂, ◌∙◌, subst, arith, append-nil, append_assoc}
+use Rattle.std.proofs.Common.{length, Some, Ok, refl, sym, ap, ap₂, ◌∙◌, arith, append-nil, append_assoc}
 use Rattle.std.specs.Prelude.{◌&&◌, nat_le, slice_get}
 use Rattle.std.specs.List.{flat_map, range_with_len}
 use Rattle.std.proofs.Math.Seq.{take-length}
@@ -8,7 +8,7 @@ use Rattle.std.proofs.lemmas.Bool.Decides.{nat_tests}
 use Rattle.std.proofs.lemmas.Grind.{flat_map-append}
 use Rattle.std.proofs.lemmas.List.{length-map, map-append}
 use Rattle.mf_office.specs.declared.account.Account.{Account}
-use Rattle.mf_ledger.specs.Accrual.{accrued_in, adjusting_between, due_between, due_of_loans, due_on}
+use Rattle.mf_ledger.specs.Accrual.{accrued_in, adjusting_between, due_of_loans, due_on}
 use Rattle.mf_ledger.specs.Runs.{between}
 use Rattle.mf_ledger.specs.declared.accrual.AccruedSums.{AccruedSums}
 use Rattle.mf_ledger.specs.declared.basis.Basis.TheVariants.{Cash, Accrual}

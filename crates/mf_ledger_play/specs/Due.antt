@@ -1,10 +1,9 @@
 -- The loans of an institution, one behind the other, and what falls due of them.
-use Rattle.std.specs.Prelude.{ℕ, ◌+◌, List, [], ◌∷◌, map, option_map}
+use Rattle.std.specs.Prelude.{ℕ, ◌+◌, List, [], ◌∷◌, option_map}
 use Rattle.std.specs.List.{flat_map}
 use Rattle.mf_account.specs.Change.{account_by_replay}
 use Rattle.mf_office.specs.declared.account.Account.{Account}
 use Rattle.mf_ledger.specs.Accrual.{due_between, falling_due}
-use Rattle.mf_ledger.specs.Basis.{added_of}
 use Rattle.mf_ledger.specs.declared.basis.Basis.{Basis}
 use Rattle.mf_ledger.specs.declared.basis.Basis.TheVariants.{Cash, Accrual}
 use Rattle.mf_ledger.specs.declared.books.Transaction.{Transaction}

@@ -82,10 +82,7 @@ fn open_product(
     ensures only { IsOkUnless result Fault.F20 }
 {
     let (sums, accrued) = of_product(alloc, product, states)?;
-    push_moving(
-        &opening_postings(office, product, &sums),
-        &mut opening.cash,
-    )?;
+    push_moving(&opening_postings(office, product, &sums), &mut opening.cash)?;
     push_moving(
         &opening_adjustments(office, product, &accrued),
         &mut opening.added,
