@@ -1,8 +1,11 @@
 -- The books of a journal that was begun over rows, from a copy of these: they begin with the copy's balances.
-use Rattle.std.specs.Prelude.{◌≡◌, ◌+◌, ◌++◌, ℕ, List}
+use Rattle.std.specs.Prelude.{◌≡◌, ◌+◌, ◌++◌, ◌&&◌, nat_le, cond, ℕ, List, []}
+use Rattle.std.specs.List.{flat_map}
 use Rattle.sqlite.specs.Tree.{Trees}
 use Rattle.mf_journal.specs.declared.following.Head.{Head}
+use Rattle.mf_ledger.specs.Adjusting.{openings}
 use Rattle.mf_ledger.specs.Basis.{booked}
+use Rattle.mf_ledger.specs.Sheet.{opening_rows}
 use Rattle.mf_ledger.specs.declared.basis.Basis.{Basis}
 use Rattle.mf_ledger.specs.declared.books.Transaction.{Transaction}
 use Rattle.mf_ledger_play.specs.Opening.{opening_text}
@@ -24,6 +27,11 @@ copied_transactions basis copied lines = booked basis 0 (run_told lines) (journa
 abbrev pub copied_books_text : BooksAsked → Institution → List JournalLine → List ℕ
 copied_books_text asked copied lines =
     form_head asked.form ++ (opening_text asked copied ++ span_text asked (copied_transactions asked.basis copied lines))
+
+-- the rows of the opening in a sheet, where its day is in the span that is asked for
+abbrev pub rows_opened : BooksAsked → Institution → List (List (List ℕ))
+rows_opened asked copied = cond (nat_le asked.first copied.catalogue.day && nat_le copied.catalogue.day asked.last)
+    (flat_map (opening_rows asked.names copied.catalogue.day) (openings asked.basis copied)) []
 
 -- The answer is right for the lines of a journal that begins here, from a copy of what stood there before it was begun:
 -- where they play from it to their end, the text of the books.

@@ -11,7 +11,7 @@ ghost use Rattle.mf_model.specs.Sound.{IsSound};
 ghost use Rattle.mf_play.specs.Play.{PlaysTo};
 ghost use Rattle.mf_store_noted.specs.Kept.{journaled};
 ghost use Rattle.mf_store_played.specs.Played.{founded};
-ghost use Rattle.mf_store_ledger.specs.Copied.{copied_books_text};
+ghost use Rattle.mf_store_ledger.specs.Copied.{copied_books_text, copied_transactions, rows_opened};
 ghost use Rattle.mf_store_ledger.specs.Journal.{books_text, journal_transactions};
 
 /// The text of a sheet is that of its rows, the columns first.
@@ -19,6 +19,14 @@ pub fn books_as_a_sheet()
     ensures { (asked : BooksAsked) (day : ℕ) (lines : List JournalLine) → asked.form ≡ Sheet
         → books_text asked day lines ≡ sheet_text (columns ∷ flat_map (transaction_rows asked.names)
         (between asked.first asked.last (journal_transactions asked.basis day lines))) }
+{}
+
+/// The same of books that begin with a copy's balances: their rows come before those of the transactions.
+pub fn books_from_a_copy_as_a_sheet()
+    ensures { (asked : BooksAsked) (copied : Institution) (lines : List JournalLine) → asked.form ≡ Sheet
+        → copied_books_text asked copied lines ≡ sheet_text (columns ∷ (rows_opened asked copied
+        ++ flat_map (transaction_rows asked.names)
+        (between asked.first asked.last (copied_transactions asked.basis copied lines)))) }
 {}
 
 /// The books of closed days never move: once the business day is later than the last that is asked for, whatever lines
@@ -29,8 +37,8 @@ pub fn closed_books_never_move()
         → books_text asked day (lines ++ more) ≡ books_text asked day lines }
 {}
 
-/// The same of books that begin with a copy's balances: once the business day is later than the last that is asked for,
-/// whatever lines are added to the journal leave their text as it was, on either basis.
+/// Nor do those of books that begin with a copy's balances: once the business day is later than the last that is asked
+/// for, whatever lines are added to the journal leave their text as it was, on either basis.
 pub fn closed_books_never_move_from_a_copy()
     ensures { (asked : BooksAsked) (copied : Institution) (lines more : List JournalLine) (i : Institution)
         → IsSound copied → PlaysTo (journaled copied) lines i → asked.last < i.catalogue.day
