@@ -9,7 +9,8 @@ use crate::accrual::AccruedSums;
 use crate::books::{BookAccount, Posting, Title};
 use mf_office::OfficeNo;
 
-/// What accrual adds on the account of a title for loans together, in cents. It is exact for any sums: no sum overflows.
+/// What accrual adds on the account of a title for loans together, in cents. It is exact for any sums: no sum
+/// overflows.
 fn total(title: Title, loans: &[AccruedSums]) -> i128
     ensures { result ≡ signed_sum (accrued_on title) loans.now }
 {

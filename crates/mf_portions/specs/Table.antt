@@ -1,5 +1,6 @@
 -- The text of lines by portion: what they have, less what lines before had.
-use Rattle.std.specs.Prelude.{ℕ, ◌==◌, ◌-◌, nat_le, Bool, not, ◌&&◌, ◌||◌, cond, List, [], ◌++◌, unwrap_or, codes, decimal}
+use Rattle.std.specs.Prelude.{ℕ, ◌==◌, ◌-◌, nat_le, Bool, not, ◌&&◌, ◌||◌, cond, List, [], ◌++◌, unwrap_or}
+use Rattle.std.specs.Prelude.{codes, decimal}
 use Rattle.std.specs.List.{find, flat_map}
 use Rattle.mf_base.specs.Money.{money_text}
 use Rattle.mf_portions.specs.declared.lines.Heading.{Heading}

@@ -26,7 +26,8 @@ copied_transactions basis copied lines = booked basis 0 (run_told lines) (journa
 -- The text of its books: the copy's balances on its business day, and then those transactions.
 abbrev pub copied_books_text : BooksAsked → Institution → List JournalLine → List ℕ
 copied_books_text asked copied lines =
-    form_head asked.form ++ (opening_text asked copied ++ span_text asked (copied_transactions asked.basis copied lines))
+    form_head asked.form
+    ++ (opening_text asked copied ++ span_text asked (copied_transactions asked.basis copied lines))
 
 -- the rows of the opening in a sheet, where its day is in the span that is asked for
 abbrev pub rows_opened : BooksAsked → Institution → List (List (List ℕ))

@@ -14,15 +14,15 @@ use Rattle.mf_portions_play.specs.Ends.{told_before, StopsBefore}
 use Rattle.mf_store_journal.specs.Reading.{IsThird}
 use Rattle.mf_store_journal.specs.Written.{KeepsJournalFrom}
 use Rattle.mf_store_ledger.specs.declared.answer.Books.{Books}
-use Rattle.mf_store_ledger.specs.declared.answer.Books.TheVariants.{Written, NoFounding, Stops}
+use Rattle.mf_store_ledger.specs.declared.answer.Books.TheVariants.{Written, NoFounding, OtherCopy, Stops}
 use Rattle.mf_store_played.specs.Played.{IsFounding, founded}
 
 -- the lines by portion before a business day, of an institution that is founded on a day
 abbrev pub lines_before : ℕ → ℕ → List JournalLine → List PortionLine
 lines_before until day lines = portion_lines (told_before until lines (founded day))
 
--- the movement of the business days from a first to a last one: what stands there after the last, less what stands there
--- before the first
+-- the movement of the business days from a first to a last one: what stands there after the last, less what stands
+-- there before the first
 abbrev pub movement_text : ℕ → ℕ → ℕ → List JournalLine → List ℕ
 movement_text first last day lines =
     table_text (lines_before first day lines) (lines_before (last + 1) day lines)
@@ -37,6 +37,7 @@ AreLinesBefore until day lines (Err stop) =
 abbrev pub IsMovedFrom : List PortionLine → ℕ → ℕ → List JournalLine → Books → Type 0
 IsMovedFrom before until day lines (Written text) = text.items ≡ table_text before (lines_before until day lines)
 IsMovedFrom before until day lines NoFounding = ⊥
+IsMovedFrom before until day lines OtherCopy = ⊥
 IsMovedFrom before until day lines (Stops number why) =
     (place : ℕ) × (number ≡ place + 1) × StopsBefore until (founded day) lines place why
 
@@ -46,6 +47,7 @@ abbrev pub IsMovement : ℕ → ℕ → Head → List JournalLine → Books → 
 IsMovement first last begins lines (Written text) =
     (day : ℕ) × IsFounding begins day × (text.items ≡ movement_text first last day lines)
 IsMovement first last begins lines NoFounding = (day : ℕ) → ¬ IsFounding begins day
+IsMovement first last begins lines OtherCopy = ⊥
 IsMovement first last begins lines (Stops number why) = (day : ℕ) × IsFounding begins day × (until : ℕ)
     × (place : ℕ) × (number ≡ place + 1) × StopsBefore until (founded day) lines place why
 

@@ -113,9 +113,9 @@ fn copied_books<S: Alter>(
     }
 }
 
-/// The text of the books of the journal that a table keeps, where it was begun over rows: they open with the balances of
-/// a copy of these on the copy's business day, and go on with the transactions of the journal's lines; of both what is
-/// dated from the first day to the last that is asked for. Where a line doesn't play, its number, and why; and it is
+/// The text of the books of the journal that a table keeps, where it was begun over rows: they open with the balances
+/// of a copy of these on the copy's business day, and go on with the transactions of the journal's lines; of both what
+/// is dated from the first day to the last that is asked for. Where a line doesn't play, its number, and why; and it is
 /// told where the journal wasn't begun over the rows of the copy: a copy that keeps a journal, one of another day, a
 /// journal that begins at a founding. It plays in memory, over the copy, and changes nothing else. The error is F20.
 ///

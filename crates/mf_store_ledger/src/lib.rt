@@ -3,6 +3,7 @@
 #![tactic(auto)]
 
 mod answer;
+mod bytes;
 mod copied;
 mod ends;
 pub mod laws;
@@ -11,6 +12,7 @@ mod pages;
 mod writing;
 
 pub use answer::Books;
+pub use bytes::{Unwritten, write_books_from_copy};
 pub use copied::write_books_from;
 pub use movement::write_movement;
 pub use writing::write_books;

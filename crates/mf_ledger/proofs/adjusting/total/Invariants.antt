@@ -6,7 +6,8 @@ use Rattle.mf_ledger.proofs.adjusting.total.Given as goal
 
 abbrev pub invariant-loop-sums : goal.invariant-loop-sums
 invariant-loop-sums l = record {
-  sum : l.total +ℤ signed_sum (accrued_on l.title) (drop l.sums-index l.loans) ≡ signed_sum (accrued_on l.title) l.loans;
+  sum : l.total +ℤ signed_sum (accrued_on l.title) (drop l.sums-index l.loans)
+      ≡ signed_sum (accrued_on l.title) l.loans;
   least : neg_ℤ (pos (3 * 2 ^ 64 * l.sums-index)) ≤ℤ l.total;
   most : l.total ≤ℤ pos (3 * 2 ^ 64 * l.sums-index);
 }

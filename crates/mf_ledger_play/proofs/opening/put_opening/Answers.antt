@@ -16,8 +16,8 @@ pub returns-in_ok-put_postings-in-Accrual-clause-text : goal.returns-in_ok-put_p
 returns-in_ok-put_postings-in-Accrual-clause-text c i today cash added =
     let asked = c.args.asked.now in
     two_written asked c.args.day i c.args.text.now.items c.put_postings.new.text.items
-    c.put_postings-in-Accrual.new.text.items c.args.opening.now.cash.items c.args.opening.now.added.items c.in-Accrual.is
-    today cash added
+    c.put_postings-in-Accrual.new.text.items c.args.opening.now.cash.items c.args.opening.now.added.items
+    c.in-Accrual.is today cash added
     (c.in_ok-put_postings.ensures.text
     ∙ ap₂ (λ o ps. c.args.text.now.items ++ form_booked asked.form asked.names o ps) c.opening-occasion.ensures
     c.deref.ensures.value)

@@ -1,7 +1,8 @@
 use Rattle.mf_ledger.specs.declared.books.Title.TheVariants as title
 use Rattle.mf_portions.specs.Ties.{earned, left, lost}
 use Rattle.mf_portions.specs.declared.lines.Heading.TheVariants as heading
-use Rattle.mf_portions.proofs.TieLemmas.{fees_there, interest_there, kept_there, lines_come_to, lost_there, outstanding_there, penalties_there}
+use Rattle.mf_portions.proofs.TieLemmas.{fees_there, interest_there, kept_there, lines_come_to, lost_there}
+use Rattle.mf_portions.proofs.TieLemmas.{outstanding_there, penalties_there}
 use Rattle.mf_portions.proofs.laws.lines_come_to_the_books.Goals as goal
 
 pub returns-clause-outstanding : goal.returns-clause-outstanding

@@ -1,7 +1,8 @@
 use Rattle.mf_ledger.specs.declared.books.Title.TheVariants as title
 use Rattle.mf_portions.specs.Ties.{earned, left, lost}
 use Rattle.mf_portions.specs.declared.lines.Heading.TheVariants as heading
-use Rattle.mf_portions.proofs.TieLemmas.{fees_there, interest_there, kept_there, lost_there, movement_is, outstanding_there, penalties_there}
+use Rattle.mf_portions.proofs.TieLemmas.{fees_there, interest_there, kept_there, lost_there, movement_is}
+use Rattle.mf_portions.proofs.TieLemmas.{outstanding_there, penalties_there}
 use Rattle.mf_portions.proofs.laws.movement_ties_to_the_ledger.Goals as goal
 
 pub returns-clause-outstanding : goal.returns-clause-outstanding
