@@ -17,8 +17,8 @@ use Rattle.mf_store_journal.specs.Written.{KeepsJournalFrom}
 use Rattle.mf_store_journal.proofs.GoingLemmas.{still_unchanged, unchanged_itself, kept_after}
 use Rattle.mf_play.specs.declared.stop.Stop.{Stop}
 use Rattle.mf_store.proofs.JournalPages.{page_is, none_left, size_of_rows}
-use Rattle.mf_portions_play.specs.Ends.{told_before, EndsLines, StopsBefore}
-use Rattle.mf_portions_play.proofs.EndsLemmas.{parted, stops_behind}
+use Rattle.mf_portions_play.specs.Ends.{told_before, EndsLines, PlayBefore, StopsBefore}
+use Rattle.mf_portions_play.proofs.EndsLemmas.{parted, plays_parted, stops_behind}
 use Rattle.mf_store_ledger.specs.Movement.{EndsTable}
 
 -- as long as the disk returned what was written, after lines that played or stopped, it did before them
@@ -29,12 +29,14 @@ premise_of store until lines old new (Ok r) ends = ends.premise
 premise_of store until lines old new (Err fault) ends = tt
 
 module _ {S : Type 0} (store : Ghosts S) (until : ℕ) where
-  -- the store stands for what the first lines of these, as many as this, lead to before the day
+  -- the first lines of these, as many as this, played as far as they come before the day, and the store stands for what
+  -- they lead to by then
   pub record Reached (i : Institution) (lines : List JournalLine) (here : S) (number : ℕ) : Type 0 where
     pub done : List JournalLine
     pub rest : List JournalLine
     pub are : lines ≡ done ++ rest
     pub count : length done ≡ number
+    pub plays : PlayBefore until i done
     pub stands : store.stands here (told_before until done i)
 
   -- the lines up to a number played
@@ -48,7 +50,7 @@ module _ {S : Type 0} (store : Ghosts S) (until : ℕ) where
   going_first s before = record {
     kept = unchanged_itself s;
     far = λ clean its ok begins lines none keeps i stands.
-        record { done = []; rest = lines; are = refl; count = refl; stands = stands };
+        record { done = []; rest = lines; are = refl; count = refl; plays = tt; stands = stands };
   }
 
   module _ (old now new : State) (before here : S) (number : ℕ) (rows : List Row)
@@ -89,7 +91,8 @@ module _ {S : Type 0} (store : Ghosts S) (until : ℕ) where
               are = r.are ∙ ap (λ ls. r.done ++ ls) (sym whole)
                   ∙ sym (append_assoc r.done first (drop page_size r.rest));
               count = omega (arith, both, size, count, so_far);
-              stands = subst (store.stands there) (sym (parted until r.done first i)) went;
+              plays = plays_parted until r.done first i r.plays went.1;
+              stands = subst (store.stands there) (sym (parted until r.done first i)) went.0;
             };
       }
 
@@ -104,7 +107,7 @@ module _ {S : Type 0} (store : Ghosts S) (until : ℕ) where
           let first = take page_size r.rest in
           let stops = (ends (head_with_all begins r.done) first are).came ok (told_before until r.done i) r.stands in
           let whole : first ++ drop page_size r.rest ≡ r.rest = take-append-drop page_size r.rest in
-          let at = stops_behind until i r.done first (drop page_size r.rest) place why stops in
+          let at = stops_behind until i r.done first (drop page_size r.rest) place why r.plays stops in
           let so_far = r.count in (
             length r.done + place,
             omega (arith, count, so_far),
@@ -118,5 +121,7 @@ module _ {S : Type 0} (store : Ghosts S) (until : ℕ) where
         let r = going.far (kept.premise clean) its ok begins lines none keeps i stands in
         let are = its_page clean its begins lines none keeps i r in
         let over : r.rest ≡ [] = none_left (head_with_all begins r.done) r.rest (sym are ∙ none_there) in
-        let all : r.done ≡ lines = sym (r.are ∙ ap (λ ls. r.done ++ ls) over ∙ append-nil r.done) in
-        subst (λ ls. store.stands here (told_before until ls i)) all r.stands
+        let all : r.done ≡ lines = sym (r.are ∙ ap (λ ls. r.done ++ ls) over ∙ append-nil r.done) in (
+          subst (λ ls. store.stands here (told_before until ls i)) all r.stands,
+          subst (PlayBefore until i) all r.plays,
+        )

@@ -1,4 +1,4 @@
-use Rattle.std.proofs.Common.{ap, sym, subst}
+use Rattle.std.proofs.Common.{ap, sym, subst, arith}
 use Rattle.std.proofs.lemmas.Result.{IfOk-weaker}
 use Rattle.sqlite.specs.Effect.{Database}
 use Rattle.sqlite.specs.Held.{state}
@@ -7,7 +7,7 @@ use Rattle.mf_store_journal.proofs.GoingLemmas.{still_unchanged, unchanged_itsel
 use Rattle.mf_store_journal.specs.Reading.{IsThird}
 use Rattle.mf_store_journal.specs.Written.{KeepsJournalFrom}
 use Rattle.mf_store_played.proofs.AnswerLemmas.{on_ok_then}
-use Rattle.mf_store_ledger.proofs.MovementLemmas.{moved_answer}
+use Rattle.mf_store_ledger.proofs.MovementLemmas.{moved_answer, movement_stops}
 use Rattle.mf_store_ledger.proofs.movement.movement_from.Goals as goal
 
 pub returns-in_default-clause-kept : goal.returns-in_default-clause-kept
@@ -47,4 +47,5 @@ returns-in-Ok-Err-clause-answer g c clean its lines keeps =
     let none = ap (λ (h : Head). h.number) c.requires.founds.is in
     let stops = (rw c.in-Ok-Err.field-0-is at (c.in-Ok-Err.ensures {u = tt}).lines) clean its begins lines none keeps
     in
-    (c.args.day, c.requires.founds, c.number_of.result, stops.0, stops.1, stops.2)
+    movement_stops c.args.first c.args.last begins lines c.args.day c.number_of.result c.in-Ok-Err.number stops.0
+    c.in-Ok-Err.why c.requires.founds (omega (arith, c.number_of.ensures)) stops.1 stops.2

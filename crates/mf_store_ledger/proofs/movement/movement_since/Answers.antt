@@ -7,8 +7,8 @@ lines_before-requires-early g c = c.requires.early
 
 pub returns-in_ok-text-clause-answer : goal.returns-in_ok-text-clause-answer
 returns-in_ok-text-clause-answer g c clean its begins lines none keeps =
-    let found = rw c.in-Ok-Ok.field-0-is at (c.in-Ok-Ok.ensures {u = tt}).lines in
-    c.in_ok-text.ensures.text ∙ ap (table_text c.args.before.now) (found clean its begins lines none keeps)
+    let found = (rw c.in-Ok-Ok.field-0-is at (c.in-Ok-Ok.ensures {u = tt}).lines) clean its begins lines none keeps in
+    (c.in_ok-text.ensures.text ∙ ap (table_text c.args.before.now) found.0, found.1)
 
 pub returns-in-Ok-Err-clause-answer : goal.returns-in-Ok-Err-clause-answer
 returns-in-Ok-Err-clause-answer g c clean its begins lines none keeps =
