@@ -16,7 +16,8 @@ use Rattle.mf_store_journal.specs.declared.journal.Journal.{Journal}
 use Rattle.mf_portions.specs.Table.{table_text}
 use Rattle.mf_portions.specs.declared.lines.PortionLine.{PortionLine}
 use Rattle.mf_store_played.specs.Played.{IsFounding, founded}
-use Rattle.mf_store_ledger.specs.Movement.{AreLinesBefore, IsMovedFrom, IsMovement, IsMovementOf, lines_before, played_until}
+use Rattle.mf_store_ledger.specs.Movement.{AreLinesBefore, IsMovedFrom, IsMovement, IsMovementOf}
+use Rattle.mf_store_ledger.specs.Movement.{lines_before, played_until}
 use Rattle.mf_store_ledger.specs.declared.answer.Books.{Books}
 use Rattle.mf_store_ledger.specs.declared.answer.Books.TheVariants.{Written, NoFounding, OtherCopy, Stops}
 
