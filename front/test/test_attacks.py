@@ -360,11 +360,48 @@ class Several(OverTheProgram):
         self.as_by_itself("/several?" + "&".join(self.PATHS), self.PATHS)
 
     def test_each_account_as_by_itself(self):
+        """By steps what a phone doesn't play is left out."""
         paths = [path for loan in self.LOANS for path in (f"/loans/{loan}", f"/loans/{loan}/entries")]
-        for named in ("&".join(self.LOANS), "2:1&3:1&9:9"):
-            self.as_by_itself("/accounts?" + named, paths)
+        self.as_by_itself("/accounts?" + "&".join(self.LOANS), paths)
+        self.as_by_itself("/accounts?2:1&3:1&9:9", paths, self.played)
 
-    def as_by_itself(self, target, paths):
+    NOT_PLAYED = ("client", "disbursement_fee", "loan", "paid", "refunded", "waived", "written_off", "entry", "shares", "staff")
+
+    def played(self, text):
+        """What the message by steps tells of a reply, whose entries have no receipts of rounds."""
+        bare = lambda thing: {name: value for name, value in thing.items() if name not in self.NOT_PLAYED}
+        told = json.loads(text)
+        told = {"entries": list(map(bare, told["entries"]))} if "entries" in told else bare(told)
+        return json.dumps(told, separators=(",", ":"), ensure_ascii=False)
+
+    def test_what_a_phone_does_not_play_is_left_out(self):
+        """No text is cut, no number loses a digit, and of the receipt that a round makes the entry's day is left out."""
+        loan = (b'{"client":"0002-000001","day":"2024-03-02","disbursement_fee":5,"loan":"0002-000017","outstanding":'
+                b'{"fees":1,"principal":12345678901234567},"overpaid":0,"paid":{"fees":2},"periods":3,"principal":9,"product":1,'
+                b'"refunded":0,"status":300,"waived":{"fees":0},"written_off":{"fees":0}}')
+        entry = ('{{"amount":12345678901234567,"day":"{}","entry":{},"instalment":null,"kind":"repayment","portion":null,'
+                 '"receipt":{},"reversed":false,"shares":[{{"amount":1}},{{"amount":2}}],"staff":"2/3"}}').format
+        kept = ('{{"amount":12345678901234567,"day":"{}","instalment":null,"kind":"repayment","portion":null,'
+                '"receipt":{},"reversed":false}}').format
+        receipts = [("2024-03-02", '"2-20240302-000017"', '["2","000017"]'), ("2024-03-03", '"2-20240302-000017"', None),
+                    ("2024-03-02", '"31-20240302-000018"', '["31","000018"]'), ("2024-03-02", '"2-20240302-000017-2"', None),
+                    ("2024-03-02", '"2-20240302-00017"', None), ("2024-03-02", "null", None), ("2024-03-02", '"}],{["', None),
+                    ("2024-03-02", '",\\"shares\\":[],\\"entry\\":1,\\"staff\\":\\""', None),
+                    ("2024-03-02", '"x,"', None), ("2024-03-04", '"2-20240304-000017"', '["2","000017"]')]
+        entries = ",".join(entry(day, number, receipt) for number, (day, receipt, _) in enumerate(receipts, 1))
+        wanted = ",".join(kept(day, told or receipt) for day, receipt, told in receipts)
+        DESK.stop_serve()
+        with Program(DESK.serve.port, replied(loan), replied(f'{{"entries":[{entries}]}}'.encode())):
+            status, told = DESK.send("zoe", "GET", "/accounts?2:17")
+        waiting = b'{"client":"0002-000001","loan":"0002-000018","periods":3,"principal":9,"product":1,"status":100}'
+        with Program(DESK.serve.port, replied(waiting), replied(b'{"entries":[]}')):
+            _, more = DESK.send("zoe", "GET", "/accounts?2:18")
+        self.assertEqual(list(map(text_of, more)), [waiting.decode(), '{"entries":[]}'])
+        self.assertEqual([status, *map(text_of, told)], [
+            200, '{"day":"2024-03-02","outstanding":{"fees":1,"principal":12345678901234567},"overpaid":0,"periods":3,'
+            '"principal":9,"product":1,"status":300}', f'{{"entries":[{wanted}]}}'])
+
+    def as_by_itself(self, target, paths, played=lambda text: text):
         for name in PEOPLE:
             with self.subTest(name):
                 time.sleep(0.2)  # for a line that comes late
@@ -374,8 +411,8 @@ class Several(OverTheProgram):
                 logged = len(DESK.log)
                 status, told = DESK.send(name, "GET", target)
                 self.assertEqual(status, 200)
-                self.assertEqual([(one["status"], one["text"]) for one in told],
-                                 [(status, data.decode()) for status, _, data in alone])
+                self.assertEqual([(one["status"], text_of(one)) for one in told],
+                                 [(status, played(data.decode()) if status == 200 else data.decode()) for status, _, data in alone])
                 self.assertEqual(self.lines_since(logged, len(paths)), lines)
 
     def test_as_many_accounts_as_can_be(self):
@@ -384,7 +421,8 @@ class Several(OverTheProgram):
         for target, numbers in self.MOST.items():
             with self.subTest(target[:20]), Program(DESK.serve.port) as program:
                 status, told = DESK.send("zoe", "GET", target)
-                self.assertEqual((status, told), (200, [{"status": 200, "text": "{}"}] * 2 * len(numbers)))
+                self.assertEqual((status, {(one["status"], text_of(one)) for one in told}, len(told)),
+                                 (200, {(200, "{}")}, 2 * len(numbers)))
                 loans = [f"{office:04}-{number:06}" for office, number in numbers]
                 asked = [path.encode() for loan in loans for path in (f"/loans/{loan}", f"/loans/{loan}/entries")]
                 self.assertEqual([got.split(b" ", 2)[1] for got in program.got], asked)
@@ -450,28 +488,41 @@ class Several(OverTheProgram):
     def test_a_message_holds_so_much(self):
         """Behind 4 MB of replies no further reading is passed on: a message can't take more of the front's memory."""
         DESK.stop_serve()
-        large = json.dumps({"a": "x" * 500_000}).encode()
+        large = json.dumps({"a": "x" * 500_000}, separators=(",", ":")).encode()
         for target, numbers in self.MOST.items():
             with Program(DESK.serve.port, *[replied(large)] * 9) as program:
                 _, told = DESK.send("zoe", "GET", target)
-            self.assertEqual(told[:9], [{"status": 200, "text": large.decode()}] * 9)
+            self.assertEqual([(one["status"], text_of(one)) for one in told[:9]], [(200, large.decode())] * 9)
             self.assertEqual(told[9:], [{"status": 413, "text": '{"front":"large"}'}] * (2 * len(numbers) - 9))
             self.assertEqual(len(program.got), 9)
 
 
     def test_memory(self):
-        """1,000 loans whose replies have 3 MB take less than 45 MB of one of nginx's workers."""
+        """1,000 loans of ten entries, whose replies have 3 MB, take less than 45 MB of one of nginx's workers."""
         DESK.stop_serve()
-        texts = [json.dumps({"a": "x" * size}).encode() for size in (500, 2500)]
+        sums = {portion: 123456 for portion in ("fees", "interest", "penalties", "principal")}
+        loan = {"client": "0002-000052", "day": "2024-01-03", "disbursement_fee": 0, "loan": "0002-000017", "outstanding": sums,
+                "overpaid": 0, "paid": sums, "periods": 12, "principal": 34000, "product": 1, "refunded": 0, "status": 300,
+                "waived": sums, "written_off": sums}
+        shares = [{"amount": 340, "instalment": 1, "portion": portion} for portion in ("interest", "principal")]
+        entries = [{"amount": 3173, "day": "2024-02-04", "entry": number, "instalment": None, "kind": "repayment", "portion": None,
+                    "receipt": "2-20240204-000017", "reversed": False, "shares": shares, "staff": "2/3"} for number in range(10)]
+        texts = [json.dumps(told, separators=(",", ":")).encode() for told in (loan, {"entries": entries})]
+        self.assertGreater(1000 * sum(map(len, texts)), 3_000_000)
         with open(f"/proc/{DESK.nginx.process.pid}/task/{DESK.nginx.process.pid}/children", encoding="ascii") as file:
             workers = file.read().split()
         before = {worker: memory_of(worker) for worker in workers}
         with Program(DESK.serve.port, *[replied(text) for text in texts] * 1000):
             status, told = DESK.send("zoe", "GET", "/accounts?2:" + ".".join(["1"] * 1000))
-        self.assertEqual((status, [one["text"].encode() for one in told]), (200, texts * 1000))
+        self.assertEqual((status, len(told), {one["status"] for one in told}), (200, 2000, {200}))
         taken = [memory_of(worker, "VmHWM") - before[worker] for worker in workers]
         print(f"    {max(taken) / 1000:.0f} MB", end=" ")
         self.assertLess(max(taken), 45_000)
+
+
+def text_of(told):
+    """What a message for several readings tells of one, as a text."""
+    return told["text"] if "text" in told else json.dumps(told["body"], separators=(",", ":"), ensure_ascii=False)
 
 
 def memory_of(process, name="VmRSS"):

@@ -192,7 +192,8 @@ async function severalOnce(message) {
     if (reply.status === 404) {
         return null;
     }
-    const parts = await Promise.allSettled(judged(reply).body.map(async (part) => judged(part).body));
+    const bodyOf = (part) => part.body ?? judged(part).body;  // of accounts the front tells what a phone plays
+    const parts = await Promise.allSettled(judged(reply).body.map(async (part) => bodyOf(part)));
     const lost = parts.find(({reason}) => reason instanceof Problem && reason.isLost);
     if (lost !== undefined) {
         throw lost.reason;

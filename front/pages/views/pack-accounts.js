@@ -18,6 +18,13 @@ export function spelled(loans) {
     return loans.map(named).join("").slice(1);
 }
 
+// The front tells the receipt that a round made for the day of the entry, as 2-20240331-000017, as ["2", "000017"].
+function withReceipts({loan, entries}) {
+    const receiptOf = (day, [office, number]) => `${office}-${day.replaceAll("-", "")}-${number}`;
+    const whole = (entry) => (Array.isArray(entry.receipt) ? {...entry, receipt: receiptOf(entry.day, entry.receipt)} : entry);
+    return {loan, entries: entries.map(whole)};
+}
+
 // so many of the first loans as one message can name, in its order
 function ofOneMessage(loans) {
     for (let most = loans.length;; most = Math.floor(most * 0.9)) {
@@ -42,7 +49,7 @@ export async function readAccounts(loans, tell) {
             const {asked, message} = ofOneMessage(wanted.slice(0, most));
             const {told, beyond} = await readLoans(message, asked) ?? {told: [], beyond: asked};
             tell();
-            told.forEach(([loan, its]) => all.set(loan, its));
+            told.forEach(([loan, its]) => all.set(loan, withReceipts(its)));
             most = beyond.length > 0 ? asked.length - beyond.length : most;
             const isLeft = new Set([...beyond, ...wanted.slice(asked.length)]);
             wanted = most > 0 ? wanted.filter((loan) => isLeft.has(loan)) : [];
