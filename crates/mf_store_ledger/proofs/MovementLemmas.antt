@@ -1,6 +1,7 @@
 -- The answers about the movement of a journal's days are right.
 use Rattle.std.proofs.Common.{◌≡◌, ◌≤◌, ℕ, ◌+◌, Bool, true, false, List, refl, ap, ap₂, ◌∙◌, sym, subst, arith}
-use Rattle.std.specs.Prelude.{max, nat_le, Result, Ok, Err, IfOk}
+use Rattle.std.specs.Prelude.{max, nat_le, Result, Ok, Err, IfOk, Vec}
+use Rattle.std.specs.declared.alloc.Global.{Global}
 use Rattle.std.proofs.lemmas.Bool.Decides.{nat_tests}
 use Rattle.sqlite.specs.Effect.{Database}
 use Rattle.sqlite.specs.Tree.{Trees}
@@ -45,9 +46,9 @@ module _ (first last : ℕ) where
       (day, founds, place, is, stops_later until (played_until first last) low lines (founded day) place why stops)
 
   -- the movement from the lines before the first day up to the end of the last
-  pub moved_answer : (begins : Head) (lines : List JournalLine) (day start until : ℕ) (before : List PortionLine)
+  pub moved_answer : (begins : Head) (lines : List JournalLine) (day start until : ℕ) (before : Vec PortionLine Global)
       → IsFounding begins day → start ≡ first → until ≡ last + 1 → AreLinesBefore start day lines (Ok before)
-      → (books : Books) → IsMovedFrom before until day lines books → IsMovement first last begins lines books
+      → (books : Books) → IsMovedFrom before.items until day lines books → IsMovement first last begins lines books
   moved_answer begins lines day start until before founds starts ends are (Written text) h =
       let early = subst (λ n. PlayBefore n (founded day) lines) starts are.1 in
       let late = subst (λ n. PlayBefore n (founded day) lines) ends h.1 in (

@@ -1,5 +1,6 @@
 -- What the lines of a journal's table lead to before a business day, and the movement of a span of them.
-use Rattle.std.specs.Prelude.{◌≡◌, ◌+◌, max, ℕ, List, Result, Ok, Err, IfOk}
+use Rattle.std.specs.Prelude.{◌≡◌, ◌+◌, max, ℕ, List, Result, Ok, Err, IfOk, Vec}
+use Rattle.std.specs.declared.alloc.Global.{Global}
 use Rattle.mf_base.specs.declared.fault.Fault.{Fault}
 use Rattle.sqlite.specs.State.{State, HasCleanDisk}
 use Rattle.sqlite.specs.Tree.{Trees}
@@ -29,9 +30,9 @@ movement_text first last day lines =
 
 -- the lines before that day play, and these are those lines; or the line of this number comes before it and doesn't
 -- play, for this
-abbrev pub AreLinesBefore : ℕ → ℕ → List JournalLine → Result (List PortionLine) (ℕ × Stop) → Type 0
+abbrev pub AreLinesBefore : ℕ → ℕ → List JournalLine → Result (Vec PortionLine Global) (ℕ × Stop) → Type 0
 AreLinesBefore until day lines (Ok found) =
-    (found ≡ lines_before until day lines) × PlayBefore until (founded day) lines
+    (found.items ≡ lines_before until day lines) × PlayBefore until (founded day) lines
 AreLinesBefore until day lines (Err stop) =
     (place : ℕ) × (stop.0 ≡ place + 1) × StopsBefore until (founded day) lines place stop.1
 

@@ -1,7 +1,7 @@
 //! The books of a journal that was begun over rows, from the bytes of a copy of the file that held these.
 
-ghost use Rattle.std.specs.Prelude.{◌≡◌, ◌⊎◌, None, false, IsTrue, OnOk, IfOk, IfErr};
-ghost use Rattle.mf_base.specs.declared.fault.Fault.TheVariants.{F19, F20};
+ghost use Rattle.std.specs.Prelude.{◌≡◌, None, false, IsTrue, OnOk, IfOk, IfErr};
+ghost use Rattle.mf_base.specs.declared.fault.Fault.TheVariants.{F19};
 ghost use Rattle.sqlite.specs.Files.{HoldsDatabase};
 ghost use Rattle.sqlite.specs.Held.{state};
 ghost use Rattle.sqlite.specs.State.{HasCleanDisk};
@@ -16,7 +16,6 @@ ghost use Rattle.mf_store_ledger.specs.Copied.{IsCopyAnswerOf};
 
 use crate::answer::Books;
 use crate::copied::write_books_from;
-use mf_base::Fault;
 use mf_copied_files::copy_in_memory;
 use mf_ledger_play::BooksAsked;
 use mf_store_files::Refused;
@@ -29,8 +28,8 @@ use std::alloc::Global;
 pub enum Unwritten {
     /// No institution is made of the copy.
     Copy(Refused),
-    /// The books failed, by F20.
-    Books(Fault),
+    /// The tables can't be read, or memory is wanting: F20.
+    Failed,
 }
 
 /// The text of the books of the journal that a table keeps, as `write_books_from` writes it, from the copy of the file
@@ -61,9 +60,6 @@ pub fn write_books_from_copy<S: Alter, P: Progress>(
         → HoldsDatabase (record { log = log.now; db = db.now }) trees → Holds trees None) }
     ensures refused { IfErr result (λ e. e ≡ Unwritten.Copy (Refused.Failed F19)
         → HoldsNoneSound (record { log = log.now; db = db.now })) }
-    ensures errors { IfErr result (λ e. (e ≡ Unwritten.Copy Refused.NoInstitution)
-        ⊎ ((e ≡ Unwritten.Copy (Refused.Failed F19)) ⊎ ((e ≡ Unwritten.Copy (Refused.Failed F20))
-        ⊎ (e ≡ Unwritten.Books F20)))) }
 {
     let copy = match copy_in_memory(alloc, log, db, progress) {
         Ok(copy) => copy,
@@ -71,6 +67,6 @@ pub fn write_books_from_copy<S: Alter, P: Progress>(
     };
     match write_books_from(alloc, connection, asked, copy) {
         Ok(books) => Ok(books),
-        Err(fault) => Err(Unwritten::Books(fault)),
+        Err(_) => Err(Unwritten::Failed),
     }
 }

@@ -108,7 +108,7 @@ pub fn write_ledger_from<D: Disk + Drop>(
     let_go(close_tables(connection));
     match books {
         Ok(books) => print_books(rt, Ok(books)),
-        Err(Unwritten::Books(fault)) => tell_refusal(rt, fault),
+        Err(Unwritten::Failed) => tell_refusal(rt, Fault::F20),
         Err(Unwritten::Copy(refused)) => tell_fault(rt, words_of_copy(refused)),
     }
 }

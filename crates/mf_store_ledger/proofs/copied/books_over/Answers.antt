@@ -22,7 +22,7 @@ returns-in-Err-clause-kept g c = unchanged_itself (state g.S.Store c.args.connec
 pub returns-in-Ok-Ok-clause-answer : goal.returns-in-Ok-Ok-clause-answer
 returns-in-Ok-Ok-clause-answer g c clean its copied lines copy stands keeps =
     let asked = c.args.asked.now in
-    let opens = (c.in-Ok.ensures {u = tt}).opens in
+    let opens = (c.in-Ok-book_opening.ensures {u = tt}).opens in
     let early = always_clean (λ _. refl) c.book_opening.new.store.connection in
     let books = rw c.in-Ok-Ok.field-0-is at (c.in-Ok-Ok.ensures {u = tt}).books in
     let came = books clean its (always_clean (λ _. refl) c.book_pages.new.store.connection) c.args.journal.begins lines
@@ -38,7 +38,7 @@ returns-in-Ok-Ok-clause-answer g c clean its copied lines copy stands keeps =
 
 pub returns-in-Ok-Err-clause-answer : goal.returns-in-Ok-Err-clause-answer
 returns-in-Ok-Err-clause-answer g c clean its copied lines copy stands keeps =
-    let opens = (c.in-Ok.ensures {u = tt}).opens in
+    let opens = (c.in-Ok-book_opening.ensures {u = tt}).opens in
     let early = always_clean (λ _. refl) c.book_opening.new.store.connection in
     let books = rw c.in-Ok-Err.field-0-is at (c.in-Ok-Err.ensures {u = tt}).books in
     let came = books clean its (always_clean (λ _. refl) c.book_pages.new.store.connection) c.args.journal.begins lines

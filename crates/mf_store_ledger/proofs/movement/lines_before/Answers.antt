@@ -18,12 +18,12 @@ returns-in-Ok-Err-clause-lines g c clean its begins lines none keeps =
     ends clean its (always_clean (λ _. refl) c.end_pages.new.store.connection) begins lines none keeps
     (founded c.args.day) c.in_ok-store.ensures.stands
 
-pub returns-in-Ok-read_portions-clause-lines : goal.returns-in-Ok-read_portions-clause-lines
-returns-in-Ok-read_portions-clause-lines g c clean its begins lines none keeps =
+pub returns-in-Ok-clause-lines : goal.returns-in-Ok-clause-lines
+returns-in-Ok-clause-lines g c clean its begins lines none keeps =
     let ends = rw c.in-Ok-Ok.field-0-is at (c.in-Ok-Ok.ensures {u = tt}).ends in
     let at = ends clean its (always_clean (λ _. refl) c.end_pages.new.store.connection) begins lines none keeps
     (founded c.args.day) c.in_ok-store.ensures.stands in
-    let told = (c.in-Ok-read_portions.ensures {u = tt}).tells in (
+    let told = (c.in-Ok.ensures {u = tt}).tells in (
       told.told_is (always_clean (λ _. refl) c.read_portions.new.store.connection)
           (told_before c.args.until lines (founded c.args.day)) at.0,
       at.1,

@@ -7,17 +7,18 @@ use Rattle.mf_store_journal.proofs.GoingLemmas.{still_unchanged, unchanged_itsel
 use Rattle.mf_store_journal.specs.Reading.{IsThird}
 use Rattle.mf_store_journal.specs.Written.{KeepsJournalFrom}
 use Rattle.mf_store_played.proofs.AnswerLemmas.{on_ok_then}
+use Rattle.mf_store_ledger.specs.Movement.{IsMovedFrom}
 use Rattle.mf_store_ledger.proofs.MovementLemmas.{moved_answer, movement_stops}
 use Rattle.mf_store_ledger.proofs.movement.movement_from.Goals as goal
 
 pub returns-in_default-clause-kept : goal.returns-in_default-clause-kept
 returns-in_default-clause-kept g c = unchanged_itself (state g.S.Store c.args.connection.now)
 
-pub lines_before-requires-early : goal.lines_before-requires-early
-lines_before-requires-early g c = c.requires.founds.early
+pub lines_before-requires-clause-early : goal.lines_before-requires-clause-early
+lines_before-requires-clause-early g c = c.requires.founds.early
 
-pub movement_since-requires-early : goal.movement_since-requires-early
-movement_since-requires-early g c = c.requires.founds.early
+pub movement_since-requires-clause-early : goal.movement_since-requires-clause-early
+movement_since-requires-clause-early g c = c.requires.founds.early
 
 pub returns-in-Ok-Ok-clause-kept : goal.returns-in-Ok-Ok-clause-kept
 returns-in-Ok-Ok-clause-kept g c =
@@ -38,8 +39,9 @@ returns-in-Ok-Ok-clause-answer g c clean its lines keeps =
     let told = c.movement_since.ensures.answer clean (subst (λ (d : Database). IsThird d.schema) (sym same) its) begins
     lines none (subst (λ (d : Database). KeepsJournalFrom begins d.trees lines) (sym same) keeps) in
     IfOk-weaker c.movement_since.result _ _ (λ books h. moved_answer c.args.first c.args.last begins lines day
-    c.number_of.result c.day_after-until.result c.in-Ok-Ok.before.items c.requires.founds c.number_of.ensures
-    c.day_after-until.ensures first books h) told)
+    c.number_of.result c.day_after-until.result c.in-Ok-Ok.before c.requires.founds c.number_of.ensures
+    c.day_after-until.ensures first books (subst (λ before. IsMovedFrom before c.day_after-until.result day lines books)
+    c.deref.ensures.value h)) told)
 
 pub returns-in-Ok-Err-clause-answer : goal.returns-in-Ok-Err-clause-answer
 returns-in-Ok-Err-clause-answer g c clean its lines keeps =
