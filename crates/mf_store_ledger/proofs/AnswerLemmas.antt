@@ -1,15 +1,23 @@
 -- The answers about the books of a journal are right.
-use Rattle.std.proofs.Common.{◌≡◌, ◌++◌, ℕ, List, sym, subst, ap, ◌∙◌, append_assoc}
-use Rattle.std.specs.Prelude.{Result, Ok, Err, IfOk}
+use Rattle.std.proofs.Common.{◌≡◌, ◌++◌, ℕ, List, [], cond, refl, sym, subst, ap, ◌∙◌, append_assoc}
+use Rattle.std.specs.Prelude.{◌&&◌, nat_le, Result, Ok, Err, IfOk}
+use Rattle.std.specs.List.{flat_map}
 use Rattle.sqlite.specs.Effect.{Database}
 use Rattle.sqlite.specs.Tree.{Trees}
 use Rattle.mf_base.specs.declared.fault.Fault.{Fault}
 use Rattle.mf_journal.specs.declared.following.Head.{Head}
+use Rattle.mf_ledger.specs.Adjusting.{openings}
+use Rattle.mf_ledger.specs.Text.{opening_of}
+use Rattle.mf_ledger.specs.declared.basis.Basis.{Basis}
+use Rattle.mf_ledger.specs.declared.basis.Basis.TheVariants.{Cash, Accrual}
+use Rattle.mf_ledger_play.specs.Opening.{opening_text}
+use Rattle.mf_ledger_play.specs.Told.{form_booked}
 use Rattle.mf_ledger_play.specs.declared.form.BooksAsked.{BooksAsked}
 use Rattle.mf_model.specs.Institution.{Institution, JournalLine}
 use Rattle.mf_store_journal.specs.Rows.{head_with_all}
 use Rattle.mf_store_journal.specs.Written.{KeepsJournalFrom}
 use Rattle.mf_store_journal.specs.declared.journal.Journal.{Journal}
+use Rattle.mf_store_noted.specs.Kept.{journaled}
 use Rattle.mf_store_ledger.specs.Answer.{IsAnswer, IsAnswerOf}
 use Rattle.mf_store_ledger.specs.Copied.{IsCopyAnswer, IsCopyAnswerOf}
 use Rattle.mf_store_ledger.specs.declared.answer.Books.{Books}
@@ -65,6 +73,16 @@ pub copy_answer_before : (asked : BooksAsked) (copied : Institution) (old mid : 
     → AreCopyAnswers asked copied old.trees journal result
 copy_answer_before asked copied old mid same journal result told =
     subst (λ (d : Database). AreCopyAnswers asked copied d.trees journal result) same told
+
+-- an institution opens with the same, whether it keeps a journal or not
+pub opening_same : (asked : BooksAsked) (i : Institution) → opening_text asked (journaled i) ≡ opening_text asked i
+opening_same asked i =
+    ap (λ os. cond (nat_le asked.first i.catalogue.day && nat_le i.catalogue.day asked.last)
+    (flat_map (form_booked asked.form asked.names (opening_of i.catalogue.day)) os) []) (same asked.basis)
+  where
+    same : (basis : Basis) → openings basis (journaled i) ≡ openings basis i
+    same Cash = refl
+    same Accrual = refl
 
 -- the opening, and the transactions behind it
 pub copied_text : (head opening span before middle after : List ℕ) → before ≡ head → middle ≡ before ++ opening

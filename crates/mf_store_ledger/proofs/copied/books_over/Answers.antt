@@ -1,4 +1,4 @@
-use Rattle.std.proofs.Common.{refl, ap}
+use Rattle.std.proofs.Common.{◌++◌, refl, ap, ◌∙◌}
 use Rattle.sqlite.specs.Held.{state}
 use Rattle.mf_journal.specs.declared.following.Head.{Head}
 use Rattle.mf_ledger_play.specs.Opening.{opening_text}
@@ -7,7 +7,7 @@ use Rattle.mf_store_journal.proofs.GoingLemmas.{unchanged_itself}
 use Rattle.mf_store_noted.specs.Kept.{journaled}
 use Rattle.mf_store_sql.proofs.OpenLemmas.{always_clean}
 use Rattle.mf_store_ledger.specs.Copied.{copied_transactions}
-use Rattle.mf_store_ledger.proofs.AnswerLemmas.{copied_text}
+use Rattle.mf_store_ledger.proofs.AnswerLemmas.{copied_text, opening_same}
 use Rattle.mf_store_ledger.proofs.copied.books_over.Goals as goal
 
 pub returns-in_default-clause-kept : goal.returns-in_default-clause-kept
@@ -33,7 +33,8 @@ returns-in-Ok-Ok-clause-answer g c clean its copied lines copy stands keeps =
       copied_text (form_head asked.form) (opening_text asked copied)
           (span_text asked (copied_transactions asked.basis copied lines)) c.in_ok-text.text.items
           c.book_opening.new.text.items c.book_pages.new.text.items c.in_ok-text.ensures.text
-          (opens.text early (journaled copied) stands) came.2.text,
+          (opens.text early (journaled copied) stands
+          ∙ ap (λ text. c.in_ok-text.text.items ++ text) (opening_same asked copied)) came.2.text,
     )
 
 pub returns-in-Ok-Err-clause-answer : goal.returns-in-Ok-Err-clause-answer
