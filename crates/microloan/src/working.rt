@@ -93,11 +93,10 @@ pub fn work_on<D: Disk + Drop>(
         Work::Report(staff) => print_report(rt, store, staff),
         Work::Upgrade { journal } => upgrade_store(rt, file, store, journal),
         Work::Archive(archiving) => archive_into(rt, file, store, archiving),
-        Work::Ledger { asked, copy: None } => write_ledger(rt, store, &asked),
-        Work::Ledger {
-            asked,
-            copy: Some(copy),
-        } => write_ledger_from(rt, file, store, &asked, &copy),
+        Work::Ledger { asked, copy } => match &copy {
+            None => write_ledger(rt, store, &asked),
+            Some(copy) => write_ledger_from(rt, file, store, &asked, copy),
+        },
         Work::Portions => print_portions(rt, store),
         Work::Moved(span) => write_moved(rt, store, span),
     }
