@@ -402,7 +402,7 @@ class Later(unittest.TestCase):
 
     def test_without_the_copy_or_with_another(self):
         paths = self.months()
-        others, beginning = "the journal was begun over other rows than those of the copy", "name the copy of the file"
+        others, beginning = "was begun over other rows than those of the copy", "name the copy of the file"
         for copy, part in ((DESK.copy("after-2025-12"), others), (self.path, others), (None, beginning)):
             words = () if copy is None else ("--from-copy", copy)
             with self.subTest(copy):
