@@ -241,6 +241,7 @@ class Nginx:
             "SHUT": self.shut,
             "PAGES": self.pages,
             "REPLIES": os.path.join(FRONT, "replies.js"),
+            "ACCOUNTS": os.path.join(FRONT, "accounts.js"),
             "KEEPER": os.path.join(FRONT, "visits.js"),
             "VISITS": self.visits,
             "LOG": self.log,

@@ -3,6 +3,7 @@
 Strangers come from addresses of loopback of their own (127.0.1.1 and so on), so that limits by address can be seen.
 """
 import contextlib
+import datetime
 import http.client
 import json
 import os
@@ -321,28 +322,22 @@ class Several(OverTheProgram):
         "/several?" + "&".join(["/offices"] * 9), "/several/?/offices", "/several/offices", "//several?/offices",
         "/me/../several?/offices", "/%73everal?/offices", "/SEVERAL?/offices", "/api/several?/offices",
         "/one-of-several/offices", "/%6fne-of-several/offices", "/lib/../one-of-several/offices",
-        "/accounts", "/accounts?", "/accounts?0002-000001&", "/accounts?&0002-000001", "/accounts?2-1",
-        "/accounts?0002-000001?", "/accounts?0002-000001#x", "/accounts?0002-000001;0002-000002",
-        "/accounts?0002-000001&&0002-000002", "/accounts?0002-000001%260002-000002", "/accounts?0002-%30000001",
-        "/accounts?0002-000001/entries", "/accounts?/loans/0002-000001", "/accounts?../offices-1", "/accounts/?0002-000001",
-        "/accounts?" + "&".join(["0002-000001"] * 321), "/ACCOUNTS?0002-000001", "/%61ccounts?0002-000001",
-        "/api/accounts?0002-000001", "/several?0002-000001", "/accounts?/offices",
-        "/accounts?2:1.", "/accounts?2:.1", "/accounts?2:1..1", "/accounts?2:1&", "/accounts?&2:1", "/accounts?2:",
-        "/accounts?2", "/accounts?2:1&&3:1", "/accounts?:1", "/accounts?2:1:1", "/accounts?2:1;3:1", "/accounts?2:1,1",
-        "/accounts?2:1+1", "/accounts?2:-1", "/accounts?2:1?", "/accounts?2:1#x", "/accounts?2%3A1",
-        "/accounts?2:1%2E1", "/accounts?2:1%263:1", "/accounts?2:%31", "/accounts?2:1/entries", "/accounts?2:../offices", "/accounts/?2:1",
-        "/accounts?2-1", "/accounts?2-1.1", "/accounts?2:1&0003-000001", "/accounts?0002-000001&3:1", "/several?2:1",
-        "/accounts?02:1", "/accounts?2:01", "/accounts?2:1.01", "/accounts?0:1", "/accounts?2:0", "/accounts?2:1.0",
-        "/accounts?2:1&2:1", "/accounts?2:1&2:2", "/accounts?3:1&2:1", "/accounts?2:1&4:1&3:1",  # offices ascend
-        "/accounts?10000:1", "/accounts?2:1000000", "/accounts?2:999999.1", "/accounts?2:1.999999",  # no such number
-        "/accounts?2:" + ".".join(["1"] * 1001), "/accounts?2:1&3:" + ".".join(["1"] * 1000),  # too many
-        "/ACCOUNTS?2:1", "/%61ccounts?2:1", "/api/accounts?2:1",
+        "/played", "/played?", "/played?2-1", "/played?/loans/0002-000001", "/played?0002-000001", "/played?/offices",
+        "/played?2:1.", "/played?2:.1", "/played?2:1..1", "/played?2:1&", "/played?&2:1", "/played?2:",
+        "/played?2", "/played?2:1&&3:1", "/played?:1", "/played?2:1:1", "/played?2:1;3:1", "/played?2:1,1",
+        "/played?2:1+1", "/played?2:-1", "/played?2:1?", "/played?2:1#x", "/played?2%3A1",
+        "/played?2:1%2E1", "/played?2:1%263:1", "/played?2:%31", "/played?2:1/entries", "/played?2:../offices", "/played/?2:1",
+        "/played?2-1", "/played?2-1.1", "/played?2:1&0003-000001", "/played?0002-000001&3:1", "/accounts?2:1", "/several?2:1",
+        "/played?02:1", "/played?2:01", "/played?2:1.01", "/played?0:1", "/played?2:0", "/played?2:1.0",
+        "/played?2:1&2:1", "/played?2:1&2:2", "/played?3:1&2:1", "/played?2:1&4:1&3:1",  # offices ascend
+        "/played?10000:1", "/played?2:1000000", "/played?2:999999.1", "/played?2:1.999999",  # no such number
+        "/played?2:" + ".".join(["1"] * 1001), "/played?2:1&3:" + ".".join(["1"] * 1000),  # too many
+        "/PLAYED?2:1", "/%70layed?2:1", "/api/played?2:1", "/several?2:1",
     )
     LOANS = ("0002-000001", "0003-000001", "0009-000009")
-    MOST = {  # as many loans as a message may name, by either spelling
-        "/accounts?" + "&".join(f"0002-{number:06}" for number in range(1, 321)): [(2, one) for one in range(1, 321)],
-        "/accounts?2:" + ".".join(["1"] * 1000): [(2, one) for one in range(1, 1001)],
-        "/accounts?2:1999" + ".1002" * 996 + "&17:999999&9999:7.999992":
+    MOST = {  # as many loans as a message may name
+        "/played?2:" + ".".join(["1"] * 1000): [(2, one) for one in range(1, 1001)],
+        "/played?2:1999" + ".1002" * 996 + "&17:999999&9999:7.999992":
             [(2, 1999 + 1002 * step) for step in range(997)] + [(17, 999999), (9999, 7), (9999, 999999)],
     }
     TOLD = ("from", "user", "staff", "method", "path", "body", "status", "upstream", "reply")
@@ -360,80 +355,121 @@ class Several(OverTheProgram):
         self.as_by_itself("/several?" + "&".join(self.PATHS), self.PATHS)
 
     def test_each_account_as_by_itself(self):
-        """By steps what a phone doesn't play is left out."""
-        paths = [path for loan in self.LOANS for path in (f"/loans/{loan}", f"/loans/{loan}/entries")]
-        self.as_by_itself("/accounts?" + "&".join(self.LOANS), paths)
-        self.as_by_itself("/accounts?2:1&3:1&9:9", paths, self.played)
-
-    NOT_PLAYED = ("client", "disbursement_fee", "loan", "paid", "refunded", "waived", "written_off", "entry", "shares", "staff")
-
-    def played(self, text):
-        """What the message by steps tells of a reply, whose entries have no receipts of rounds."""
-        bare = lambda thing: {name: value for name, value in thing.items() if name not in self.NOT_PLAYED}
-        told = json.loads(text)
-        told = {"entries": list(map(bare, told["entries"]))} if "entries" in told else bare(told)
-        return json.dumps(told, separators=(",", ":"), ensure_ascii=False)
-
-    def test_what_a_phone_does_not_play_is_left_out(self):
-        """No text is cut, no number loses a digit, and of the receipt that a round makes the entry's day is left out."""
-        loan = (b'{"client":"0002-000001","day":"2024-03-02","disbursement_fee":5,"loan":"0002-000017","outstanding":'
-                b'{"fees":1,"principal":12345678901234567},"overpaid":0,"paid":{"fees":2},"periods":3,"principal":9,"product":1,'
-                b'"refunded":0,"status":300,"waived":{"fees":0},"written_off":{"fees":0}}')
-        entry = ('{{"amount":12345678901234567,"day":"{}","entry":{},"instalment":null,"kind":"repayment","portion":null,'
-                 '"receipt":{},"reversed":false,"shares":[{{"amount":1}},{{"amount":2}}],"staff":"2/3"}}').format
-        kept = ('{{"amount":12345678901234567,"day":"{}","instalment":null,"kind":"repayment","portion":null,'
-                '"receipt":{},"reversed":false}}').format
-        receipts = [("2024-03-02", '"2-20240302-000017"', '["2","000017"]'), ("2024-03-03", '"2-20240302-000017"', None),
-                    ("2024-03-02", '"31-20240302-000018"', '["31","000018"]'), ("2024-03-02", '"2-20240302-000017-2"', None),
-                    ("2024-03-02", '"2-20240302-00017"', None), ("2024-03-02", "null", None), ("2024-03-02", '"}],{["', None),
-                    ("2024-03-02", '",\\"shares\\":[],\\"entry\\":1,\\"staff\\":\\""', None),
-                    ("2024-03-02", '"x,"', None), ("2024-03-04", '"2-20240304-000017"', '["2","000017"]')]
-        entries = ",".join(entry(day, number, receipt) for number, (day, receipt, _) in enumerate(receipts, 1))
-        wanted = ",".join(kept(day, told or receipt) for day, receipt, told in receipts)
-        DESK.stop_serve()
-        with Program(DESK.serve.port, replied(loan), replied(f'{{"entries":[{entries}]}}'.encode())):
-            status, told = DESK.send("zoe", "GET", "/accounts?2:17")
-        waiting = b'{"client":"0002-000001","loan":"0002-000018","periods":3,"principal":9,"product":1,"status":100}'
-        with Program(DESK.serve.port, replied(waiting), replied(b'{"entries":[]}')):
-            _, more = DESK.send("zoe", "GET", "/accounts?2:18")
-        self.assertEqual(list(map(text_of, more)), [waiting.decode(), '{"entries":[]}'])
-        self.assertEqual([status, *map(text_of, told)], [
-            200, '{"day":"2024-03-02","outstanding":{"fees":1,"principal":12345678901234567},"overpaid":0,"periods":3,'
-            '"principal":9,"product":1,"status":300}', f'{{"entries":[{wanted}]}}'])
-
-    def as_by_itself(self, target, paths, played=lambda text: text):
+        """Of an account that isn't seen, the reply to the loan alone."""
         for name in PEOPLE:
             with self.subTest(name):
-                time.sleep(0.2)  # for a line that comes late
-                logged = len(DESK.log)
+                paths, wanted = [], []
+                for loan in self.LOANS:
+                    asked = [f"/loans/{loan}", f"/loans/{loan}/entries"]
+                    (status, told), (_, entries) = [DESK.send(name, "GET", "/api" + path) for path in asked]
+                    paths += asked if status == 200 else asked[:1]
+                    wanted.append(account_of(loan, told, entries["entries"]) if status == 200 else (status, told))
+                logged = self.settled()
+                alone = [DESK.exchange(name, "GET", "/api" + path) for path in paths]
+                lines = self.lines_since(logged, len(alone))
+                logged = self.settled()
+                status, told = DESK.send(name, "GET", "/played?2:1&3:1&9:9")
+                self.assertEqual((status, [read_account(loan, one) for loan, one in zip(self.LOANS, told)]), (200, wanted))
+                self.assertEqual(self.lines_since(logged, len(paths)), lines)
+
+    def settled(self):
+        """How many lines the log has, once one that comes late is there."""
+        time.sleep(0.2)
+        return len(DESK.log)
+
+    LOAN = (b'{"client":"0002-000001","day":"2024-03-02","disbursement_fee":5,"loan":"0002-000017","outstanding":'
+            b'{"fees":1,"principal":12345678901234567},"overpaid":0,"paid":{"fees":2},"periods":3,"principal":9,"product":1,'
+            b'"refunded":0,"status":300,"waived":{"fees":0},"written_off":{"fees":0}}')
+    PLAYED = (b'{"day":"2024-03-02","outstanding":{"fees":1,"principal":12345678901234567},"overpaid":0,"periods":3,'
+              b'"principal":9,"product":1,"status":300}')
+    # day, amount, receipt, members that differ from those of a repayment that stands, and how it is told: as steps, or whole
+    ENTRIES = (
+        ("2024-03-02", 500, '"2-20240302-000017"', {}, "500,19784,r"), ("2024-03-09", 500, '"2-20240309-000017"', {}, ",7,r"),
+        ("2024-03-09", 501, "null", {}, "1,"), ("2024-03-08", 499, '"2-20240308-000017"', {}, "-2,-1,r"),
+        ("2024-03-08", 999999999999999, "null", {}, "999999999999500,"), ("2024-03-08", 1, "null", {}, "-999999999999998,"),
+        ("2024-03-09", 12345678901234567, "null", {}, None), ("2024-03-09", 2, '"2-20240309-000017-2"', {}, None),
+        ("2024-03-09", 3, '"2-20240308-000017"', {}, None), ("2024-03-09", 4, '"2-20240309-000018"', {}, None),
+        ("2024-03-09", 5, '"3-20240309-000017"', {}, None), ("2024-03-09", 6, '"22-20240309-000017"', {}, None),
+        ("2024-03-09", 7, '"}],{["', {}, None), ("2024-03-09", 8, '"x,"', {}, None),
+        ("2024-03-09", 9, '",\\"shares\\":[],\\"entry\\":1,\\"staff\\":\\""', {}, None),
+        ("2024-03-10", 1, '"2-20240310-000017"', {}, ",2,r"), ("2024-03-10", 1, "null", {"reversed": "true"}, None),
+        ("2024-03-10", 1, "null", {"kind": '"fee"', "instalment": "2", "portion": '"fees"'}, None),
+        ("2024-03-10", 1, "null", {"kind": '"refund"'}, None), ("2024-03-11", 1, "null", {}, ",1"),
+    )
+
+    @staticmethod
+    def entry(day, amount, receipt, others, more=""):
+        """An entry as JSON; more: what the desk tells besides."""
+        its = {"instalment": "null", "kind": '"repayment"', "portion": "null", "receipt": receipt, "reversed": "false"} | others
+        members = ",".join(f'"{name}":{value}' for name, value in its.items())
+        number, rest = (f',"entry":{amount % 1000}', f',"shares":[{{"amount":1}},{{"amount":2}}],"staff":"2/3"') if more else ("", "")
+        return f'{{"amount":{amount},"day":"{day}"{number},{members}{rest}}}'
+
+    def test_what_is_told_of_an_account(self):
+        """No text is cut, and no number loses a digit. A repayment that stands is told as steps from the one before; where
+        its receipt is that of a round of its day, by an r. Any other entry is told whole."""
+        entries = ",".join(self.entry(*one[:4], more=True) for one in self.ENTRIES)
+        wanted = "["
+        for *one, steps in self.ENTRIES:
+            isText = wanted.endswith('"')
+            if steps is None:
+                wanted += ("," if wanted != "[" else "") + self.entry(*one)
+            else:
+                wanted = wanted[:-1] + f';{steps}"' if isText else wanted + ("," if wanted != "[" else "") + f'"{steps}"'
+        DESK.stop_serve()
+        with Program(DESK.serve.port, replied(self.LOAN), replied(f'{{"entries":[{entries}]}}'.encode())):
+            status, _, told = DESK.exchange("zoe", "GET", "/played?2:17")
+        self.assertEqual((status, told.decode()), (200, f'[{{"status":200,"loan":{self.PLAYED.decode()},"entries":{wanted}]}}]'))
+        waiting = b'{"client":"0002-000001","loan":"0002-000018","periods":3,"principal":9,"product":1,"status":100}'
+        with Program(DESK.serve.port, replied(waiting), replied(b'{"entries":[]}')):
+            _, _, told = DESK.exchange("zoe", "GET", "/played?2:18")
+        self.assertEqual(told, b'[{"status":200,"loan":%s,"entries":[]}]' % waiting)
+
+    def test_an_account_that_is_broken_off(self):
+        """It is told as one that didn't come, and harms no other."""
+        entries = f'{{"entries":[{self.entry("2024-03-02", 5, "null", {}, more=True)}]}}'.encode()
+        DESK.stop_serve()
+        loan_ends = [(self.LOAN[:end], entries) for end in range(1, len(self.LOAN))]
+        entries_end = [(self.LOAN, entries[:end]) for end in range(1, len(entries))]
+        for replies in loan_ends + entries_end:
+            with Program(DESK.serve.port, *map(replied, [*replies, self.LOAN, entries])):
+                _, told = DESK.send("zoe", "GET", "/played?2:17.1")
+            self.assertEqual(told[0], {"status": 502, "text": '{"front":"down"}'}, replies)
+            self.assertEqual(told[1]["entries"], ["5,19784"])
+
+    def as_by_itself(self, target, paths):
+        for name in PEOPLE:
+            with self.subTest(name):
+                logged = self.settled()
                 alone = [DESK.exchange(name, "GET", "/api" + path) for path in paths]
                 lines = self.lines_since(logged, len(paths))
                 logged = len(DESK.log)
                 status, told = DESK.send(name, "GET", target)
                 self.assertEqual(status, 200)
-                self.assertEqual([(one["status"], text_of(one)) for one in told],
-                                 [(status, played(data.decode()) if status == 200 else data.decode()) for status, _, data in alone])
+                self.assertEqual([(one["status"], one["text"]) for one in told],
+                                 [(status, data.decode()) for status, _, data in alone])
                 self.assertEqual(self.lines_since(logged, len(paths)), lines)
 
     def test_as_many_accounts_as_can_be(self):
-        """320 loans by one message, and 1,000 by the shorter spelling: each is read, in the order of the message."""
+        """1,000 loans by one message: each is read, in the order of the message."""
         DESK.stop_serve()
         for target, numbers in self.MOST.items():
-            with self.subTest(target[:20]), Program(DESK.serve.port) as program:
+            empty = [replied(b'{"entries":[]}')] * 2 * len(numbers)
+            with self.subTest(target[:20]), Program(DESK.serve.port, *empty) as program:
                 status, told = DESK.send("zoe", "GET", target)
-                self.assertEqual((status, {(one["status"], text_of(one)) for one in told}, len(told)),
-                                 (200, {(200, "{}")}, 2 * len(numbers)))
+                one = {"status": 200, "loan": {"entries": []}, "entries": []}
+                self.assertEqual((status, told), (200, [one] * len(numbers)))
                 loans = [f"{office:04}-{number:06}" for office, number in numbers]
                 asked = [path.encode() for loan in loans for path in (f"/loans/{loan}", f"/loans/{loan}/entries")]
                 self.assertEqual([got.split(b" ", 2)[1] for got in program.got], asked)
 
     def test_a_line_that_is_too_long(self):
         """8 kB are a line's most: nothing longer is read."""
-        longest = "/accounts?" + "&".join(f"{office}:1" for office in range(1000, 2200))
+        longest = "/played?" + "&".join(f"{office}:1" for office in range(1000, 2200))
         self.assertEqual(status_of(answered(message("tom", "GET", longest))), 414)
 
     def test_no_stranger(self):
-        for asked in ("/several?/offices&/business-day", "/accounts?0002-000001", "/accounts?2:1"):
+        for asked in ("/several?/offices&/business-day", "/played?2:1"):
             for name, password in ((None, None), ("tom", "wrong"), ("nobody", "word")):
                 if name is None or not DESK.sign_in:
                     self.assertEqual(DESK.send(name, "GET", asked, password=password), (401, {"front": "password"}))
@@ -445,7 +481,7 @@ class Several(OverTheProgram):
                 with self.subTest(target):
                     self.assertIn(status_of(answered(message("tom", "GET", target))), (400, 404, 405))
             for method in ("POST", "HEAD", "PUT", "DELETE", "OPTIONS"):
-                for target in ("/several?/offices", "/accounts?0002-000001", "/accounts?2:1"):
+                for target in ("/several?/offices", "/played?2:1"):
                     with self.subTest(f"{method} {target}"):
                         self.assertEqual(status_of(answered(message("tom", method, target, b"{}"))), 404)
         self.assertEqual(program.got, [])
@@ -486,43 +522,75 @@ class Several(OverTheProgram):
             self.assertEqual(self.ask("/a"), (200, [{"status": 200, "text": "{}"}]))
 
     def test_a_message_holds_so_much(self):
-        """Behind 4 MB of replies no further reading is passed on: a message can't take more of the front's memory."""
+        """Behind 4 MB of replies, and 12 MB of accounts, no further reading is passed on: a message can't take more of the
+        front's memory."""
         DESK.stop_serve()
-        large = json.dumps({"a": "x" * 500_000}, separators=(",", ":")).encode()
+        large = json.dumps({"a": "x" * 500_000, "entries": []}, separators=(",", ":")).encode()
+        no_room = {"status": 413, "text": '{"front":"large"}'}
         for target, numbers in self.MOST.items():
-            with Program(DESK.serve.port, *[replied(large)] * 9) as program:
+            with Program(DESK.serve.port, *[replied(large)] * 26) as program:
                 _, told = DESK.send("zoe", "GET", target)
-            self.assertEqual([(one["status"], text_of(one)) for one in told[:9]], [(200, large.decode())] * 9)
-            self.assertEqual(told[9:], [{"status": 413, "text": '{"front":"large"}'}] * (2 * len(numbers) - 9))
-            self.assertEqual(len(program.got), 9)
+            self.assertEqual(told[:13], [{"status": 200, "loan": json.loads(large), "entries": []}] * 13)
+            self.assertEqual(told[13:], [no_room] * (len(numbers) - 13))
+            self.assertEqual(len(program.got), 26)
 
-
-    def test_memory(self):
-        """1,000 loans of ten entries, whose replies have 3 MB, take less than 45 MB of one of nginx's workers."""
-        DESK.stop_serve()
+    def taken(self, count, own):
+        """The most that a message for 1,000 loans of so many entries takes of one of nginx's workers. own: whether each
+        entry has the receipt of a round of its loan."""
         sums = {portion: 123456 for portion in ("fees", "interest", "penalties", "principal")}
         loan = {"client": "0002-000052", "day": "2024-01-03", "disbursement_fee": 0, "loan": "0002-000017", "outstanding": sums,
                 "overpaid": 0, "paid": sums, "periods": 12, "principal": 34000, "product": 1, "refunded": 0, "status": 300,
                 "waived": sums, "written_off": sums}
         shares = [{"amount": 340, "instalment": 1, "portion": portion} for portion in ("interest", "principal")]
-        entries = [{"amount": 3173, "day": "2024-02-04", "entry": number, "instalment": None, "kind": "repayment", "portion": None,
-                    "receipt": "2-20240204-000017", "reversed": False, "shares": shares, "staff": "2/3"} for number in range(10)]
-        texts = [json.dumps(told, separators=(",", ":")).encode() for told in (loan, {"entries": entries})]
-        self.assertGreater(1000 * sum(map(len, texts)), 3_000_000)
+        entry = {"amount": 3173, "day": "2024-02-04", "entry": 17, "instalment": None, "kind": "repayment", "portion": None,
+                 "receipt": "2-20240204-", "reversed": False, "shares": shares, "staff": "2/3"}
+        replies = []
+        for number in range(1, 1001):
+            one = entry | {"receipt": f"2-20240204-{number if own else 0:06}"}
+            replies += [json.dumps(told, separators=(",", ":")).encode() for told in (loan, {"entries": [one] * count})]
+        room_for = 12 * 1024 * 1024 // sum(map(len, replies[:2])) + 1
         with open(f"/proc/{DESK.nginx.process.pid}/task/{DESK.nginx.process.pid}/children", encoding="ascii") as file:
             workers = file.read().split()
         before = {worker: memory_of(worker) for worker in workers}
-        with Program(DESK.serve.port, *[replied(text) for text in texts] * 1000):
-            status, told = DESK.send("zoe", "GET", "/accounts?2:" + ".".join(["1"] * 1000))
-        self.assertEqual((status, len(told), {one["status"] for one in told}), (200, 2000, {200}))
-        taken = [memory_of(worker, "VmHWM") - before[worker] for worker in workers]
-        print(f"    {max(taken) / 1000:.0f} MB", end=" ")
-        self.assertLess(max(taken), 45_000)
+        with Program(DESK.serve.port, *map(replied, replies)):
+            status, told = DESK.send("zoe", "GET", "/played?2:" + ".".join(["1"] * 1000))
+        whole = [isinstance(part, dict) for one in told for part in one.get("entries", ())]
+        self.assertEqual((status, len(told), [one["status"] for one in told].count(200)), (200, 1000, min(1000, room_for)))
+        self.assertEqual(set(whole), {not own})
+        return max(memory_of(worker, "VmHWM") - before[worker] for worker in workers)
+
+    def test_memory(self):
+        """What a message for 1,000 loans takes of one of nginx's workers: of ten entries each, of 60, for which there is no
+        more room, and of 60 that are told whole."""
+        DESK.stop_serve()
+        taken = [self.taken(10, True), self.taken(60, True), self.taken(60, False)]
+        print("    ", *(f"{kilobytes / 1000:.0f}" for kilobytes in taken), "MB", end=" ")
+        self.assertLess(max(taken), 70_000)
 
 
-def text_of(told):
-    """What a message for several readings tells of one, as a text."""
-    return told["text"] if "text" in told else json.dumps(told["body"], separators=(",", ":"), ensure_ascii=False)
+def account_of(loan, told, entries):
+    """What a phone plays of what the desk tells of a loan and its entries."""
+    members = ("day", "outstanding", "overpaid", "periods", "principal", "product", "status")
+    kept = ("amount", "day", "instalment", "kind", "portion", "receipt", "reversed")
+    return 200, {name: told[name] for name in members}, [{name: one[name] for name in kept} for one in entries]
+
+
+def read_account(loan, told):
+    """The same of what the front tells of it, or its status and its text."""
+    if told["status"] != 200:
+        return told["status"], json.loads(told["text"])
+    entries, amount, day = [], 0, datetime.date(1970, 1, 1)
+    for part in told["entries"]:
+        for steps in part.split(";") if isinstance(part, str) else ():
+            more, later, *mark = steps.split(",")
+            amount += int(more or 0)
+            day += datetime.timedelta(days=int(later or 0))
+            receipt = f"{int(loan[:4])}-{day:%Y%m%d}{loan[4:]}" if mark else None
+            entries.append({"amount": amount, "day": str(day), "instalment": None, "kind": "repayment", "portion": None,
+                            "receipt": receipt, "reversed": False})
+        if isinstance(part, dict):
+            entries.append(part)
+    return 200, told["loan"], entries
 
 
 def memory_of(process, name="VmRSS"):
@@ -623,7 +691,7 @@ class Holding(OverTheProgram):
         self.few_are_passed_on("/several?" + "&".join(["/offices"] * 8), SEVERAL_OF_ONE_PERSON)
 
     def test_messages_for_accounts_are_fewer_still(self):
-        self.few_are_passed_on("/accounts?2:" + ".".join(["1"] * 1000), ACCOUNTS_OF_ONE_PERSON)
+        self.few_are_passed_on("/played?2:" + ".".join(["1"] * 1000), ACCOUNTS_OF_ONE_PERSON)
 
     def few_are_passed_on(self, target, most):
         DESK.stop_serve()

@@ -41,19 +41,19 @@ FULL = "IDBObjectStore.prototype.put = () => { throw new DOMException('full', 'Q
 # what a press sent, and the bytes that came with heads, as the browser counts them
 SENT = """
 const list = performance.getEntriesByType('resource').map(({name, transferSize}) => [new URL(name), transferSize])
-    .filter(([{pathname}]) => /^[/](api[/]|several$|accounts$)/.test(pathname));
+    .filter(([{pathname}]) => /^[/](api[/]|several$|played$)/.test(pathname));
 return [list.map(([{pathname, search}]) => pathname + search), list.reduce((all, [, bytes]) => all + bytes, 0)];
 """
 # a front of before, which has no message for several readings, nor for accounts
 OLDER = """
 const real = window.fetch;
-window.fetch = (url, more) => /[/](several|accounts)[?]/.test(url) ? Promise.resolve(new Response('<html>', {status: 404})) :
+window.fetch = (url, more) => /[/](several|played)[?]/.test(url) ? Promise.resolve(new Response('<html>', {status: 404})) :
     real(url, more);
 """
 # a desk that is too slow to tell accounts, but for so many messages
 LOST = """
 const real = window.fetch; let told = 0;
-window.fetch = (url, more) => url.includes('/accounts?') && ++told > MESSAGES ? Promise.reject(new TypeError('lost')) :
+window.fetch = (url, more) => url.includes('/played?') && ++told > MESSAGES ? Promise.reject(new TypeError('lost')) :
     real(url, more);
 """
 # A reply about accounts that comes in three parts with so many milliseconds between them. What waits for 45 seconds
@@ -64,7 +64,7 @@ window.setTimeout = (work, milliseconds) => later(work, milliseconds === 45000 ?
 const real = window.fetch;
 window.fetch = async (url, more) => {
     const reply = await real(url, more);
-    if (!url.includes('/accounts?')) { return reply; }
+    if (!url.includes('/played?')) { return reply; }
     const bytes = new Uint8Array(await reply.arrayBuffer());
     const third = Math.ceil(bytes.length / 3);
     return new Response(new ReadableStream({
@@ -85,10 +85,10 @@ ROOM = """
 const real = window.fetch;
 window.fetch = async (url, more) => {
     const reply = await real(url, more);
-    if (!url.includes('/accounts?')) { return reply; }
+    if (!url.includes('/played?')) { return reply; }
     const parts = await reply.json();
     return new Response(JSON.stringify(parts.map((part, i) =>
-        i < 2 * LOANS ? part : {status: 413, text: '{"front":"large"}'})));
+        i < LOANS ? part : {status: 413, text: '{"front":"large"}'})));
 };
 """
 # the numbers of the loans whose accounts are in the pack
@@ -100,6 +100,19 @@ return lines.filter(({account}) => account).map(({loan}) => Number(loan.slice(5)
 SPELLED = """
 const {spelled} = await load('views/pack-accounts.js');
 return CASES.map((loans) => spelled(loans));
+"""
+# how many of 2,000 loans each message asks for, with so much room before each, and how many come
+BUDGET = """
+const {readAccounts} = await load('views/pack-accounts.js');
+const rooms = [[3, 120000], [2, 100000], [1, 2500], [0, 2400]].map(([messages, bytes]) => ({messages, bytes}));
+const asked = [];
+window.fetch = async (url) => {
+    asked.push(url.split('?')[1].split('.').length);
+    return new Response(JSON.stringify(Array(asked.at(-1)).fill({status: 200, loan: {}, entries: []})));
+};
+const loans = Array.from({length: 2000}, (_, i) => `0002-${String(i + 1).padStart(6, '0')}`);
+const told = await readAccounts(loans, () => rooms.shift(), () => {});
+return [asked, told.size];
 """
 # breaks a part of the first replies to several readings off, as where the program ends in the midst
 BROKEN = """
@@ -369,7 +382,7 @@ class Pack(offline.Case):
         with loans.desk_with(institution(rounds.COUNT)) as it:
             zoe = self.phone(it, "zoe")
             products = [f"/products/{number}" for number in range(1, 5)]  # a few ahead
-            accounts = "/accounts?2:" + ".".join(["1"] * rounds.COUNT)
+            accounts = "/played?2:" + ".".join(["1"] * rounds.COUNT)
             at_once = self.at_once(*products, *due, "/lists/clients/2/0")
             self.assertEqual(self.asked(zoe, True)[0], [*at_once, accounts])
             it.send("zoe", "POST", "/api/clients", {"office": 2, "name": "Bahati Mrema"})
@@ -413,7 +426,7 @@ class Pack(offline.Case):
             self.assertEqual(office[1], [f"Client {number}" for number in range(1, 3001)])
             self.assertEqual(zoe.module(WITH_ACCOUNT), list(range(1, LARGE + 1)))
             self.assertNotIn("aren't in the pack", zoe.text("main"))
-            messages = [f"/accounts?2:{first}" + ".1" * 999 for first in (1, 1001, 2001)]  # those first that are due
+            messages = [f"/played?2:{first}" + ".1" * 999 for first in (1, 1001, 2001)]  # those first that are due
             self.assertEqual(asked[-3:], messages)
 
     def test_all_pages_of_loans(self):
@@ -429,7 +442,7 @@ class Pack(offline.Case):
         for numbers, (lines, pages) in zip(cases, told):
             with self.subTest(len(numbers)):
                 self.assertEqual(lines, numbers)
-                self.assertLessEqual(pages, 1.5 * len(numbers) / 200 + 12)
+                self.assertLessEqual(pages, 1.5 * len(numbers) / 200 + 20)
 
     def test_a_loan_with_nothing_due(self):
         """Its client pays early: the loan gets a line in the round of the pack's day, which is sent as any other."""
@@ -477,9 +490,9 @@ class Pack(offline.Case):
             self.assertEqual(read, case)
 
     def test_what_the_front_has_no_room_for(self):
-        """It is asked for first by the next message, which names no more than there was room for. What four messages
-        don't bring isn't in the pack, and the pages say so."""
-        with loans.desk_with(institution(7)) as it:
+        """It is asked for first by the next message, which names no more than there was room for. What twelve messages
+        don't bring isn't in the pack, and the pages say so: two are for lists, and one is kept for the terms of products."""
+        with loans.desk_with(institution(12)) as it:
             zoe = self.phone(it, "zoe")
             zoe.go("pack")
             zoe.wait(lambda: zoe.box("2 North"), "the offices")
@@ -487,14 +500,14 @@ class Pack(offline.Case):
             zoe.script(ROOM.replace("LOANS", "1"))
             zoe.script("performance.clearResourceTimings()")
             zoe.take_here()
-            asked = [one for one in zoe.script(SENT)[0] if one.startswith("/accounts")]
-            self.assertEqual(asked, [f"/accounts?2:{named}" for named in ("1.1.1.1.1.1.1", "2", "3", "4")])
+            asked = [one for one in zoe.script(SENT)[0] if one.startswith("/played")]
+            self.assertEqual(asked, [f"/played?2:{named}" for named in ("1" + ".1" * 11, *range(2, 10))])
             told = "The entries of 3 loans aren't in the pack. Their receipts say what is left for certain."
             self.assertIn(told, zoe.text("main"))
             zoe.look("pack-without-accounts")
             zoe.follow("2 North")
             zoe.wait(lambda: told in zoe.text("main"), "that of the office")
-            self.assertEqual(zoe.module(WITH_ACCOUNT), [1, 2, 3, 4])
+            self.assertEqual(zoe.module(WITH_ACCOUNT), list(range(1, 10)))
 
     def test_accounts_that_do_not_come(self):
         """There is a pack all the same, and a receipt tells what is certain. What came before stays."""
@@ -524,15 +537,25 @@ class Pack(offline.Case):
                 zoe.take_here()
                 self.assertEqual(len(zoe.module(WITH_ACCOUNT)), count)
 
-    def test_a_pack_of_1_8(self):
-        """It has the accounts as they are, of some loans: they are read all the same."""
+    def test_a_pack_takes_so_many_bytes(self):
+        """How many loans a message names comes of how many bytes there is room for, and of what those of the one before
+        took."""
+        with loans.desk_with(institution()) as it:
+            told = self.phone(it, "zoe").module(BUDGET)
+        self.assertEqual(told, [[800, 1000, 25], 1825])
+
+    def test_packs_of_1_8_and_1_9(self):
+        """They have whole entries, in an account as it is or as a text: they are read all the same."""
         with loans.desk_with(institution()) as it:
             zoe = self.phone(it, "zoe")
             zoe.take_day()
             zoe.module(
                 "const {readPack} = await load('views/pack-kept.js'); const pack = await readPack();"
-                "const [one, two, three] = pack.offices[0].lines;"
-                "[one, two].forEach((line) => (line.account = JSON.parse(line.account))); delete three.account;"
+                "const {entriesOf} = await load('views/pack-accounts.js');"
+                "const [one, two, three] = pack.offices[0].lines; delete three.account;"
+                "const whole = (its, loan) => ({...its, entries: entriesOf(loan, its.entries)});"
+                "[one, two].forEach((line) => (line.account = whole(JSON.parse(line.account), line.loan)));"
+                "two.account = JSON.stringify(two.account);"
                 "const plain = (_, value) => typeof value === 'bigint' ? String(value) : value;"
                 "const {seal} = await load('views/kept-pin.js');"
                 "const sealed = await seal('pack', JSON.stringify(pack, plain));"

@@ -44,6 +44,14 @@ export function loadLibrary(src) {
     return libraries.get(src);
 }
 
+// the messages that this page has sent so far, and the bytes that came, as they came
+export const traffic = {messages: 0, bytes: 0};
+
+new PerformanceObserver((list) => {
+    const fetched = list.getEntries().filter(({initiatorType}) => initiatorType === "fetch");
+    traffic.bytes += fetched.reduce((bytes, {transferSize}) => bytes + transferSize, 0);
+}).observe({type: "resource"});
+
 let running = 0;
 let waiting = [];  // writings before readings
 
@@ -127,6 +135,7 @@ async function fetchOnce(method, url, body) {
     const headers = isWriting ? {"X-Desk": "1", "Content-Type": "application/json"} : {};
     const ending = new AbortController();
     const {tell, stop} = patience(ending);
+    traffic.messages += 1;
     try {
         const reply = await fetch(url, {
             method,
@@ -192,8 +201,8 @@ async function severalOnce(message) {
     if (reply.status === 404) {
         return null;
     }
-    const bodyOf = (part) => part.body ?? judged(part).body;  // of accounts the front tells what a phone plays
-    const parts = await Promise.allSettled(judged(reply).body.map(async (part) => bodyOf(part)));
+    const valueOf = (part) => part.loan === undefined ? judged(part).body : part;  // the front tells loans by itself
+    const parts = await Promise.allSettled(judged(reply).body.map(async (part) => valueOf(part)));
     const lost = parts.find(({reason}) => reason instanceof Problem && reason.isLost);
     if (lost !== undefined) {
         throw lost.reason;
@@ -225,20 +234,13 @@ export function readTogether(path) {
     });
 }
 
-// What the desk tells of loans, and the entries of each, by one message: each as [loan, {loan, entries}], without those
-// that aren't seen. And those for which the front had no room. Null where the front is an older one.
+// What the front tells of loans by one message, each as [loan, {loan, entries}], without those that aren't seen. And
+// those for which it had no room. Null where the front is an older one.
 export async function readLoans(message, loans) {
     const parts = await tryAgain(() => severalOnce(message));
-    if (parts === null) {
-        return null;
-    }
-    const both = loans.map((loan, i) => [loan, parts[2 * i], parts[2 * i + 1]]);
-    const isRead = ([, ...its]) => its.every(({status}) => status === "fulfilled");
-    const hadNoRoom = ([, ...its]) => its.some(({reason}) => reason?.front === "large");
-    const toldOf = ([number, its, listed]) => [number, {loan: its.value, entries: listed.value.entries}];
-    return {
-        told: both.filter(isRead).map(toldOf),
-        beyond: both.filter(hadNoRoom).map(([loan]) => loan)
+    return parts && {
+        told: loans.map((loan, i) => [loan, parts[i].value]).filter(([, value]) => value !== undefined),
+        beyond: loans.filter((_, i) => parts[i].reason?.front === "large")
     };
 }
 

@@ -8,6 +8,7 @@ import {plain} from "./words.js";
 const KEPT_AS = "has-lists";
 const LOANS_OF_A_PAGE = 200;
 const PAGES_AT_ONCE = 4;
+const DENSE_PAGES_AT_ONCE = 8;  // where they begin is sure, and those behind the end are empty
 export const CLIENTS_OF_A_PAGE = 500;
 export const MOST_FOUND = 50;
 
@@ -64,6 +65,11 @@ export async function clientsAfter(office, after, reading = read) {
     return (await listed(reading(`/lists/clients/${office}/${after}`))).clients;
 }
 
+// all of them, several pages at a time
+export function clientsAtOnce(office, after, reading) {
+    return pagesAtOnce(after, CLIENTS_OF_A_PAGE, (from) => clientsAfter(office, from, reading), ({client}) => numberOf(client));
+}
+
 async function find(office, part) {
     return (await listed(look("/lists/find", {office, part}))).clients;
 }
@@ -99,8 +105,30 @@ async function allPages(first, readAfter, whenMore) {
     }
 }
 
+// All lines of a list, several pages at a time. Each page begins where the one before it ends if numbers are as dense as
+// in the last one, and a little before where they lie apart. One that begins behind that end is not taken: the next
+// pages begin at the end.
+async function pagesAtOnce(first, most, readAfter, numberIn) {
+    const lines = new Map();
+    for (let [reached, step, count] = [first, 0, 1];; count = step === most ? DENSE_PAGES_AT_ONCE : PAGES_AT_ONCE) {
+        const places = Array.from({length: count}, (_, i) => reached + i * step);
+        const pages = await Promise.all(places.map(readAfter));
+        for (const [i, page] of pages.entries()) {
+            if (places[i] > reached) {
+                break;
+            }
+            page.forEach((line) => lines.set(numberIn(line), line));
+            if (page.length < most) {
+                return [...lines.values()];
+            }
+            reached = numberIn(page.at(-1));
+            step = Math.max(most, Math.floor(0.9 * (reached - places[i])));
+        }
+    }
+}
+
 // up to 200 active loans of an office, with numbers above one, of which something is due by a day and not settled
-async function dueAfter(office, day, after, reading) {
+export async function dueAfter(office, day, after, reading) {
     return (await listed(reading(`/lists/due/${office}/${day}/${after}`))).due;
 }
 
@@ -109,24 +137,34 @@ export function dueBy(office, day, whenMore = () => {}, reading = read) {
     return allPages(0, (after) => dueAfter(office, day, after, reading), whenMore);
 }
 
-// The same, several pages at a time: each begins where the one before it ends if loans are as dense as in the last one.
-// One that begins behind that end is not taken: the next pages begin at the end.
-export async function dueByAtOnce(office, day, reading) {
-    const lines = new Map();
-    for (let [reached, step, count] = [0, 0, 1];; count = PAGES_AT_ONCE) {
-        const places = Array.from({length: count}, (_, i) => reached + i * step);
-        const pages = await Promise.all(places.map((after) => dueAfter(office, day, after, reading)));
-        for (const [i, page] of pages.entries()) {
-            if (places[i] > reached) {
-                break;
-            }
-            page.forEach((line) => lines.set(line.loan, line));
-            if (isLastPage(page)) {
-                return [...lines.values()];
-            }
-            reached = numberOf(page.at(-1).loan);
-            step = reached - places[i];
+// the same, several pages at a time
+export function dueByAtOnce(office, day, reading) {
+    return pagesAtOnce(
+        0, LOANS_OF_A_PAGE, (after) => dueAfter(office, day, after, reading), ({loan}) => numberOf(loan));
+}
+
+// The same behind its first page, all at once. active: all active loans, which tell since when something is due of each,
+// and so where the pages begin. A page reaches the beginning of the next one, also where a loan fell due meanwhile.
+export async function dueBehind(first, active, office, day, reading) {
+    if (isLastPage(first)) {
+        return first;
+    }
+    const end = numberOf(first.at(-1).loan);
+    const numbers = active.filter(({oldest}) => oldest <= day).map(({loan}) => numberOf(loan)).filter((one) => one > end);
+    const starts = [end, ...numbers.filter((_, i) => i % LOANS_OF_A_PAGE === LOANS_OF_A_PAGE - 1)];
+    const pages = await Promise.all(starts.map((start, i) => dueBetween(start, starts[i + 1] ?? Infinity, office, day, reading)));
+    return [first, ...pages].flat();
+}
+
+async function dueBetween(start, end, office, day, reading) {
+    const lines = [];
+    for (let after = start;;) {
+        const page = await dueAfter(office, day, after, reading);
+        lines.push(...page.filter(({loan}) => numberOf(loan) <= end));
+        if (isLastPage(page) || numberOf(page.at(-1).loan) >= end) {
+            return lines;
         }
+        after = numberOf(page.at(-1).loan);
     }
 }
 

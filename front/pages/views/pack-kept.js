@@ -7,6 +7,7 @@ import {isAskedFor} from "../shared/institution.js";
 import {sum} from "../shared/money.js";
 import {plain} from "../shared/words.js";
 import {lock, Locked, seal, unseal} from "./kept-pin.js";
+import {entriesOf} from "./pack-accounts.js";
 import {keepSealedPack, PACK, sealedPack} from "./pack-record.js";
 import {nextReceipt} from "./round-receipts.js";
 
@@ -20,9 +21,10 @@ function asKept(name, value) {
     return typeof value === "bigint" ? String(value) : value;
 }
 
-// a line's account, or null where the pack has none; pages of 1.8 kept it as it is
-function accountIn({account}) {
-    return typeof account === "string" ? JSON.parse(account) : account ?? null;
+// A line's account, or null where the pack has none. Pages of 1.8 kept it as it is.
+function accountIn({loan, account}) {
+    const its = typeof account === "string" ? JSON.parse(account) : account;
+    return its ? {...its, entries: entriesOf(loan, its.entries)} : null;
 }
 
 // of how many lines the pack has no account: a receipt says of these what is left for certain

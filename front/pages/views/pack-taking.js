@@ -2,12 +2,12 @@
 // their accounts and clients, and the products. Names and terms never change, so those of the pack before aren't read
 // again. What is asked for at one moment goes by one message.
 import {alertBox, button, card, element, fill, freshId} from "../shared/elements.js";
-import {Problem, readIfThere, readTogether} from "../shared/api.js";
+import {Problem, readIfThere, readTogether, traffic} from "../shared/api.js";
 import {asTree, numberOf, offices, readOn, total} from "../shared/desk.js";
 import {dayOfNumber, daysBetween, LAST_DAY, numberOfDay} from "../shared/days.js";
 import {note} from "../shared/dialogs.js";
 import {isAskedFor} from "../shared/institution.js";
-import {CLIENTS_OF_A_PAGE, clientsAfter, dueBy, dueByAtOnce, hasLists} from "../shared/lists.js";
+import {clientsAtOnce, dueAfter, dueBehind, dueByAtOnce, hasLists} from "../shared/lists.js";
 import {refusalBox} from "../shared/refusals.js";
 import {may, OFFICER, renewDay, session} from "../shared/session.js";
 import {say} from "../shared/words.js";
@@ -19,21 +19,17 @@ import {keepPack, officeIn} from "./pack-kept.js";
 import {accountOf} from "./round-state.js";
 
 const DAYS = 7;  // how far ahead
+const MOST_MESSAGES = 12;  // of a press that takes up to 3,000 loans along; one of them may ask for terms of products
+const MOST_BYTES = 290_000;  // some more come, since it isn't known before what a message takes
+const LOANS_OF_THESE = 3000;  // more of them may take more, in proportion
 
 // The names of an office's clients, by number. The last one that is known is read again: where it has another name, the
 // desk is another one, and nothing that was known counts.
 async function clientsFrom(office, known) {
     const names = known.slice(0, -1);
-    for (;;) {
-        const page = await clientsAfter(office, names.length, readTogether);
-        if (names.length < known.length && page[0]?.name !== known.at(-1)) {
-            return clientsFrom(office, []);
-        }
-        names.push(...page.map(({name}) => name));
-        if (page.length < CLIENTS_OF_A_PAGE) {
-            return names;
-        }
-    }
+    const more = await clientsAtOnce(office, names.length, readTogether);
+    const isOther = names.length < known.length && more[0]?.name !== known.at(-1);
+    return isOther ? clientsFrom(office, []) : [...names, ...more.map(({name}) => name)];
 }
 
 // The same names as the lines of loans have them: else what was known is of another desk.
@@ -57,9 +53,12 @@ function dueOfEach(now, soon, day) {
 }
 
 async function officePack({number, name}, day, until, known) {
-    const due = (last) => dueBy(number, last, () => {}, readTogether);
-    const [now, soon, active, read] = await Promise.all(
-        [due(day), due(until), dueByAtOnce(number, LAST_DAY, readTogether), clientsFrom(number, known)]);
+    const days = [day, until];
+    const firstPages = Promise.all(days.map((last) => dueAfter(number, last, 0, readTogether)));
+    const [firsts, active, read] = await Promise.all(
+        [firstPages, dueByAtOnce(number, LAST_DAY, readTogether), clientsFrom(number, known)]);
+    const [now, soon] =
+        await Promise.all(days.map((last, i) => dueBehind(firsts[i], active, number, last, readTogether)));
     const dueOf = dueOfEach(now, soon, day);
     const clients = await clientsBeside(number, read, known, active);
     const lines = active.map(({loan, client, name, oldest, left, last}) => {
@@ -92,13 +91,19 @@ function nearestFirst(lines, day) {
     return ranked.map(({line}) => line);
 }
 
-// Gives lines the accounts of their loans, by which this phone works out what a payment leaves. Where something was
-// entered between two readings a line has none. What comes counts as a touch: the phone isn't locked before it is kept.
-async function giveAccounts(lines) {
-    const told = await readAccounts(lines.map(({loan}) => loan), touch);
+// Gives lines the accounts of their loans, by which this phone works out what a payment leaves, as far as a press has
+// room for them. begun: the traffic before it. Where something was entered between two readings a line has none. What
+// comes counts as a touch: the phone isn't locked before it is kept.
+async function giveAccounts(lines, begun) {
+    const share = Math.max(1, lines.length / LOANS_OF_THESE);
+    const left = () => ({
+        messages: Math.floor(MOST_MESSAGES * share) - 1 - (traffic.messages - begun.messages),
+        bytes: MOST_BYTES * share - (traffic.bytes - begun.bytes)
+    });
+    const told = await readAccounts(lines.map(({loan}) => loan), left, touch);
     for (const line of lines.filter(({loan}) => told.has(loan))) {
         const {loan, entries} = told.get(line.loan);
-        line.account = total(loan.outstanding) === line.owed ? accountOf(loan, entries) : null;
+        line.account = total(loan.outstanding) === line.owed ? {...accountOf(loan, []), entries} : null;
     }
 }
 
@@ -114,6 +119,7 @@ function termsOfLines(lines, known, products) {
 // moves meanwhile it is a pack of the day before, and says so.
 async function readDay(offices, before) {
     const taken = Date.now();
+    const begun = {...traffic};
     const day = await renewDay();
     window.dispatchEvent(new Event("desk-day"));
     const until = dayOfNumber(Math.min(numberOfDay(day) + DAYS, numberOfDay(LAST_DAY)));
@@ -126,7 +132,7 @@ async function readDay(offices, before) {
     const isKnown = known.length === 0 || isSameDesk(before, packed);
     const products = isKnown || !mayEnter ? more : await productsFrom([]);
     const lines = packed.flatMap((office) => office.lines);
-    await giveAccounts(nearestFirst(lines, day));
+    await giveAccounts(nearestFirst(lines, day), begun);
     const terms = await termsOfLines(lines, isKnown ? before?.terms : {}, products);
     return {
         taken, businessDay: day, until, by: `${session.user} ${session.staff}`, mayEnter, products, terms, offices: packed
