@@ -31,7 +31,9 @@ These were measured once, beside other work, and noted by hand. They tell the or
 | opening a file of 200,000 lines of a journal, a line | 1.5 µs, 170 bytes of memory, 98 of the file |
 | lists of an office of 10,000 clients and 3,000 active loans, over a file, a request: 500 clients, a client that is found, a client's loans, what is due, 200 loans of a status, staff, a preview | 8 to 18, 18 to 38, 7, 64, 3 to 8, 0.1 and 0.2 ms |
 | a page over that office, until it stands, on loopback and at 300 ms a round trip (`front/test/at-size`): Clients; a client; Collections; Arrears; Today | 0.27, 0.06, 0.63, 0.49, 0.22 s; 0.54, 0.64, 1.43, 1.14, 0.67 s |
-| a press that takes a day along, of 3,000 loans of 3,000 clients, at 300 ms a round trip and 48 kbit/s (`front/test/at-size --pack`): the first one; the next morning's | 17 s; 13 s |
+| a press that takes a day along, of 3,000 loans of 3,000 clients, at 300 ms a round trip and 48 kbit/s (`front/test/at-size --pack`): the first one; the next morning's | 18 s; 15 s |
+| the same of loans that differ in amounts, terms, days and receipts (`--varied`), and of weekly loans with 60 entries each (`--weekly`), the first one | 37 s; 65 s |
+| memory of one of nginx's workers for a message for 1,000 accounts of ten entries each, and for some 750 of 60 | 32 MB, 43 MB |
 
 """
 BY_ENTRIES = {  # kinds that are measured at several numbers of entries on a loan
