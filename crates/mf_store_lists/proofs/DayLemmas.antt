@@ -54,14 +54,15 @@ pub days_of : (journal : Option Journal) (kept : Option (List JournalLine)) (beg
     → begins_of journal ≡ Some begins → kept ≡ Some lines → HasLines journal kept → (d : ℕ) × DaysRise d lines
 days_of None kept begins lines begun are has = absurd (let no : None ≡ Some begins = begun in cc)
 days_of (Some j) kept begins lines begun are has =
-    let same : has.0 ≡ lines = let both : Some has.0 ≡ Some lines = sym has.1.0 ∙ are in cc in
-    (j.begins.day, subst (DaysRise j.begins.day) same has.1.1.can_be.days)
+    let same : has.0 ≡ lines = let both : Some has.0 ≡ Some lines = sym has.1 ∙ are in cc in
+    (j.begins.day, subst (DaysRise j.begins.day) same has.2.can_be.days)
 
 -- no line before another is of a later day
 rise_to : (d : ℕ) (done : List JournalLine) (l : JournalLine) (ls : List JournalLine) → DaysRise d (done ++ l ∷ ls)
     → d ≤ l.day
 rise_to d [] l ls rise = rise.0
-rise_to d (m ∷ ms) l ls rise = let first = rise.0 in let rest = rise_to m.day ms l ls rise.1 in omega (arith, first, rest)
+rise_to d (m ∷ ms) l ls rise =
+    let first = rise.0 in let rest = rise_to m.day ms l ls rise.1 in omega (arith, first, rest)
 
 all_earlier : (day d : ℕ) (done : List JournalLine) (l : JournalLine) (ls : List JournalLine)
     → DaysRise d (done ++ l ∷ ls) → l.day < day → AllByRecursion (λ (m : JournalLine). m.day < day) done
@@ -113,7 +114,7 @@ module _ (begins : Head) (lines : List JournalLine) (day middle : ℕ) (page : L
     (tells : (h : Head) (ls : List JournalLine) → page ≡ map shown_filed (filed_after h ls)
     → true ≡ begins_earlier day ls)
     (within : begins.number ≤ middle) (d : ℕ) (rise : DaysRise d lines) where
-  k : ℕ
+  abbrev k : ℕ
   k = middle - begins.number
 
   earlier_there : (rest : List JournalLine) → drop k lines ≡ rest → true ≡ begins_earlier day (take page_size rest)

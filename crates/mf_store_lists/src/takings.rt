@@ -1,6 +1,7 @@
 //! What was paid in and paid out at an office on a business day, by the journal.
 
-ghost use Rattle.std.specs.Prelude.{◌≡◌, ◌++◌, ◌∷◌, [], List, map, Some, IfOk, IfErr, option_map};
+ghost use Rattle.std.specs.Prelude.{◌≡◌, ◌≤◌, ◌<◌, ◌++◌, ◌∷◌, [], true, List, map, length, slice_get, Some};
+ghost use Rattle.std.specs.Prelude.{IfOk, IfErr, option_map};
 ghost use Rattle.mf_account.specs.declared.entry.Entry.{Entry};
 ghost use Rattle.mf_base.specs.declared.fault.Fault.TheVariants.{F20};
 ghost use Rattle.mf_journal.specs.Chain.{line_of_row};
@@ -233,6 +234,14 @@ fn put_line<S: Alter>(
     with_movement(alloc, &takings, &staff, &movement)
 }
 
+/// The row at a place.
+fn row_at<'a>(rows: &[JournalRow<'a>], at: usize) -> JournalRow<'a>
+    requires { at < length rows.now }
+    ensures { slice_get rows.now at ≡ Some result }
+{
+    rows[at]
+}
+
 /// The same of lines, one after another.
 fn put_lines<S: Alter>(
     alloc: Global,
@@ -251,7 +260,7 @@ fn put_lines<S: Alter>(
 {
     let mut takings = takings;
     for at in 0..rows.len() {
-        let row = rows[at];
+        let row = row_at(rows, at);
         takings = put_line(alloc, routes, store, office, day, row, takings)?;
     }
     Ok(takings)
@@ -297,9 +306,22 @@ fn is_past(page: &[Row], day: Day) -> Result<bool, Fault>
     }
 }
 
+/// Whether the first line behind a number of the journal is of an earlier day than one, so that all lines up to the
+/// number are.
+fn goes_on_earlier<S: Alter>(store: &mut Store<S>, number: u32, day: Day) -> Result<bool, Fault>
+    ensures asks { MayAskTables S.Store store.old store.new result }
+    ensures earlier { IsClean S.Store store.new → (i : Institution) (begins : JournalHead) (lines : List JournalLine)
+        → StandsFor S.Store store.old i → begins_of store.old.journal ≡ Some begins → i.journal ≡ Some lines
+        → begins.number ≤ number → IfOk result (λ is. is ≡ true → IsBefore begins lines day number) }
+{
+    let page = store.journal_rows(number)?;
+    let earlier = begins_earlier(&page, day)?;
+    Ok(earlier)
+}
+
 /// The number of a line of a journal that begins here, or of where it begins, up to which all lines are of earlier days
-/// than one. It is found by halving, since days never go back, and lies no more than 1,000 numbers before the first line
-/// that isn't of an earlier day.
+/// than one. It is found by halving, since days never go back, and lies no more than 1,000 numbers before the first
+/// line that isn't of an earlier day.
 fn number_before<S: Alter>(store: &mut Store<S>, begins: Head, day: Day) -> Result<u32, Fault>
     ensures asks { MayAskTables S.Store store.old store.new result }
     ensures before { IsClean S.Store store.new → (i : Institution) (lines : List JournalLine)
@@ -310,8 +332,8 @@ fn number_before<S: Alter>(store: &mut Store<S>, begins: Head, day: Day) -> Resu
     let mut high = u32::MAX;
     while high - low > PAGE {
         let middle = low + (high - low) / 2;
-        let page = store.journal_rows(middle)?;
-        if begins_earlier(&page, day)? {
+        let earlier = goes_on_earlier(store, middle, day)?;
+        if earlier {
             low = middle;
         } else {
             high = middle;
@@ -320,8 +342,39 @@ fn number_before<S: Alter>(store: &mut Store<S>, begins: Head, day: Day) -> Resu
     Ok(low)
 }
 
-/// The takings of an office on a day, by the lines of a journal that begins here and behind a number before which all
+/// The takings of an office on a day, by the lines of a journal that begins here and behind a number up to which all
 /// lines are of earlier days. It reads up to 1,000 lines behind those of the day.
+fn taken_behind<S: Alter>(
+    alloc: Global,
+    routes: &Routes,
+    store: &mut Store<S>,
+    begins: Head,
+    number: u32,
+    office: OfficeNo,
+    day: Day,
+) -> Result<Listing<Taking>, Fault>
+    ensures asks { AsksTables S.Store store.old store.new result }
+    ensures value { IsClean S.Store store.new → (i : Institution) (lines : List JournalLine)
+        → StandsFor S.Store store.old i → begins_of store.old.journal ≡ Some begins → i.journal ≡ Some lines
+        → IsBefore begins lines day number
+        → IfOk result (λ list. list ≡ takings_on office day i.catalogue (rows_at office i) lines) }
+{
+    let mut number = number;
+    let mut takings = Vec::new(alloc);
+    'pages: for _ in 0..u64::MAX {
+        let page = store.journal_rows(number)?;
+        let past = is_past(&page, day)?;
+        if past {
+            return Ok(Listing::new(takings));
+        }
+        let rows = lines_told(alloc, &page)?;
+        takings = put_lines(alloc, routes, store, office, day, &rows, takings)?;
+        number = number_after(number, page.len())?;
+    }
+    Err(Fault::F20)
+}
+
+/// The takings of an office on a day, by the lines of a journal that begins here.
 fn taken_from<S: Alter>(
     alloc: Global,
     routes: &Routes,
@@ -335,18 +388,8 @@ fn taken_from<S: Alter>(
         → StandsFor S.Store store.old i → begins_of store.old.journal ≡ Some begins → i.journal ≡ Some lines
         → IfOk result (λ list. list ≡ takings_on office day i.catalogue (rows_at office i) lines) }
 {
-    let mut number = number_before(store, begins, day)?;
-    let mut takings = Vec::new(alloc);
-    'pages: for _ in 0..u64::MAX {
-        let page = store.journal_rows(number)?;
-        if is_past(&page, day)? {
-            return Ok(Listing::new(takings));
-        }
-        let rows = lines_told(alloc, &page)?;
-        takings = put_lines(alloc, routes, store, office, day, &rows, takings)?;
-        number = number_after(number, page.len())?;
-    }
-    Err(Fault::F20)
+    let number = number_before(store, begins, day)?;
+    taken_behind(alloc, routes, store, begins, number, office, day)
 }
 
 /// The routes of the desk. The error is F20.

@@ -1,7 +1,7 @@
-use Rattle.std.proofs.Common.{ap, sym, ◌∙◌}
+use Rattle.std.proofs.Common.{◌++◌, map, take, ap, sym, ◌∙◌}
 use Rattle.std.proofs.lemmas.List.{append-nil}
-use Rattle.std.proofs.lemmas.Option.{slice_get-get_or}
-use Rattle.mf_lists.specs.Takings.{takings_of}
+use Rattle.mf_journal.specs.Chain.{line_of_row}
+use Rattle.mf_lists.specs.Takings.{movements_on, takings_of}
 use Rattle.mf_model.specs.Store.{rows_at}
 use Rattle.mf_store.proofs.KeptLemmas.{stays_same, stays_then}
 use Rattle.mf_store_lists.proofs.DayLemmas.{moves_all, moves_next}
@@ -23,9 +23,12 @@ loop-at-preserved g c =
       live = λ clean opened. now.asks.stays_open clean (c.loop-at.invariant.live (now.asks.kept.premise clean) opened);
       more = λ clean i s before is.
           let first = now.asks.kept.premise clean in
-          now.more clean i (kept.same first i s) _ (c.loop-at.invariant.more first i s before is)
+          now.more clean i (kept.same first i s)
+          (before ++ movements_on c.args.office c.args.day i.catalogue (rows_at c.args.office i)
+          (map line_of_row (take c.loop-at.at c.args.rows.now)))
+          (c.loop-at.invariant.more first i s before is)
           ∙ ap takings_of (moves_next c.args.office c.args.day i.catalogue (rows_at c.args.office i) c.args.rows.now
-          c.loop-at.at _ before (slice_get-get_or c.args.rows.now c.loop-at.at _ c.loop-at-test.true));
+          c.loop-at.at _ before c.row_at-row.ensures);
     }
 
 pub returns-clause-more : goal.returns-clause-more
