@@ -52,6 +52,8 @@ def readings():
         Reading("what a loan would be", lambda _: get(f"schedule/1/120000/12/{NEXT_DAY}"), 50),
         Reading("history of a loan, by the journal", lambda k: get(f"history/{loan(k % 8)}"), 2),
         Reading("200 changes of the office, by the journal", lambda _: get(f"journal/{OFFICE}/{REPAID}"), 2),
+        Reading("takings of the business day", lambda _: get(f"takings/{OFFICE}/{NEXT_DAY}"), 2),
+        Reading("takings of the day before", lambda _: get(f"takings/{OFFICE}/{LAST_DAY}"), 2),
     ]
 
 

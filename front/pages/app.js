@@ -16,12 +16,12 @@ import {LANGUAGES, chooseLanguage, language, locale, say, showDay} from "./share
 // each in a file of views/ of its name, loaded once it is shown
 const PAGES = [
     "today", "clients", "client", "loans", "loan", "waivers", "statement", "round", "kept", "pack", "arrears",
-    "penalties", "catalogue", "people", "journal"
+    "penalties", "catalogue", "people", "journal", "takings"
 ];
 const WITHOUT_DESK = ["kept", "pack"];  // what they show is on this phone
 const WAYS = [
-    ["today"], ["clients", "client"], ["loans", "loan", "waivers"], ["round", "kept", "pack"], ["arrears", "penalties"],
-    ["catalogue"], ["people", "journal"]
+    ["today", "takings"], ["clients", "client"], ["loans", "loan", "waivers"], ["round", "kept", "pack"],
+    ["arrears", "penalties"], ["catalogue"], ["people", "journal"]
 ];
 const ROLES = {
     [TELLER]: "teller",

@@ -3,6 +3,7 @@ use Rattle.std.proofs.Common.{◌≡◌, ℕ, Bool, true, false, List, [], ◌�
 use Rattle.std.specs.Prelude.{Result, cond, ◌&&◌, ◌==◌, filter, option_map}
 use Rattle.std.proofs.lemmas.Bool.{cond-false, eqb-true}
 use Rattle.mf_base.specs.declared.fault.Fault.{Fault}
+use Rattle.std.specs.List.{filter_map}
 use Rattle.mf_office.specs.Tree.{is_at_or_below}
 use Rattle.mf_model.specs.Institution.{Catalogue, Institution, JournalLine, Office, Rows, item_numbered, office_at}
 use Rattle.mf_model.specs.Outcomes.{where_found, with_found}
@@ -12,12 +13,13 @@ use Rattle.mf_lists.specs.Changes.{change_lines, changes_after, changes_of_loan,
 use Rattle.mf_lists.specs.Changes.{lines_of_office, lines_seen_in, view_with_lines}
 use Rattle.mf_lists.specs.Lists.{page}
 use Rattle.mf_lists.specs.Readings.{list_seen, loan_changes, office_list}
+use Rattle.mf_lists.specs.Takings.{is_of_day, moved, takings_of, takings_on}
 use Rattle.mf_lists.specs.declared.answer.ListTold.{ListTold}
-use Rattle.mf_lists.specs.declared.answer.ListTold.TheVariants.{ChangeLines}
+use Rattle.mf_lists.specs.declared.answer.ListTold.TheVariants.{ChangeLines, TakingLines}
 use Rattle.mf_lists.specs.declared.lines.ChangeLine.{ChangeLine}
 use Rattle.mf_lists.specs.declared.request.ListAsked.{ListAsked}
 use Rattle.mf_lists.specs.declared.request.ListAsked.TheVariants.{Clients, LoansOf, DueBy, AtStatus, StaffOf, Find}
-use Rattle.mf_lists.specs.declared.request.ListAsked.TheVariants.{ChangesOf, Changes}
+use Rattle.mf_lists.specs.declared.request.ListAsked.TheVariants.{ChangesOf, Changes, TakingsOn}
 
 first_of : (a b : Bool) → (a && b) ≡ true → a ≡ true
 first_of true b e = refl
@@ -70,6 +72,19 @@ module _ (o x : ℕ) (i : Institution) (below : is_at_or_below (parent_of i.offi
       with_found (Some ls) (λ ls. ChangeLines (page (λ (c : ChangeLine). c.number) 200 after (change_lines ls))))
       (office_lines_seen lines)
 
+  day_lines_seen : (day : ℕ) (lines : List JournalLine) → filter (is_of_day x day) (filter (is_line_seen o i) lines)
+      ≡ filter (is_of_day x day) lines
+  day_lines_seen day lines =
+      filter_within (is_of_day x day) (is_line_seen o i)
+      (λ l is. named_seen l (first_of (l.named_office == x) (l.day == day) is)) lines
+
+  takings_told : (day : ℕ) (k : Catalogue) (rows : Rows) (journal : Option (List JournalLine))
+      → with_found (lines_seen_in o i journal) (λ lines. TakingLines (takings_on x day k rows lines))
+      ≡ with_found journal (λ lines. TakingLines (takings_on x day k rows lines))
+  takings_told day k rows None = refl
+  takings_told day k rows (Some lines) = ap (λ (ls : List JournalLine).
+      with_found (Some ls) (λ ls. TakingLines (takings_of (filter_map (moved k rows) ls)))) (day_lines_seen day lines)
+
   -- the list of an office that is seen
   told_seen : (folded : List ℕ → List ℕ) (asked : ListAsked) (journal : Option (List JournalLine)) (k : Catalogue)
       (rows : Rows) → office_list folded asked x (lines_seen_in o i journal) k rows
@@ -82,6 +97,7 @@ module _ (o x : ℕ) (i : Institution) (below : is_at_or_below (parent_of i.offi
   told_seen folded (Find part) journal k rows = refl
   told_seen folded (ChangesOf loan) journal k rows = loan_told loan rows journal
   told_seen folded (Changes after) journal k rows = office_told after journal
+  told_seen folded (TakingsOn day) journal k rows = takings_told day k rows journal
 
 -- the same, whether the office is seen or not
 module _ (folded : List ℕ → List ℕ) (asked : ListAsked) (o x : ℕ) (i : Institution) where

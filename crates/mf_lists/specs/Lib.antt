@@ -4,6 +4,8 @@ pub mod Preview
 pub mod WorkedPreview
 pub mod Lists
 pub mod Changes
+pub mod Takings
 pub mod Readings
 pub mod WorkedLists
 pub mod WorkedChanges
+pub mod WorkedTakings

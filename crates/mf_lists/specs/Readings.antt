@@ -12,15 +12,16 @@ use Rattle.mf_lists.specs.declared.answer.ListAnswer.{ListAnswer}
 use Rattle.mf_lists.specs.declared.answer.ListAnswer.TheVariants.{Listed, Previewed}
 use Rattle.mf_lists.specs.declared.answer.ListTold.{ListTold}
 use Rattle.mf_lists.specs.declared.answer.ListTold.TheVariants.{ClientLines, ClientLoans, DueLines, StageLines}
-use Rattle.mf_lists.specs.declared.answer.ListTold.TheVariants.{StaffLines, ChangeLines}
+use Rattle.mf_lists.specs.declared.answer.ListTold.TheVariants.{StaffLines, ChangeLines, TakingLines}
 use Rattle.mf_lists.specs.declared.request.ListAsked.{ListAsked}
 use Rattle.mf_lists.specs.declared.request.ListAsked.TheVariants.{Clients, LoansOf, DueBy, AtStatus, StaffOf, Find}
-use Rattle.mf_lists.specs.declared.request.ListAsked.TheVariants.{ChangesOf, Changes}
+use Rattle.mf_lists.specs.declared.request.ListAsked.TheVariants.{ChangesOf, Changes, TakingsOn}
 use Rattle.mf_lists.specs.Changes.{changes_after, changes_of_loan}
 use Rattle.mf_lists.specs.declared.request.ListRequest.{ListRequest}
 use Rattle.mf_lists.specs.declared.request.ListRequest.TheVariants.{OfOffice, Preview}
 use Rattle.mf_lists.specs.Lists.{clients_after, due_after, find_clients, loans_of_client, stages_after, staff_of}
 use Rattle.mf_lists.specs.Preview.{preview_in}
+use Rattle.mf_lists.specs.Takings.{takings_on}
 
 -- what is told of a loan's changes; F4 where the loan isn't there
 abbrev pub loan_changes : ℕ → ℕ → Rows → List JournalLine → Result ListTold Fault
@@ -28,7 +29,7 @@ loan_changes x loan rows lines =
     with_found (item_numbered rows.loans loan) (λ l. ChangeLines (changes_of_loan x loan lines))
 
 -- The list that is asked for of an office, by the journal, the catalogue and its rows. F4 where its client or its loan
--- isn't there, and where changes are asked for and no journal is kept.
+-- isn't there, and where changes or takings are asked for and no journal is kept.
 abbrev pub office_list : (List ℕ → List ℕ) → ListAsked → ℕ → Option (List JournalLine) → Catalogue → Rows
     → Result ListTold Fault
 office_list folded (Clients after) x journal k rows = Ok (ClientLines (clients_after after k rows))
@@ -41,6 +42,8 @@ office_list folded (Find part) x journal k rows = Ok (ClientLines (find_clients 
 office_list folded (ChangesOf loan) x journal k rows = where_found journal (loan_changes x loan rows)
 office_list folded (Changes after) x journal k rows =
     with_found journal (λ lines. ChangeLines (changes_after x after lines))
+office_list folded (TakingsOn day) x journal k rows =
+    with_found journal (λ lines. TakingLines (takings_on x day k rows lines))
 
 -- what somebody of office o is told of office x; F4 where it isn't at or below o
 abbrev pub list_seen : (List ℕ → List ℕ) → ListAsked → ℕ → ℕ → Institution → Result ListTold Fault

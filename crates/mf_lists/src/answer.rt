@@ -2,6 +2,7 @@
 
 use crate::lines::{ChangeLine, ClientLine, ClientLoan, DueLine, StaffLine, StageLine};
 use crate::preview::LoanPreview;
+use crate::takings::Taking;
 use mf_office::OfficeNo;
 use mf_statement::Listing;
 
@@ -20,6 +21,8 @@ pub enum ListTold {
     StaffLines(Listing<StaffLine>),
     /// Changes.
     ChangeLines(Listing<ChangeLine>),
+    /// Takings.
+    TakingLines(Listing<Taking>),
 }
 
 /// What is told.

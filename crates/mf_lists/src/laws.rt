@@ -1,7 +1,7 @@
 //! What holds of lists and of rates. Each function does nothing: its contract is the law that the sentence above it
 //! tells.
 
-ghost use Rattle.std.specs.Prelude.{◌≡◌, ◌≤◌, ◌-◌, ◌*◌, ◌++◌, ◌∷◌, ℕ, Bool, List, [], map, true, false, codes, length};
+ghost use Rattle.std.specs.Prelude.{◌≡◌, ◌≤◌, ◌-◌, ◌*◌, ◌++◌, ◌∷◌, ℕ, Bool, List, [], map, filter, true, false, codes, length};
 ghost use Rattle.std.specs.Prelude.{sum, sum_by, Some, None, MatchOption, IfSome, Ok, Err};
 ghost use Rattle.std.specs.List.{AllByRecursion, count_by};
 ghost use Rattle.mf_base.specs.declared.fault.Fault.{Fault};
@@ -33,10 +33,10 @@ ghost use Rattle.mf_lists.specs.Lists.{clients_of, clients_after, due_lines, due
 ghost use Rattle.mf_lists.specs.Lists.{is_waiting, is_active, is_overdue, has_part};
 ghost use Rattle.mf_lists.specs.declared.answer.ListAnswer.TheVariants.{Listed, Previewed};
 ghost use Rattle.mf_lists.specs.declared.answer.ListTold.TheVariants.{ClientLines, ClientLoans, DueLines, StageLines};
-ghost use Rattle.mf_lists.specs.declared.answer.ListTold.TheVariants.{StaffLines, ChangeLines};
+ghost use Rattle.mf_lists.specs.declared.answer.ListTold.TheVariants.{StaffLines, ChangeLines, TakingLines};
 ghost use Rattle.mf_lists.specs.declared.request.ListAsked.{ListAsked};
 ghost use Rattle.mf_lists.specs.declared.request.ListAsked.TheVariants.{Clients, LoansOf, DueBy, AtStatus, StaffOf};
-ghost use Rattle.mf_lists.specs.declared.request.ListAsked.TheVariants.{Find, ChangesOf, Changes};
+ghost use Rattle.mf_lists.specs.declared.request.ListAsked.TheVariants.{Find, ChangesOf, Changes, TakingsOn};
 ghost use Rattle.mf_lists.specs.WorkedChanges.{approved_at, entered, noted, submitted};
 ghost use Rattle.mf_lists.specs.declared.request.ListRequest.{ListRequest};
 ghost use Rattle.mf_lists.specs.declared.request.ListRequest.TheVariants.{OfOffice, Preview};
@@ -45,8 +45,19 @@ ghost use Rattle.mf_lists.specs.WorkedLists.{small, worked_day, first_due, secon
 ghost use Rattle.mf_lists.specs.WorkedLists.{teller, nobody, loans_of_amina, due_of_amina, later_of_amina};
 ghost use Rattle.mf_lists.specs.WorkedLists.{later_of_binta, stage_of, zola_and_yemi};
 ghost use Rattle.mf_lists.specs.Preview.{preview_in, preview_of};
+ghost use Rattle.mf_lists.specs.Takings.{given_back, handed_over, is_of_day, movement_on, refund_reversed};
+ghost use Rattle.mf_lists.specs.Takings.{takings_of};
+ghost use Rattle.mf_lists.specs.declared.takings.Way.TheVariants.{PaidIn, PaidOut, InReversed, OutReversed};
+ghost use Rattle.mf_model.specs.declared.request.LoanRequest.TheVariants.{Post, Repay, Reverse, Take};
+ghost use Rattle.mf_model.specs.declared.request.LoanStep.TheVariants.{Disburse as PayOut};
+ghost use Rattle.mf_model.specs.declared.request.Posting.TheVariants.{Penalty};
+ghost use Rattle.mf_model.specs.declared.request.Request.TheVariants.{Loan};
+ghost use Rattle.mf_wire_requests.specs.Requests.{request_of};
 ghost use Rattle.mf_lists.specs.Rate.{is_borne, least_daily_rate, most_daily_rate, yearly_rate};
 ghost use Rattle.mf_lists.specs.WorkedPreview.{worked_catalogue, worked_loan};
+ghost use Rattle.mf_lists.specs.WorkedTakings.{first_repayment, lines_of_the_day, lines_taken, loan_of_branch};
+ghost use Rattle.mf_lists.specs.WorkedTakings.{loan_with, moved_way, movements_of_the_day, repaying, taken};
+ghost use Rattle.mf_lists.specs.WorkedTakings.{takings_of_head, takings_of_manager, takings_of_teller};
 ghost use Rattle.mf_lists.specs.WorkedRates.{pay_out_day, quarter, year_of_twelve, in_a_year, one_cent};
 
 /// What was handed over bears the instalments at the daily rate that is found, and at no lower one.
@@ -254,4 +265,28 @@ pub fn worked_changes()
     ensures beside { list_seen (λ text. text) (Changes 0) 3 2 noted ≡ Err F4 }
     ensures missing { list_seen (λ text. text) (ChangesOf 6) 2 2 noted ≡ Err F4 }
     ensures no_journal { list_seen (λ text. text) (Changes 0) 2 2 small ≡ Err F4 }
+{}
+
+/// Takings, worked out by hand: which lines of the small institution's journal are of office 2 and of a day; what a line's
+/// text asks; what requests on its loans move, and what nothing moves; a fee above the principal, which comes in, and a
+/// refund; and what is told of movements by who sent them, in the order of their first. F4 to somebody beside, and where
+/// no journal is kept.
+pub fn worked_takings()
+    ensures of_day { filter (is_of_day 2 worked_day) lines_taken ≡ lines_of_the_day }
+    ensures asked { request_of (codes "POST") (repaying worked_day).path (repaying worked_day).body
+        ≡ Loan (record { office = 2; number = 3 }) (Repay first_repayment) }
+    ensures repaid { movement_on (Repay first_repayment) small.catalogue None ≡ Some (moved_way PaidIn 34505) }
+    ensures paid_out { movement_on (Take (PayOut pay_out_day)) small.catalogue (loan_of_branch 2)
+        ≡ Some (moved_way PaidOut 98500) }
+    ensures reversed { movement_on (Reverse 2) small.catalogue (loan_of_branch 3) ≡ Some (moved_way InReversed 34505) }
+    ensures no_entry { movement_on (Reverse 3) small.catalogue (loan_of_branch 3) ≡ None }
+    ensures penalty { movement_on (Post (Penalty 1)) small.catalogue (loan_of_branch 3) ≡ None }
+    ensures all_kept { handed_over (loan_with 1000 1500 0 0) ≡ moved_way PaidIn 500 }
+    ensures refunded { given_back (loan_with 100000 0 0 2500) ≡ moved_way PaidOut 2500 }
+    ensures overpaid_again { refund_reversed (loan_with 100000 0 2500 0) ≡ moved_way OutReversed 2500 }
+    ensures by_person { takings_of movements_of_the_day
+        ≡ takings_of_teller ∷ takings_of_manager ∷ takings_of_head ∷ [] }
+    ensures none { list_seen (λ text. text) (TakingsOn 8842) 2 2 taken ≡ Ok (TakingLines []) }
+    ensures beside { list_seen (λ text. text) (TakingsOn worked_day) 3 2 taken ≡ Err F4 }
+    ensures no_journal { list_seen (λ text. text) (TakingsOn worked_day) 2 2 small ≡ Err F4 }
 {}

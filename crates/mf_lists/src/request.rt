@@ -22,6 +22,8 @@ pub enum ListAsked {
     ChangesOf { loan: AccountNo },
     /// What the journal tells of the office.
     Changes { after: u32 },
+    /// What was paid in and paid out on a business day, by member of staff.
+    TakingsOn { day: Day },
 }
 
 /// What is asked. Each reading is one variant, here or among the lists of an office.

@@ -20,6 +20,8 @@ use Rattle.mf_lists.specs.declared.preview.LoanPreview.{LoanPreview}
 use Rattle.mf_lists.specs.Lists.{loans_of_client}
 use Rattle.mf_lists.specs.Readings.{loan_changes}
 use Rattle.mf_lists.specs.Preview.{preview_in}
+use Rattle.mf_lists.specs.Takings.{takings_on}
+use Rattle.mf_lists.specs.declared.takings.Taking.{Taking}
 
 -- what is read of the catalogue and the rows of office x, which has none where it isn't there
 abbrev pub in_rows_of : {A : Type 0} → ℕ → (Catalogue → Rows → A) → Institution → A
@@ -40,6 +42,10 @@ changes_of_loan_told loan i = where_found i.journal (loan_changes loan.office lo
 -- what the journal tells of an office after a place, where one is kept
 abbrev pub changes_at : ℕ → ℕ → Institution → Option (List ChangeLine)
 changes_at office after i = option_map (changes_after office after) i.journal
+
+-- the takings of an office on a day, where a journal is kept
+abbrev pub takings_at : ℕ → ℕ → Institution → Option (List Taking)
+takings_at office day i = option_map (takings_on office day i.catalogue (rows_at office i)) i.journal
 
 -- the loans of a client of an office, where there is one
 abbrev pub client_loans_at : Account → Institution → Option (List ClientLoan)

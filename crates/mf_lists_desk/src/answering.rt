@@ -29,8 +29,8 @@ fn changes_of_loan<S: InstitutionStore, L: Lists<S>>(
     Ok(ListTold::ChangeLines(lines.ok_or(Fault::F4)?))
 }
 
-/// A list of an office that is there. F4 where the client or the loan that is asked for isn't, and where changes are
-/// asked for and no journal is kept.
+/// A list of an office that is there. F4 where the client or the loan that is asked for isn't, and where changes or
+/// takings are asked for and no journal is kept.
 fn list_of_office<S: InstitutionStore, L: Lists<S>>(
     alloc: Global,
     lists: &L,
@@ -70,6 +70,10 @@ fn list_of_office<S: InstitutionStore, L: Lists<S>>(
         ListAsked::Changes { after } => {
             let lines = lists.changes_after(alloc, store, office, after)?;
             Ok(ListTold::ChangeLines(lines.ok_or(Fault::F4)?))
+        }
+        ListAsked::TakingsOn { day } => {
+            let lines = lists.takings_on(alloc, store, office, day)?;
+            Ok(ListTold::TakingLines(lines.ok_or(Fault::F4)?))
         }
     }
 }

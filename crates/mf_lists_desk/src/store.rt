@@ -1,7 +1,7 @@
 //! The trait between a store and the desk of the lists: the lists of an office that is there.
 
 use mf_base::{Day, Fault, Name};
-use mf_lists::{ChangeLine, ClientLine, ClientLoan, DueLine, StaffLine, StageLine};
+use mf_lists::{ChangeLine, ClientLine, ClientLoan, DueLine, StaffLine, StageLine, Taking};
 use mf_model::InstitutionStore;
 use mf_office::{Account, OfficeNo};
 use mf_statement::Listing;
@@ -15,6 +15,7 @@ pub trait Lists<S: InstitutionStore> {
     ghost use Rattle.std.specs.Prelude.{ℕ, List};
     ghost use Rattle.mf_lists.specs.Lists.{clients_after, due_after, find_clients, stages_after, staff_of};
     ghost use Rattle.mf_lists_desk.specs.Readings.{changes_at, client_loans_at, in_rows_of, loan_changes_at};
+    ghost use Rattle.mf_lists_desk.specs.Readings.{takings_at};
     ghost use Rattle.mf_model.specs.Store.{Reads};
 
     /// How names are folded before they are compared.
@@ -106,4 +107,15 @@ pub trait Lists<S: InstitutionStore> {
         after: u32,
     ) -> Result<Option<Listing<ChangeLine>>, Fault>
         ensures { Reads S.stands S.clean S.leaves (changes_at office after) store.old store.new result };
+
+    /// What was paid in and paid out at an office on a business day, by who sent the requests, or None where no journal
+    /// is kept.
+    fn takings_on(
+        &self,
+        alloc: Global,
+        store: &mut S,
+        office: OfficeNo,
+        day: Day,
+    ) -> Result<Option<Listing<Taking>>, Fault>
+        ensures { Reads S.stands S.clean S.leaves (takings_at office day) store.old store.new result };
 }

@@ -61,6 +61,20 @@ change_by body day loan method end = codes "{\"body\":"
     ++ (body ++ (codes ",\"day\":" ++ (day ++ (codes ",\"loan\":" ++ (loan ++ (codes ",\"method\":"
     ++ (method ++ end)))))))
 
+-- movements, by how their number and their sum are written
+abbrev pub counted_by : (count sum : List ℕ) → List ℕ
+counted_by count sum = codes "{\"count\":" ++ (count ++ (codes ",\"sum\":" ++ (sum ++ codes "}")))
+
+-- takings from paid_in on, by how their members are written
+abbrev pub taking_end_by : (paid_in paid_out staff : List ℕ) → List ℕ
+taking_end_by paid_in paid_out staff = codes ",\"paid_in\":"
+    ++ (paid_in ++ (codes ",\"paid_out\":" ++ (paid_out ++ (codes ",\"staff\":" ++ (staff ++ codes "}")))))
+
+-- the whole of them, by how what was reversed is written, and by the rest
+abbrev pub taking_by : (in_reversed out_reversed end : List ℕ) → List ℕ
+taking_by in_reversed out_reversed end = codes "{\"in_reversed\":"
+    ++ (in_reversed ++ (codes ",\"out_reversed\":" ++ (out_reversed ++ end)))
+
 -- an instalment, by how its day and its amounts are written
 abbrev pub instalment_by : (due fees interest principal : List ℕ) → List ℕ
 instalment_by due fees interest principal = codes "{\"due\":"

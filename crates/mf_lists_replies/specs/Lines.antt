@@ -9,7 +9,7 @@ use Rattle.mf_office.specs.Written.{account_text, caller_text}
 use Rattle.mf_schedule.specs.declared.instalment.FreshInstalment.{FreshInstalment}
 use Rattle.mf_lists.specs.declared.answer.ListTold.{ListTold}
 use Rattle.mf_lists.specs.declared.answer.ListTold.TheVariants.{ClientLines, ClientLoans, DueLines, StageLines}
-use Rattle.mf_lists.specs.declared.answer.ListTold.TheVariants.{StaffLines, ChangeLines}
+use Rattle.mf_lists.specs.declared.answer.ListTold.TheVariants.{StaffLines, ChangeLines, TakingLines}
 use Rattle.mf_lists.specs.declared.lines.ChangeLine.{ChangeLine}
 use Rattle.mf_lists.specs.declared.lines.ClientLine.{ClientLine}
 use Rattle.mf_lists.specs.declared.lines.ClientLoan.{ClientLoan}
@@ -18,6 +18,8 @@ use Rattle.mf_lists.specs.declared.lines.LastEntry.{LastEntry}
 use Rattle.mf_lists.specs.declared.lines.StaffLine.{StaffLine}
 use Rattle.mf_lists.specs.declared.lines.StageLine.{StageLine}
 use Rattle.mf_lists.specs.declared.preview.LoanPreview.{LoanPreview}
+use Rattle.mf_lists.specs.declared.takings.Counted.{Counted}
+use Rattle.mf_lists.specs.declared.takings.Taking.{Taking}
 use Rattle.mf_wire_replies.specs.Json.{whole, whole_or_null}
 use Rattle.mf_wire_replies.specs.LoanTexts.{day_or_null, sums_data}
 
@@ -156,6 +158,29 @@ change_data office line = object
 abbrev pub changes_data : ℕ → List ChangeLine → Data
 changes_data office lines = list_named (codes "changes") (change_data office) lines
 
+-- ---- takings
+
+-- how many movements, and their sum
+abbrev pub counted_data : Counted → Data
+counted_data c = object (member (codes "count") (whole c.count) (member (codes "sum") (whole c.sum) no_members))
+
+-- the takings of a member of staff from paid_in on
+abbrev pub taking_end : Taking → Members
+taking_end t =
+    member (codes "paid_in") (counted_data t.paid_in)
+    (member (codes "paid_out") (counted_data t.paid_out)
+    (member (codes "staff") (string (caller_text t.staff.office t.staff.staff)) no_members))
+
+-- the takings of a member of staff
+abbrev pub taking_data : ℕ → Taking → Data
+taking_data office t = object
+    (member (codes "in_reversed") (counted_data t.in_reversed)
+    (member (codes "out_reversed") (counted_data t.out_reversed) (taking_end t)))
+
+-- takings
+abbrev pub takings_data : ℕ → List Taking → Data
+takings_data office lines = list_named (codes "takings") (taking_data office) lines
+
 -- the list that is told of an office
 abbrev pub told_data : ℕ → ListTold → Data
 told_data office (ClientLines lines) = clients_data office lines
@@ -164,6 +189,7 @@ told_data office (DueLines lines) = due_list_data office lines
 told_data office (StageLines lines) = stages_data office lines
 told_data office (StaffLines lines) = staff_list_data office lines
 told_data office (ChangeLines lines) = changes_data office lines
+told_data office (TakingLines lines) = takings_data office lines
 
 -- ---- what a loan would be
 

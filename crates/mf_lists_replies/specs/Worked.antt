@@ -37,6 +37,12 @@ staff_shown =
     codes "{\"staff\":[{\"name\":\"Zola\",\"role\":\"manager\",\"staff\":\"2/1\"},"
     ++ codes "{\"name\":\"Yemi\",\"role\":\"teller\",\"staff\":\"2/2\"}]}"
 
+-- what the teller of office 2 took on a day: two repayments
+abbrev pub takings_shown : List ℕ
+takings_shown =
+    codes "{\"takings\":[{\"in_reversed\":{\"count\":0,\"sum\":0},\"out_reversed\":{\"count\":0,\"sum\":0},"
+    ++ codes "\"paid_in\":{\"count\":2,\"sum\":44505},\"paid_out\":{\"count\":0,\"sum\":0},\"staff\":\"2/2\"}]}"
+
 -- a loan of 1,000.00 over three months, up to its rate
 abbrev pub preview_up_to_rate : List ℕ
 preview_up_to_rate =

@@ -1,16 +1,14 @@
 //! What the journal tells, as JSON.
 
 ghost use Rattle.std.specs.Prelude.{◌≡◌, true, IfOk, IfErr, string_bytes};
-ghost use Rattle.json.specs.Print.{quoted};
 ghost use Rattle.serde_json.specs.Written.{compact_text, members_text};
-ghost use Rattle.mf_office.specs.Written.{caller_text};
 ghost use Rattle.mf_lists_replies.specs.Lines.{account_or_null, change_data, change_end, changes_data, text_or_null};
 
 use crate::lines::{ListLine, named_text};
-use crate::texts::{quoted_account, quoted_day};
+use crate::texts::{quoted_account, quoted_caller, quoted_day};
 use mf_base::Fault;
 use mf_lists::ChangeLine;
-use mf_office::{AccountNo, Caller, OfficeNo};
+use mf_office::{AccountNo, OfficeNo};
 use mf_statement::Listing;
 use mf_wire_replies::{quoted_text, text_in};
 use std::alloc::Global;
@@ -24,15 +22,6 @@ fn quoted_bytes(alloc: Global, bytes: &Listing<u8>) -> Result<String, Fault>
         Ok(text) => Ok(quoted_text(alloc, text)?),
         Err(_) => Ok(String::from_str(alloc, "null")?),
     }
-}
-
-/// Who sent a request, in quotes.
-fn quoted_caller(alloc: Global, caller: Caller) -> Result<String, Fault>
-    ensures ok { IfOk result (λ s. string_bytes s ≡ quoted (caller_text caller.office caller.staff)) }
-    ensures err { IfErr result (λ f. f ≡ Fault.F20) }
-{
-    let text = caller.text(alloc)?;
-    Ok(quoted_text(alloc, text.as_str())?)
 }
 
 /// The account of a loan of an office, or null where there is none.

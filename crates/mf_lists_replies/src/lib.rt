@@ -9,6 +9,7 @@ mod lines;
 mod previews;
 mod replies;
 mod stages;
+mod takings;
 mod texts;
 
 pub use replies::{list_line, list_text};

@@ -11,6 +11,7 @@ use crate::clients::{client_loans_text, clients_text, staff_text};
 use crate::due::due_text;
 use crate::previews::preview_text;
 use crate::stages::stages_text;
+use crate::takings::takings_text;
 use mf_base::Fault;
 use mf_lists::{ListAnswer, ListTold};
 use mf_office::OfficeNo;
@@ -29,6 +30,7 @@ fn told_text(alloc: Global, office: OfficeNo, told: &ListTold) -> Result<String,
         ListTold::StageLines(lines) => stages_text(alloc, office, lines.as_slice()),
         ListTold::StaffLines(lines) => staff_text(alloc, office, lines.as_slice()),
         ListTold::ChangeLines(lines) => changes_text(alloc, office, lines.as_slice()),
+        ListTold::TakingLines(lines) => takings_text(alloc, office, lines.as_slice()),
     }
 }
 

@@ -13,7 +13,7 @@ use Rattle.mf_lists.specs.declared.request.ListRequest.{ListRequest}
 use Rattle.mf_lists.specs.declared.request.ListRequest.TheVariants as request
 use Rattle.mf_lists_wire.specs.declared.routes.ListEndpoint.{ListEndpoint}
 use Rattle.mf_lists_wire.specs.declared.routes.ListEndpoint.TheVariants.{Clients, LoansOf, DueBy, AtStatus, StaffOf}
-use Rattle.mf_lists_wire.specs.declared.routes.ListEndpoint.TheVariants.{Preview, ChangesOf, Changes, Find}
+use Rattle.mf_lists_wire.specs.declared.routes.ListEndpoint.TheVariants.{Preview, ChangesOf, Changes, TakingsOn, Find}
 use Rattle.mf_lists_wire.specs.ListRoutes.{has_method, list_route}
 use Rattle.mf_lists_wire.specs.Paths.{principal_written, number_between, two_parts, three_parts, four_parts}
 
@@ -92,6 +92,15 @@ changes_request params =
     (number_of_digits p.0))
     (two_parts params)
 
+-- the takings of an office on a day
+abbrev pub takings_request : List ℕ → Option ListRequest
+takings_request params =
+    option_and_then (λ p.
+    option_and_then (λ office.
+    option_map (λ day. request.OfOffice office (asked.TakingsOn day)) (day_named p.1))
+    (number_of_digits p.0))
+    (two_parts params)
+
 -- clients that are found, by the members office and part
 abbrev pub find_request : Data → Option ListRequest
 find_request d =
@@ -109,6 +118,7 @@ request_in_path StaffOf params = staff_request params
 request_in_path Preview params = preview_request params
 request_in_path ChangesOf params = loan_changes_request params
 request_in_path Changes params = changes_request params
+request_in_path TakingsOn params = takings_request params
 request_in_path Find params = None
 
 -- what is asked on a route, by the parameters of the path, or by the body where it is find

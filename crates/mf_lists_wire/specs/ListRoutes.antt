@@ -4,7 +4,7 @@ use Rattle.std.specs.Str.{bytes_eq, is_utf8}
 use Rattle.mf_base.specs.Texts.{parts_round}
 use Rattle.mf_lists_wire.specs.declared.routes.ListEndpoint.{ListEndpoint}
 use Rattle.mf_lists_wire.specs.declared.routes.ListEndpoint.TheVariants.{Clients, LoansOf, DueBy, AtStatus, StaffOf}
-use Rattle.mf_lists_wire.specs.declared.routes.ListEndpoint.TheVariants.{Preview, ChangesOf, Changes, Find}
+use Rattle.mf_lists_wire.specs.declared.routes.ListEndpoint.TheVariants.{Preview, ChangesOf, Changes, TakingsOn, Find}
 use Rattle.mf_lists_wire.specs.Paths.{behind_lists, last_part, two_parts, three_parts, four_parts}
 
 -- what is asked for by a word that parameters follow
@@ -17,7 +17,8 @@ endpoint_of_word word =
     (cond (bytes_eq word (codes "staff")) (Some StaffOf)
     (cond (bytes_eq word (codes "schedule")) (Some Preview)
     (cond (bytes_eq word (codes "history")) (Some ChangesOf)
-    (cond (bytes_eq word (codes "journal")) (Some Changes) None)))))))
+    (cond (bytes_eq word (codes "journal")) (Some Changes)
+    (cond (bytes_eq word (codes "takings")) (Some TakingsOn) None))))))))
 
 -- a text has as many parts as what is asked for has parameters
 abbrev pub has_parts : ListEndpoint → List ℕ → Bool
@@ -29,6 +30,7 @@ has_parts StaffOf params = is_some (last_part params)
 has_parts Preview params = is_some (four_parts params)
 has_parts ChangesOf params = is_some (last_part params)
 has_parts Changes params = is_some (two_parts params)
+has_parts TakingsOn params = is_some (two_parts params)
 has_parts Find params = false
 
 -- what is asked for by a word, and its parameters

@@ -7,7 +7,7 @@ ghost use Rattle.mf_lists.specs.declared.request.ListRequest.TheVariants.{OfOffi
 ghost use Rattle.mf_lists.specs.Readings.{IsAskedInDays};
 ghost use Rattle.mf_lists_wire.specs.ListRequests.{clients_request, client_loans_request, due_request, stages_request};
 ghost use Rattle.mf_lists_wire.specs.ListRequests.{staff_request, preview_request, find_request, request_in_path};
-ghost use Rattle.mf_lists_wire.specs.ListRequests.{loan_changes_request, changes_request};
+ghost use Rattle.mf_lists_wire.specs.ListRequests.{loan_changes_request, changes_request, takings_request};
 ghost use Rattle.mf_lists_wire.specs.ListRequests.{list_request_at, list_request_of, MayLackMemory};
 
 use crate::body::{json, name, office};
@@ -125,6 +125,16 @@ fn find_request(alloc: Global, body: &Value) -> Result<ListRequest, Fault>
     Ok(of_office(office.get(), ListAsked::Find { part }))
 }
 
+fn takings(params: &[u8]) -> Option<ListRequest>
+    ensures value { result ≡ takings_request params.now }
+    ensures in_days { IfSome result IsAskedInDays }
+{
+    let (office, on) = two_parts(params)?;
+    let office = parse_digits(office)?;
+    let day = day(on)?;
+    Some(of_office(office, ListAsked::TakingsOn { day }))
+}
+
 fn find(alloc: Global, body: &[u8]) -> Result<ListRequest, Fault>
     ensures value { Gives body.now (option_and_then find_request (json_of body.now)) result }
     ensures in_days { IfOk result IsAskedInDays }
@@ -147,6 +157,7 @@ fn request_in_path(endpoint: ListEndpoint, params: &[u8]) -> Option<ListRequest>
         ListEndpoint::Preview => preview(params),
         ListEndpoint::ChangesOf => loan_changes(params),
         ListEndpoint::Changes => changes(params),
+        ListEndpoint::TakingsOn => takings(params),
         ListEndpoint::Find => None,
     }
 }

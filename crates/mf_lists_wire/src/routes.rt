@@ -19,6 +19,7 @@ pub enum ListEndpoint {
     Preview,
     ChangesOf,
     Changes,
+    TakingsOn,
     Find,
 }
 
@@ -77,6 +78,9 @@ fn endpoint_of_word(word: &[u8]) -> Option<ListEndpoint>
     if is_word(word, "journal") {
         return Some(ListEndpoint::Changes);
     }
+    if is_word(word, "takings") {
+        return Some(ListEndpoint::TakingsOn);
+    }
     None
 }
 
@@ -89,7 +93,9 @@ fn has_parts(endpoint: ListEndpoint, params: &[u8]) -> bool
         ListEndpoint::LoansOf | ListEndpoint::StaffOf | ListEndpoint::ChangesOf => {
             last_part(params).is_some()
         }
-        ListEndpoint::Clients | ListEndpoint::Changes => two_parts(params).is_some(),
+        ListEndpoint::Clients | ListEndpoint::Changes | ListEndpoint::TakingsOn => {
+            two_parts(params).is_some()
+        }
         ListEndpoint::DueBy | ListEndpoint::AtStatus => three_parts(params).is_some(),
         ListEndpoint::Preview => four_parts(params).is_some(),
     }

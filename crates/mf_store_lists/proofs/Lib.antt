@@ -2,6 +2,7 @@ pub mod NumberedLemmas
 pub mod ToldLemmas
 pub mod StageLemmas
 pub mod ChangeLemmas
+pub mod DayLemmas
 pub mod ClientLoanLemmas
 pub mod CountLemmas
 pub mod DueLemmas

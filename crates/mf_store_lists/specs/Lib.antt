@@ -3,3 +3,4 @@ pub mod Changed
 pub mod Counted
 pub mod Due
 pub mod Finding
+pub mod DayTold

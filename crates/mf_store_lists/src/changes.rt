@@ -45,7 +45,7 @@ fn day_of(number: u64) -> Result<Day, Fault>
 }
 
 /// A number in 32 bits. F20 where it has no room there, as no number of a line.
-fn narrow(number: u64) -> Result<u32, Fault>
+pub(crate) fn narrow(number: u64) -> Result<u32, Fault>
     ensures number { IfOk result (λ n. n ≡ number) }
     ensures gives_up { IfErr result (λ fault. fault ≡ F20) }
 {
@@ -56,7 +56,7 @@ fn narrow(number: u64) -> Result<u32, Fault>
 }
 
 /// Who sent a line. F20 where nobody can have these numbers.
-fn caller_of(row: JournalRow<'_>) -> Result<Caller, Fault>
+pub(crate) fn caller_of(row: JournalRow<'_>) -> Result<Caller, Fault>
     ensures office { IfOk result (λ caller. caller.office ≡ row.entry.office) }
     ensures staff { IfOk result (λ caller. caller.staff ≡ row.entry.staff) }
     ensures gives_up { IfErr result (λ fault. fault ≡ F20) }

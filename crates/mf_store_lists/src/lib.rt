@@ -11,5 +11,6 @@ mod parts;
 mod staff;
 mod stages;
 mod store_lists;
+mod takings;
 
 pub use store_lists::StoreLists;

@@ -9,8 +9,9 @@ use crate::due::due_after;
 use crate::finding::find_clients;
 use crate::staff::staff_of;
 use crate::stages::stages_after;
+use crate::takings::takings_on;
 use mf_base::{Day, Fault, Name};
-use mf_lists::{ChangeLine, ClientLine, ClientLoan, DueLine, StaffLine, StageLine};
+use mf_lists::{ChangeLine, ClientLine, ClientLoan, DueLine, StaffLine, StageLine, Taking};
 use mf_lists_desk::Lists;
 use mf_office::{Account, OfficeNo};
 use mf_statement::Listing;
@@ -113,5 +114,15 @@ impl<S: Alter> Lists<Store<S>> for StoreLists {
         after: u32,
     ) -> Result<Option<Listing<ChangeLine>>, Fault> {
         changes_after(alloc, store, office, after)
+    }
+
+    fn takings_on(
+        &self,
+        alloc: Global,
+        store: &mut Store<S>,
+        office: OfficeNo,
+        day: Day,
+    ) -> Result<Option<Listing<Taking>>, Fault> {
+        takings_on(alloc, store, office, day)
     }
 }

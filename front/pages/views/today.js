@@ -24,7 +24,10 @@ export async function today(page) {
     const list = known.length === report.offices.length ? known : await offices(true);  // one was opened since
     window.dispatchEvent(new Event("desk-day"));
     const tree = asTree(list);
-    const actions = may(HEAD_OFFICE) ? [button(say("day.move"), () => moveDay(page), {class: "btn btn-primary"})] : [];
+    const actions = [
+        link("#/takings", say("takings.title"), {class: "btn btn-outline-primary"}),
+        may(HEAD_OFFICE) && button(say("day.move"), () => moveDay(page), {class: "btn btn-primary"})
+    ];
     const waits = element("div", {}, spinner(say("today.looking")));
     fill(
         page, pageHead({title: say("today.title", {day: showDay(session.day)}), actions}), sums(report.all),

@@ -680,6 +680,23 @@ export default {
     "journal.later": "Later",
     "journal.last": "Latest",
 
+    // cash of a day
+    "takings.title": "Cash",
+    "takings.sheet": "Cash of {day}",
+    "takings.what": "What was paid in and paid out at an office on a business day, by who entered it at the desk. " +
+        "A reversal counts on the day on which it was made.",
+    "takings.type": "Count your drawer, or choose for whom you count. It is kept in this window until you sign " +
+        "out, and nothing of it is sent.",
+    "takings.none": "The journal tells of nothing paid in or out on {day}.",
+    "takings.person": "Person",
+    "takings.start": "At the start",
+    "takings.paid-in": "Paid in",
+    "takings.paid-out": "Paid out",
+    "takings.reversed": "Reversed",
+    "takings.at": "Time by this machine",
+    "takings.signed-counter": "Counted by",
+    "takings.signed-checker": "Checked by",
+
     // a statement
     "statement.title": "Statement of loan {loan}",
     "statement.day": "As on {day}",

@@ -684,6 +684,23 @@ export default {
     "journal.later": "Posteriores",
     "journal.last": "Los últimos",
 
+    // cash of a day
+    "takings.title": "Caja",
+    "takings.sheet": "Caja del {day}",
+    "takings.what": "Lo que entró y salió en una oficina en un día contable, por quien lo registró. Una anulación " +
+        "cuenta el día en que se hizo.",
+    "takings.type": "Cuente su caja, o elija por quién cuenta. Se guarda en esta ventana hasta que salga, y no se " +
+        "envía nada.",
+    "takings.none": "El diario no muestra nada cobrado ni pagado el {day}.",
+    "takings.person": "Persona",
+    "takings.start": "Al inicio",
+    "takings.paid-in": "Entró",
+    "takings.paid-out": "Salió",
+    "takings.reversed": "Anulado",
+    "takings.at": "Hora de este equipo",
+    "takings.signed-counter": "Contado por",
+    "takings.signed-checker": "Revisado por",
+
     // a statement
     "statement.title": "Estado de cuenta del préstamo {loan}",
     "statement.day": "Al {day}",

@@ -690,6 +690,23 @@ export default {
     "journal.later": "Plus récents",
     "journal.last": "Les derniers",
 
+    // cash of a day
+    "takings.title": "Caisse",
+    "takings.sheet": "Caisse du {day}",
+    "takings.what": "Ce qui a été encaissé et versé dans un bureau pendant une journée comptable, par personne qui " +
+        "l’a saisi. Une annulation compte le jour où elle a été faite.",
+    "takings.type": "Comptez votre caisse, ou choisissez pour qui vous comptez. C’est gardé dans cette fenêtre " +
+        "jusqu’à la déconnexion, et rien n’en est envoyé.",
+    "takings.none": "Le journal ne montre rien d’encaissé ni de versé le {day}.",
+    "takings.person": "Personne",
+    "takings.start": "Au début",
+    "takings.paid-in": "Encaissé",
+    "takings.paid-out": "Versé",
+    "takings.reversed": "Annulé",
+    "takings.at": "Heure de cet appareil",
+    "takings.signed-counter": "Compté par",
+    "takings.signed-checker": "Vérifié par",
+
     // a statement
     "statement.title": "Relevé du prêt {loan}",
     "statement.day": "Au {day}",

@@ -681,6 +681,23 @@ export default {
     "journal.later": "Ya baadaye",
     "journal.last": "Ya karibuni",
 
+    // cash of a day
+    "takings.title": "Fedha taslimu",
+    "takings.sheet": "Fedha taslimu za {day}",
+    "takings.what": "Kilichoingia na kilichotoka katika ofisi kwa siku ya kazi, kwa kila aliyekiingiza. " +
+        "Kilichofutwa huhesabiwa siku kilipofutwa.",
+    "takings.type": "Hesabu fedha zako, au chagua unahesabu kwa niaba ya nani. Hubaki kwenye dirisha hili hadi " +
+        "utoke, na hakuna kinachotumwa.",
+    "takings.none": "Jarida halionyeshi chochote kilichoingia wala kutoka tarehe {day}.",
+    "takings.person": "Mtu",
+    "takings.start": "Mwanzoni",
+    "takings.paid-in": "Iliyoingia",
+    "takings.paid-out": "Iliyotoka",
+    "takings.reversed": "Iliyofutwa",
+    "takings.at": "Saa ya kifaa hiki",
+    "takings.signed-counter": "Imehesabiwa na",
+    "takings.signed-checker": "Imekaguliwa na",
+
     // a statement
     "statement.title": "Taarifa ya mkopo {loan}",
     "statement.day": "Kufikia {day}",

@@ -1,7 +1,7 @@
 //! Lists that give up at once, for tests in which none is asked for.
 
 use mf_base::{Day, Fault, Name};
-use mf_lists::{ChangeLine, ClientLine, ClientLoan, DueLine, StaffLine, StageLine};
+use mf_lists::{ChangeLine, ClientLine, ClientLoan, DueLine, StaffLine, StageLine, Taking};
 use mf_lists_desk::Lists;
 use mf_model::InstitutionStore;
 use mf_office::{Account, OfficeNo};
@@ -92,6 +92,16 @@ impl<S: InstitutionStore> Lists<S> for NoLists {
         _office: OfficeNo,
         _after: u32,
     ) -> Result<Option<Listing<ChangeLine>>, Fault> {
+        Err(Fault::F20)
+    }
+
+    fn takings_on(
+        &self,
+        _alloc: Global,
+        _store: &mut S,
+        _office: OfficeNo,
+        _day: Day,
+    ) -> Result<Option<Listing<Taking>>, Fault> {
         Err(Fault::F20)
     }
 }

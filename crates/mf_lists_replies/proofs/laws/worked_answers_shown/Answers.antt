@@ -25,6 +25,10 @@ pub returns-clause-staff : goal.returns-clause-staff
 unfolding digits serde_json_on_literals
 returns-clause-staff c = refl
 
+pub returns-clause-takings : goal.returns-clause-takings
+unfolding digits serde_json_on_literals
+returns-clause-takings c = refl
+
 pub returns-clause-no_changes : goal.returns-clause-no_changes
 unfolding serde_json_on_literals
 returns-clause-no_changes c = refl
