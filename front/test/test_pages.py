@@ -27,6 +27,7 @@ PLACES = (
     "catalogue",
     "people",
     "journal/21",
+    "takings",
 )
 WIDTHS = (360, 1280)
 TELLER = {"loan/0021-000028": {"Enter a repayment", "Statement"}}
@@ -47,6 +48,8 @@ HEAD_OFFICE = MANAGER | {
 }
 MAY = {"tom": TELLER, "zoe": OFFICER, "paulo": MANAGER, "ruth": MANAGER, "amina": HEAD_OFFICE}
 ALWAYS = {
+    "today": {"Cash"},
+    "takings": {"Print"},
     "statement/0021-000028": {"Print"},
     "round/21": {"Print", "Save as a sheet", "Take this round along", "Day pack"},
     "kept": {"Day pack"},
