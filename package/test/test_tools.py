@@ -585,7 +585,7 @@ class Backups(unittest.TestCase):
         self.assertGreater(len(entered), 50)
 
 
-def tool(name):
+def module_of(name):
     """A tool as a module."""
     loader = importlib.machinery.SourceFileLoader(name.replace("-", "_"), os.path.join(TOOLS, name))
     made = importlib.util.module_from_spec(importlib.util.spec_from_loader(loader.name, loader))
@@ -631,7 +631,7 @@ class Visits(unittest.TestCase):
         running.answer_lines(path, b'''1/1 POST /offices {"number":2,"parent":1,"name":"North"}
 1/1 POST /clients {"office":2,"name":"Amina"}
 ''')
-        restore, said = tool("microloan-restore"), io.StringIO()
+        restore, said = module_of("microloan-restore"), io.StringIO()
         with unittest.mock.patch.object(restore.bundle, "VISITS", self.folder), contextlib.redirect_stdout(said):
             with unittest.mock.patch.object(restore.files, "FILE", path):
                 restore.tell_notes_of_nobody(unittest.mock.Mock(file=path))
@@ -648,7 +648,7 @@ class Visits(unittest.TestCase):
         os.mkdir(place, 0o700)
         with open(os.path.join(place, "0002-000002"), "w", encoding="utf-8") as file:
             file.write("noted here\n")
-        restore = tool("microloan-restore")
+        restore = module_of("microloan-restore")
         with unittest.mock.patch.object(restore.bundle, "VISITS", place), contextlib.redirect_stdout(io.StringIO()):
             with desk_bundle.opened(self.bundle, os.path.join(self.keys, "machine.key")) as (tar, about):
                 restore.restore_settings(tar, about, [])
@@ -661,7 +661,7 @@ class Visits(unittest.TestCase):
         self.assertEqual((about.st_mode & 0o777, about.st_uid), (0o600, pwd.getpwnam("www-data").pw_uid))
 
     def test_looked_at(self):
-        check = tool("microloan-check")
+        check = module_of("microloan-check")
         owner = pwd.getpwnam("www-data").pw_uid
         if os.geteuid() == 0:
             os.chown(self.folder, owner, -1)
@@ -734,7 +734,7 @@ class Journals(unittest.TestCase):
 
     def check_says(self):
         """What microloan-check finds of the journal."""
-        check = tool("microloan-check")
+        check = module_of("microloan-check")
         with unittest.mock.patch.multiple(journal_heads, PLACE=self.heads, MARK=self.heads):
             look = check.Look()
             check.look_at_journal(look)
