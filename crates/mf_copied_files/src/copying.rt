@@ -18,8 +18,12 @@ use mf_store_sql::pages::{PageStore, open};
 use sqlite::Connection;
 use std::alloc::Global;
 
-/// A connection in memory to the database of these bytes. The error is F20.
-fn connect_in_memory(alloc: Global, log: &[u8], db: &[u8]) -> Result<Connection<PageStore>, Fault>
+/// A connection in memory to the database of these bytes, of a log and of a database file. The error is F20.
+pub fn connect_in_memory(
+    alloc: Global,
+    log: &[u8],
+    db: &[u8],
+) -> Result<Connection<PageStore>, Fault>
     ensures shows { IfOk result (λ c. HasCleanDisk (file_state c)
         → ShowsFile (record { log = log.now; db = db.now }) (file_state c)) }
     ensures alone { IfOk result (λ c. c.in_transaction ≡ false) }

@@ -4,4 +4,4 @@
 mod copying;
 mod memory;
 
-pub use copying::copy_in_memory;
+pub use copying::{connect_in_memory, copy_in_memory};

@@ -25,6 +25,7 @@ use Rattle.mf_store_played.specs.Answer.{IsCompared, IsAnswer, IsAnswerOf, IsAns
 use Rattle.mf_store_played.specs.Answer.{IsCopyAnswerOf, IsDifference, HoldsPlayable}
 use Rattle.mf_store_played.specs.declared.played.Played.{Played}
 use Rattle.mf_store_played.specs.declared.played.Played.TheVariants.{Leads, NoFounding, Stops, Differs, OtherCopy}
+use Rattle.mf_store_played.specs.declared.played.Played.TheVariants.{Lacks}
 use Rattle.mf_store_played.specs.declared.played.PlayedTable.{PlayedTable}
 use Rattle.mf_store_played.specs.declared.played.PlayedTable.TheVariants.{Meta, Offices, Staff, Clients, Charges}
 use Rattle.mf_store_played.specs.declared.played.PlayedTable.TheVariants.{Products, Loans, Entries, Receipts}
@@ -86,6 +87,7 @@ module _ (start : Institution) (before lines : List JournalLine) (i j : Institut
   compared_answer begins one sound other journal stands at (NoFounding head) told = absurd told
   compared_answer begins one sound other journal stands at (Stops number why) told = absurd told
   compared_answer begins one sound other journal stands at (OtherCopy head) told = absurd told
+  compared_answer begins one sound other journal stands at (Lacks gap) told = absurd told
 
 -- the answer from a founding
 module _ (begins : Head) (lines : List JournalLine) (i : Institution) (day : ℕ) (founds : IsFounding begins day) where
@@ -102,6 +104,7 @@ module _ (begins : Head) (lines : List JournalLine) (i : Institution) (day : ℕ
   founded_answer (Differs d) told = (day, founds, told.0, told.1, told.2, told.3)
   founded_answer (NoFounding head) told = absurd told
   founded_answer (OtherCopy head) told = absurd told
+  founded_answer (Lacks gap) told = absurd told
 
 -- the answer from a copy
 module _ (copied : Institution) (begins : Head) (lines : List JournalLine) (i : Institution) where
@@ -112,6 +115,7 @@ module _ (copied : Institution) (begins : Head) (lines : List JournalLine) (i : 
   copied_answer its (Differs d) told = (its, told)
   copied_answer its (NoFounding head) told = absurd told
   copied_answer its (OtherCopy head) told = absurd told
+  copied_answer its (Lacks gap) told = absurd told
 
 -- what follows where a call succeeds
 pub on_ok_then : {A E : Type 0} (r : Result A E) (Q : Type 0) (P : A → Type 0) → OnOk r Q → (Q → IfOk r P) → IfOk r P

@@ -4,3 +4,4 @@ pub mod HeldLemmas
 pub mod AnswerLemmas
 pub mod OnceLemmas
 pub mod CopyLemmas
+pub mod ArchivedLemmas

@@ -17,6 +17,7 @@ use Rattle.mf_store_played.specs.Answer.{IsAnswer, IsAnswerOver, IsCopy, IsCopyA
 use Rattle.mf_store_played.specs.declared.played.Difference.{Difference}
 use Rattle.mf_store_played.specs.declared.played.Played.{Played}
 use Rattle.mf_store_played.specs.declared.played.Played.TheVariants.{Leads, NoFounding, Stops, Differs, OtherCopy}
+use Rattle.mf_store_played.specs.declared.played.Played.TheVariants.{Lacks}
 use Rattle.mf_store_played.specs.declared.played.PlayedTable.{PlayedTable}
 use Rattle.mf_store_played.specs.declared.played.PlayedTable.TheVariants.{Meta, Offices, Staff, Clients, Charges}
 use Rattle.mf_store_played.specs.declared.played.PlayedTable.TheVariants.{Products, Loans, Entries, Receipts}
@@ -137,12 +138,14 @@ module _ (begins : Head) (lines : List JournalLine) (i : Institution) where
   one_answer (Leads h) (Leads k) a b = ap Leads (a.3 ∙ sym b.3)
   one_answer (Leads h) (NoFounding k) a b = absurd (b.0 a.0 a.1)
   one_answer (Leads h) (OtherCopy k) a b = absurd b
+  one_answer (Leads h) (Lacks g) a b = absurd b
   one_answer (Leads h) (Stops n why) a b =
       absurd (apart (founded a.0) i lines b.2 why a.2
       (subst (λ day. StopsAt (founded day) lines b.2 why) (one_day begins a.0 b.0 a.1 b.1) b.4))
   one_answer (Leads h) (Differs d) a b =
       absurd (b.5 (subst (λ day. PlaysTo (founded day) lines i) (one_day begins b.0 a.0 b.1 a.1) a.2))
   one_answer (NoFounding k) (OtherCopy h) a b = absurd b
+  one_answer (NoFounding k) (Lacks g) a b = absurd b
   one_answer (NoFounding k) (Leads h) a b = absurd (a.0 b.0 b.1)
   one_answer (NoFounding h) (NoFounding k) a b = ap NoFounding (a.1 ∙ sym b.1)
   one_answer (NoFounding k) (Stops n why) a b = absurd (a.0 b.0 b.1)
@@ -152,6 +155,7 @@ module _ (begins : Head) (lines : List JournalLine) (i : Institution) where
       (subst (λ day. StopsAt (founded day) lines a.2 why) (one_day begins b.0 a.0 b.1 a.1) a.4))
   one_answer (Stops n why) (NoFounding k) a b = absurd (b.0 a.0 a.1)
   one_answer (Stops n why) (OtherCopy k) a b = absurd b
+  one_answer (Stops n why) (Lacks g) a b = absurd b
   one_answer (Stops n why) (Stops m because) a b =
       let same = one_place (founded a.0) lines a.2 b.2 why because a.4
       (subst (λ day. StopsAt (founded day) lines b.2 because) (one_day begins a.0 b.0 a.1 b.1) b.4) in
@@ -163,11 +167,14 @@ module _ (begins : Head) (lines : List JournalLine) (i : Institution) where
       absurd (a.5 (subst (λ day. PlaysTo (founded day) lines i) (one_day begins a.0 b.0 a.1 b.1) b.2))
   one_answer (Differs d) (NoFounding k) a b = absurd (b.0 a.0 a.1)
   one_answer (Differs d) (OtherCopy k) a b = absurd b
+  one_answer (Differs d) (Lacks g) a b = absurd b
   one_answer (OtherCopy h) (Leads k) a b = absurd a
   one_answer (OtherCopy h) (NoFounding k) a b = absurd a
   one_answer (OtherCopy h) (Stops n why) a b = absurd a
   one_answer (OtherCopy h) (Differs d) a b = absurd a
   one_answer (OtherCopy h) (OtherCopy k) a b = absurd a
+  one_answer (OtherCopy h) (Lacks g) a b = absurd a
+  one_answer (Lacks g) other a b = absurd a
   one_answer (Differs d) (Stops n why) a b =
       absurd (apart (founded a.0) a.2 lines b.2 why a.3
       (subst (λ day. StopsAt (founded day) lines b.2 why) (one_day begins a.0 b.0 a.1 b.1) b.4))
@@ -186,6 +193,7 @@ module _ (start : Institution) (begins : Head) (lines : List JournalLine) (i : I
   one_over (Leads h) (Differs d) a b = absurd (b.3 a.0)
   one_over (Leads h) (NoFounding k) a b = absurd b
   one_over (Leads h) (OtherCopy k) a b = absurd b
+  one_over (Leads h) (Lacks g) a b = absurd b
   one_over (Stops n why) (Leads h) a b = absurd (apart start i lines a.0 why b.0 a.2)
   one_over (Stops n why) (Stops m because) a b =
       let same = one_place start lines a.0 b.0 why because a.2 b.2 in
@@ -193,6 +201,7 @@ module _ (start : Institution) (begins : Head) (lines : List JournalLine) (i : I
   one_over (Stops n why) (Differs d) a b = absurd (apart start b.0 lines a.0 why b.1 a.2)
   one_over (Stops n why) (NoFounding k) a b = absurd b
   one_over (Stops n why) (OtherCopy k) a b = absurd b
+  one_over (Stops n why) (Lacks g) a b = absurd b
   one_over (Differs d) (Leads h) a b = absurd (a.3 b.0)
   one_over (Differs d) (Stops n why) a b = absurd (apart start a.0 lines b.0 why a.1 b.2)
   one_over (Differs d) (Differs e) a b =
@@ -201,8 +210,10 @@ module _ (start : Institution) (begins : Head) (lines : List JournalLine) (i : I
       (subst (λ k. IsDifference e (tables_at Third i) (tables_at Third k)) same b.2))
   one_over (Differs d) (NoFounding k) a b = absurd b
   one_over (Differs d) (OtherCopy k) a b = absurd b
+  one_over (Differs d) (Lacks g) a b = absurd b
   one_over (NoFounding h) b told other = absurd told
   one_over (OtherCopy h) b told other = absurd told
+  one_over (Lacks g) b told other = absurd told
 
 module _ (copied : Institution) (begins : Head) (lines : List JournalLine) (i : Institution) where
   -- the journal was begun over another, or was played
@@ -216,6 +227,7 @@ module _ (copied : Institution) (begins : Head) (lines : List JournalLine) (i : 
   either (Differs d) told = inr told
   either (NoFounding h) told = inr told
   either (OtherCopy h) told = inl (h, refl, told.0, told.1)
+  either (Lacks g) told = inr told
 
   both : (a b : Played) → Two a → Two b → a ≡ b
   both a b (inl x) (inl y) = x.1 ∙ ap OtherCopy (x.3 ∙ sym y.3) ∙ sym y.1

@@ -25,6 +25,7 @@ use Rattle.mf_store_played.specs.Played.{IsFounding, IsFirstDifference, founded}
 use Rattle.mf_store_played.specs.declared.played.Difference.{Difference}
 use Rattle.mf_store_played.specs.declared.played.Played.{Played}
 use Rattle.mf_store_played.specs.declared.played.Played.TheVariants.{Leads, NoFounding, Stops, Differs, OtherCopy}
+use Rattle.mf_store_played.specs.declared.played.Played.TheVariants.{Lacks}
 
 -- this is the first difference of rows from those that the play gives
 pub record IsDifference (d : Difference) (here played : Lists) : Type 0 where
@@ -39,6 +40,7 @@ IsCompared stands a b (Differs d) = IsDifference d a b
 IsCompared stands a b (NoFounding head) = ⊥
 IsCompared stands a b (Stops number why) = ⊥
 IsCompared stands a b (OtherCopy head) = ⊥
+IsCompared stands a b (Lacks gap) = ⊥
 
 -- The answer is right for an institution and the lines of its journal, which begins here, where they are played over
 -- another one. Where they lead to another institution, it names the first table, and the first row in it, that differ.
@@ -50,6 +52,7 @@ IsAnswerOver start begins lines i (Stops number why) =
 IsAnswerOver start begins lines i (Differs d) = (j : Institution) × PlaysTo start lines j
     × IsDifference d (tables_at Third i) (tables_at Third j) × ¬ PlaysTo start lines i
 IsAnswerOver start begins lines i (OtherCopy head) = ⊥
+IsAnswerOver start begins lines i (Lacks gap) = ⊥
 
 -- The answer is right for an institution and the lines of its journal, which begins here. Where the lines lead to
 -- another institution, it names the first table, and the first row in it, that differ.
@@ -64,6 +67,7 @@ IsAnswer begins lines i (Differs d) = (day : ℕ) × IsFounding begins day × (j
     × PlaysTo (founded day) lines j × IsDifference d (tables_at Third i) (tables_at Third j)
     × ¬ PlaysTo (founded day) lines i
 IsAnswer begins lines i (OtherCopy head) = ⊥
+IsAnswer begins lines i (Lacks gap) = ⊥
 
 -- the journal was begun over the rows of this institution, which keeps none
 pub record IsCopy (copied : Institution) (begins : Head) : Type 0 where

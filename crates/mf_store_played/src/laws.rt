@@ -3,7 +3,9 @@
 ghost use Rattle.std.specs.Prelude.{◌≡◌, ℕ, List};
 ghost use Rattle.mf_journal.specs.declared.following.Head.{Head};
 ghost use Rattle.mf_model.specs.Institution.{Institution, JournalLine};
+ghost use Rattle.mf_store_archived.specs.declared.archive.Archive.{Archive};
 ghost use Rattle.mf_store_played.specs.Answer.{IsAnswer, IsCopyAnswer};
+ghost use Rattle.mf_store_played.specs.Archived.{IsArchivedAnswer};
 ghost use Rattle.mf_store_played.specs.declared.played.Played.{Played};
 
 /// One answer alone is right for a journal and an institution. So a right answer is that the lines lead to just these
@@ -17,4 +19,12 @@ pub fn one_answer_alone()
 pub fn one_answer_from_a_copy()
     ensures { (copied : Institution) (begins : Head) (lines : List JournalLine) (i : Institution) (one other : Played) →
         IsCopyAnswer copied begins lines i one → IsCopyAnswer copied begins lines i other → one ≡ other }
+{}
+
+/// The same of a journal whose first lines were moved to archives. So archives lead back to one head alone, with one list
+/// of lines.
+pub fn one_answer_over_archives()
+    ensures { (archives : List Archive) (begins : Head) (lines : List JournalLine) (i : Institution)
+        (one other : Played) → IsArchivedAnswer archives begins lines i one
+        → IsArchivedAnswer archives begins lines i other → one ≡ other }
 {}

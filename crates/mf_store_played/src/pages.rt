@@ -34,7 +34,7 @@ pub fn number_at(number: u32, place: usize) -> Result<u64, Fault>
 }
 
 /// Plays the lines that have these rows, one after the other, until one doesn't play.
-fn play_page<T: InstitutionStore>(
+pub(crate) fn play_page<T: InstitutionStore>(
     alloc: Global,
     routes: &Routes,
     store: &mut T,

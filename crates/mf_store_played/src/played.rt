@@ -2,6 +2,7 @@
 
 use mf_journal::Head;
 use mf_play::Stop;
+use mf_store_archived::Gap;
 use mf_store_sound::Tables;
 
 /// A table beside the journal, in the order of the schema.
@@ -45,4 +46,6 @@ pub enum Played {
     Differs(Difference),
     /// The journal wasn't begun over the rows of the copy from which it was to be played; it stands so.
     OtherCopy(Head),
+    /// Archives don't lead from where the journal begins back to its first line: where, and why.
+    Lacks(Gap),
 }

@@ -92,7 +92,7 @@ fn compare_rows<S: Alter>(
 }
 
 /// The number in 32 bits, as the table keeps it. The error is F20.
-fn narrow(number: u64) -> Result<u32, Fault>
+pub(crate) fn narrow(number: u64) -> Result<u32, Fault>
     ensures same { IfOk result (λ narrow. narrow ≡ number) }
     ensures gives_up { IfErr result (λ fault. fault ≡ F20) }
 {

@@ -1,5 +1,5 @@
 -- What is said of a connection that shows a file is said of the database that the file held.
-use Rattle.std.proofs.Common.{◌≡◌, List, [], Option, None, Some, refl, sym, ap, ◌∙◌, subst}
+use Rattle.std.proofs.Common.{◌≡◌, List, [], ◌∷◌, ◌++◌, Option, None, Some, refl, sym, ap, ◌∙◌, subst}
 use Rattle.sqlite.specs.Effect.{Database}
 use Rattle.sqlite.specs.Files.{HoldsDatabase}
 use Rattle.sqlite.specs.Schema.{Schema}
@@ -24,6 +24,13 @@ use Rattle.mf_store_audit.specs.declared.audits.Audit.{Audit}
 use Rattle.mf_store_audit.specs.declared.audits.Audit.TheVariants.{NoTables, OtherTables, Sound, Unsound, Unreadable}
 use Rattle.mf_store_audit.specs.declared.audits.Audit.TheVariants as audit
 use Rattle.mf_store_played.specs.declared.played.Played.{Played}
+use Rattle.mf_store_archive.specs.Appending.{KeepsArchive}
+use Rattle.mf_store_archive.specs.Texts.{archive_schema}
+use Rattle.mf_store_archived.specs.Joining.{AreArchives, IsArchive}
+use Rattle.mf_store_archived.specs.Reading.{KeepsPart}
+use Rattle.mf_store_archived.specs.declared.archive.Archive.{Archive}
+use Rattle.mf_store_journal.specs.Rows.{journal_rows_in}
+use Rattle.mf_store_verdict.specs.Archives.{HoldsPart}
 use Rattle.mf_store_verdict.specs.Heads.{StandsSo, IsHeadOf, IsHeadOfFile}
 use Rattle.mf_store_verdict.specs.Verdict.{IsPlayOf, IsVerdictBy, IsFileVerdictBy}
 use Rattle.mf_store_verdict.specs.declared.verdict.Verdict.{Verdict}
@@ -97,3 +104,22 @@ module _ (image : Image) (s : State) (shows : ShowsFile image s) where
       played = play_of image s shows trees k holds sound IsRight v.audit v.played is.audited is.played;
     };
   }
+
+-- an archive that bytes hold is one that their connection shows
+pub part_kept : (image : Image) (s : State) → ShowsFile image s → (begins : Head) (lines : List JournalLine)
+    → HoldsPart image begins lines → KeepsPart begins lines s.now
+part_kept image s shows begins lines part =
+    let now = under image s shows archive_schema refl part.trees part.holds part.rows.sound in record {
+      can_be = part.can_be;
+      keeps = subst (λ (db : Database). KeepsArchive db (journal_rows_in begins (Some lines))) (sym now)
+          (record { schema_is = refl; keeps = part.rows.keeps });
+    }
+
+-- one more archive
+pub archives_more : (archives next : List Archive) (a : Archive) → AreArchives archives → IsArchive a
+    → next ≡ archives ++ a ∷ [] → AreArchives next
+archives_more archives next a all one are = subst AreArchives (sym are) (more archives all)
+  where
+    more : (ones : List Archive) → AreArchives ones → AreArchives (ones ++ a ∷ [])
+    more [] all = (one, tt)
+    more (b ∷ bs) all = (all.0, more bs all.1)

@@ -2,14 +2,7 @@
 use Rattle.std.specs.Prelude.{Result, Ok, Err, IfOk}
 use Rattle.std.proofs.Common.{◌≡◌, ◌↔◌, Bool, false, IsTrue, Option, Some, None, refl, sym, subst}
 use Rattle.sqlite.specs.Effect.{Database}
-use Rattle.sqlite.specs.Files.{over_files}
 use Rattle.sqlite.specs.Tree.{Trees}
-use Rattle.sqlite_disk.specs.declared.Disk.{Ghosts}
-use Rattle.sqlite_store.specs.declared.store.FileStore.{FileStore}
-use Rattle.mf_model.specs.Institution.{Institution}
-use Rattle.mf_store.specs.Facts.{KnownStore}
-use Rattle.mf_store.specs.Stands.{StandsFor}
-use Rattle.mf_store_played.specs.Answer.{IsCopyAnswerOf}
 use Rattle.sqlite.specs.State.{State}
 use Rattle.mf_store_schema.specs.Schemas.{IsUnchangedUnder}
 use Rattle.mf_store_schema.specs.Versions.{IsOfVersion}
@@ -22,7 +15,7 @@ use Rattle.mf_store_audit.specs.declared.audits.Audit.{Audit}
 use Rattle.mf_store_audit.specs.declared.audits.Audit.TheVariants.{NoTables, OtherTables, Sound, Unsound, Unreadable}
 use Rattle.mf_store_audit.specs.declared.audits.Audit.TheVariants as audit
 use Rattle.mf_store_played.specs.declared.played.Played.{Played}
-use Rattle.mf_store_verdict.specs.Verdict.{FindsJournal, IsPlayOf, IsRightBy, IsVerdictBy}
+use Rattle.mf_store_verdict.specs.Verdict.{FindsJournal, IsPlayOf, IsVerdictBy}
 use Rattle.mf_store_verdict.specs.declared.verdict.Verdict.{Verdict}
 
 -- a database of which an audit finds a journal has the tables of the third version
@@ -53,31 +46,28 @@ verdict_played IsRight db now found played same finds told answer = record {
 }
 
 -- what holds of an answer for each thing, of the answer holds for each
-ok_each : {A E B : Type 0} (r : Result A E) (Q : B → Type 0) (P : B → A → Type 0)
+pub ok_each : {A E B : Type 0} (r : Result A E) (Q : B → Type 0) (P : B → A → Type 0)
     → ((b : B) → Q b → IfOk r (P b)) → IfOk r (λ a. (b : B) → Q b → P b a)
 ok_each (Ok a) Q P told = told
 ok_each (Err e) Q P told = tt
 
--- what is right of each institution that a copy stands for, where one is given
-pub right_from : {D E : Type 0} {g : Ghosts D} (given : Option (KnownStore (FileStore D g)))
-    (copy : KnownStore (FileStore D g)) → given ≡ Some copy → (trees : Trees) (r : Result Played E)
-    → ((copied : Institution) → StandsFor over_files copy copied → IfOk r (IsCopyAnswerOf copied trees))
-    → IfOk r (IsRightBy given trees)
-right_from given copy is trees r told =
-    subst (λ k. IfOk r (IsRightBy k trees)) (sym is)
-    (ok_each r (StandsFor over_files copy) (λ copied played. IsCopyAnswerOf copied trees played) told)
+-- and what holds of it once something does
+pub ok_once : {A E : Type 0} (r : Result A E) (Q : Type 0) (P : A → Type 0) → (Q → IfOk r P) → IfOk r (λ a. Q → P a)
+ok_once (Ok a) Q P told = told
+ok_once (Err e) Q P told = tt
 
--- what is said by a copy is said of the institution that it stands for
-module _ {D : Type 0} {g : Ghosts D} (copy : KnownStore (FileStore D g)) (copied : Institution)
-    (stands : StandsFor over_files copy copied) where
-  play_from : (db : Database) (found : Audit) (played : Option Played)
-      → IsPlayOf (IsRightBy (Some copy)) db found played → IsPlayOf (IsCopyAnswerOf copied) db found played
-  play_from db found None none = none
-  play_from db found (Some played) (finds, told) = (finds, told copied stands)
+-- what is right in one way is right in another that follows from it
+module _ (IsRight IsOther : Trees → Played → Type 0) (db : Database) where
+  play_by : (found : Audit) (played : Option Played) → IsPlayOf IsRight db found played
+      → ((trees : Trees) (played : Played) → IsRight trees played → IsOther trees played)
+      → IsPlayOf IsOther db found played
+  play_by found None none follows = none
+  play_by found (Some played) (finds, told) follows = (finds, follows db.trees played told)
 
-  pub verdict_from : (db : Database) (v : Verdict) → IsVerdictBy (IsRightBy (Some copy)) db v
-      → IsVerdictBy (IsCopyAnswerOf copied) db v
-  verdict_from db v is = record { audited = is.audited; played = play_from db v.audit v.played is.played }
+  pub verdict_by : (v : Verdict) → IsVerdictBy IsRight db v
+      → ((trees : Trees) (played : Played) → IsRight trees played → IsOther trees played) → IsVerdictBy IsOther db v
+  verdict_by v is follows =
+      record { audited = is.audited; played = play_by v.audit v.played is.played follows }
 
 -- an audit that was asked for a journal, and has none
 pub not_found : (found : Audit) (has : Bool) → IsTrue has ↔ FindsJournal found → has ≡ false → ¬ FindsJournal found

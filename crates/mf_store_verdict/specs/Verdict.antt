@@ -1,25 +1,28 @@
 -- What a verdict says of a database: its audit, and what the play of its journal says of the tables.
-use Rattle.std.specs.Prelude.{◌≡◌, IsTrue, Option, Some, None}
+use Rattle.std.specs.Prelude.{◌≡◌, IsTrue, List, Option, Some, None}
 use Rattle.sqlite.specs.Effect.{Database}
 use Rattle.sqlite.specs.Files.{over_files, HoldsDatabase}
 use Rattle.sqlite.specs.Schema.{Schema}
 use Rattle.sqlite.specs.State.{State}
 use Rattle.sqlite.specs.Tree.{Trees}
 use Rattle.sqlite_catalog.specs.Listing.{IsSound}
-use Rattle.sqlite_disk.specs.declared.Disk.{Ghosts}
-use Rattle.sqlite_store.specs.declared.store.FileStore.{FileStore}
 use Rattle.sqlite_wal.specs.Recovery.{Image}
 use Rattle.mf_model.specs.Institution.{Institution}
-use Rattle.mf_store.specs.Facts.{KnownStore}
 use Rattle.mf_store.specs.Stands.{StandsFor}
 use Rattle.mf_store_schema.specs.declared.versions.Version.TheVariants.{Third}
 use Rattle.mf_store_audit.specs.Audits.{FindsSound, IsAuditOf}
 use Rattle.mf_store_audit.specs.declared.audits.Audit.{Audit}
 use Rattle.mf_store_audit.specs.declared.audits.Audit.TheVariants.{NoTables, OtherTables, Sound, Unsound, Unreadable}
 use Rattle.mf_store_audit.specs.declared.audits.Audit.TheVariants as audit
+use Rattle.mf_store_archived.specs.Joining.{AreArchives}
+use Rattle.mf_store_archived.specs.declared.archive.Archive.{Archive}
 use Rattle.mf_store_played.specs.Answer.{IsAnswerOf, IsCopyAnswerOf}
+use Rattle.mf_store_played.specs.Archived.{IsArchivedAnswerOf}
 use Rattle.mf_store_played.specs.declared.played.Played.{Played}
 use Rattle.mf_store_played.specs.declared.played.Played.TheVariants.{Leads, NoFounding, Stops, Differs, OtherCopy}
+use Rattle.mf_store_played.specs.declared.played.Played.TheVariants.{Lacks}
+use Rattle.mf_store_verdict.specs.declared.playing.Beginning.{Beginning}
+use Rattle.mf_store_verdict.specs.declared.playing.Beginning.TheVariants.{Founding, Copy, Archives}
 use Rattle.mf_store_verdict.specs.declared.verdict.Verdict.{Verdict}
 
 -- an audit says that it found a sound institution with a journal
@@ -49,12 +52,17 @@ IsVerdictOf = IsVerdictBy IsAnswerOf
 abbrev pub IsVerdictFrom : Institution → Database → Verdict → Type 0
 IsVerdictFrom copied = IsVerdictBy (IsCopyAnswerOf copied)
 
-module _ {D : Type 0} {g : Ghosts D} where
-  -- what is told of the play is right, from the founding or from a copy, where one is given
-  abbrev pub IsRightBy : Option (KnownStore (FileStore D g)) → Trees → Played → Type 0
-  IsRightBy None trees played = IsAnswerOf trees played
-  IsRightBy (Some copy) trees played =
-      (copied : Institution) → StandsFor over_files copy copied → IsCopyAnswerOf copied trees played
+-- what is told of the play is right, from such a beginning
+abbrev pub IsRightBy : Beginning → Trees → Played → Type 0
+IsRightBy Founding trees played = IsAnswerOf trees played
+IsRightBy (Copy copy) trees played =
+    (copied : Institution) → StandsFor over_files copy copied → IsCopyAnswerOf copied trees played
+IsRightBy (Archives archives) trees played =
+    AreArchives archives.now → IsArchivedAnswerOf archives.now trees played
+
+-- and where the lines of archives are played before its own
+abbrev pub IsVerdictOver : List Archive → Database → Verdict → Type 0
+IsVerdictOver archives = IsVerdictBy (IsArchivedAnswerOf archives)
 
 -- while the connection is open, it shows this database
 pub record Shows (s : State) (db : Database) : Type 0 where
@@ -68,6 +76,7 @@ IsPassed (Some (NoFounding head)) = Unit {0}
 IsPassed (Some (Stops number why)) = ⊥
 IsPassed (Some (Differs difference)) = ⊥
 IsPassed (Some (OtherCopy head)) = ⊥
+IsPassed (Some (Lacks gap)) = ⊥
 
 -- the tables hold a sound institution, and its journal leads there, where it is played
 abbrev pub Passes : Verdict → Type 0
@@ -85,3 +94,7 @@ IsVerdictOfFile = IsFileVerdictBy IsAnswerOf
 -- and where it is played from a copy of this institution
 abbrev pub IsFileVerdictFrom : Institution → Image → Verdict → Type 0
 IsFileVerdictFrom copied = IsFileVerdictBy (IsCopyAnswerOf copied)
+
+-- and where the lines of archives are played before its own
+abbrev pub IsFileVerdictOver : List Archive → Image → Verdict → Type 0
+IsFileVerdictOver archives = IsFileVerdictBy (IsArchivedAnswerOf archives)

@@ -11,7 +11,8 @@ ghost use Rattle.mf_store_verdict.specs.Verdict.{IsRightBy};
 
 use mf_base::Fault;
 use mf_store::Store;
-use mf_store_played::{Played, play_tables, play_tables_from};
+use mf_store_archived::Archive;
+use mf_store_played::{Played, play_tables, play_tables_from, play_tables_over_archives};
 use mf_store_schema::{Version, version_of};
 use mf_store_sql::pages::PageStore;
 use sqlite::{Alter, Connection};
@@ -28,11 +29,22 @@ pub(crate) fn is_third(found: &Schema) -> bool
     }
 }
 
-/// What the play of the journal says of the tables beside it, from its founding, or from a copy where one is given.
+/// What a journal is played from.
+#[derive(Drop)]
+pub(crate) enum Beginning<'a> {
+    /// The founding at which it begins.
+    Founding,
+    /// A copy in memory of the institution over which it was begun.
+    Copy(Store<PageStore>),
+    /// The founding at which the first of the archives begins that lead to where it begins.
+    Archives(&'a [Archive]),
+}
+
+/// What the play of the journal says of the tables beside it, from such a beginning.
 fn play<S: Alter>(
     alloc: Global,
     connection: &mut Connection<S>,
-    copy: Option<Store<PageStore>>,
+    beginning: Beginning<'_>,
 ) -> Result<Played, Fault>
     requires alone { connection.old.in_transaction ≡ false }
     ensures kept { IsUnchangedUnder IsThird (state S.Store connection.old) (state S.Store connection.new) }
@@ -40,12 +52,13 @@ fn play<S: Alter>(
     ensures open { HasCleanDisk (state S.Store connection.new)
         → OnOk result (IsTrue (state S.Store connection.new).is_open) }
     ensures answer { HasCleanDisk (state S.Store connection.new) → IsThird (state S.Store connection.old).now.schema
-        → IfOk result (IsRightBy copy (state S.Store connection.old).now.trees) }
+        → IfOk result (IsRightBy beginning.entry (state S.Store connection.old).now.trees) }
     ensures mode { connection.new.in_transaction ≡ false }
 {
-    match copy {
-        None => play_tables(alloc, connection),
-        Some(copy) => play_tables_from(alloc, connection, copy),
+    match beginning {
+        Beginning::Founding => play_tables(alloc, connection),
+        Beginning::Copy(copy) => play_tables_from(alloc, connection, copy),
+        Beginning::Archives(archives) => play_tables_over_archives(alloc, connection, archives),
     }
 }
 
@@ -54,7 +67,7 @@ fn play<S: Alter>(
 pub(crate) fn play_known<S: Alter>(
     alloc: Global,
     connection: &mut Connection<S>,
-    copy: Option<Store<PageStore>>,
+    beginning: Beginning<'_>,
 ) -> Result<Played, Fault>
     requires alone { connection.old.in_transaction ≡ false }
     ensures kept { IsUnchangedUnder IsAny (state S.Store connection.old) (state S.Store connection.new) }
@@ -62,11 +75,11 @@ pub(crate) fn play_known<S: Alter>(
     ensures open { HasCleanDisk (state S.Store connection.new)
         → OnOk result (IsTrue (state S.Store connection.new).is_open) }
     ensures answer { HasCleanDisk (state S.Store connection.new) → IsThird (state S.Store connection.old).now.schema
-        → IfOk result (IsRightBy copy (state S.Store connection.old).now.trees) }
+        → IfOk result (IsRightBy beginning.entry (state S.Store connection.old).now.trees) }
     ensures mode { connection.new.in_transaction ≡ false }
 {
     if !is_third(connection.schema()) {
         return Err(Fault::F20);
     }
-    play(alloc, connection, copy)
+    play(alloc, connection, beginning)
 }

@@ -12,11 +12,13 @@ ghost use Rattle.mf_store_sound.specs.Told.{IsAny, HaveOwnRowids};
 ghost use Rattle.mf_store_audit.specs.Audits.{FindsSound, IsAuditOf};
 ghost use Rattle.mf_store.specs.Stands.{StandsFor};
 ghost use Rattle.mf_store_verdict.specs.Verdict.{FindsJournal, IsPassed, IsRightBy, Passes, Shows};
-ghost use Rattle.mf_store_verdict.specs.Verdict.{IsVerdictBy, IsVerdictFrom, IsVerdictOf};
+ghost use Rattle.mf_store_verdict.specs.Verdict.{IsVerdictBy, IsVerdictFrom, IsVerdictOf, IsVerdictOver};
+ghost use Rattle.mf_store_archived.specs.Joining.{AreArchives};
 
-use crate::playing::play_known;
+use crate::playing::{Beginning, play_known};
 use mf_base::Fault;
 use mf_store::Store;
+use mf_store_archived::Archive;
 use mf_store_audit::{Audit, audit_tables};
 use mf_store_played::Played;
 use mf_store_schema::{Progress, Version};
@@ -59,6 +61,7 @@ fn is_passed(played: &Option<Played>) -> bool
         None => true,
         Some(Played::Leads(_) | Played::NoFounding(_)) => true,
         Some(Played::Stops { .. } | Played::Differs(_) | Played::OtherCopy(_)) => false,
+        Some(Played::Lacks(_)) => false,
     }
 }
 
@@ -74,18 +77,18 @@ fn play_found<S: Alter>(
     alloc: Global,
     connection: &mut Connection<S>,
     audit: Audit,
-    copy: Option<Store<PageStore>>,
+    beginning: Beginning<'_>,
 ) -> Result<Verdict, Fault>
     requires alone { connection.old.in_transaction ≡ false }
     requires finds { FindsJournal audit }
     ensures kept { IsUnchangedUnder IsAny (state S.Store connection.old) (state S.Store connection.new) }
     ensures exact { HasCleanDisk (state S.Store connection.new) → (db : Database)
         → Shows (state S.Store connection.old) db → IsAuditOf db audit
-        → IfOk result (IsVerdictBy (IsRightBy copy) db) }
+        → IfOk result (IsVerdictBy (IsRightBy beginning.entry) db) }
     ensures gives_up { IfErr result (λ fault. fault ≡ F20) }
     ensures mode { connection.new.in_transaction ≡ false }
 {
-    match play_known(alloc, connection, copy) {
+    match play_known(alloc, connection, beginning) {
         Ok(played) => Ok(Verdict {
             audit,
             played: Some(played),
@@ -99,18 +102,18 @@ fn verdict_of<S: Alter>(
     alloc: Global,
     connection: &mut Connection<S>,
     audit: Audit,
-    copy: Option<Store<PageStore>>,
+    beginning: Beginning<'_>,
 ) -> Result<Verdict, Fault>
     requires alone { connection.old.in_transaction ≡ false }
     ensures kept { IsUnchangedUnder IsAny (state S.Store connection.old) (state S.Store connection.new) }
     ensures exact { HasCleanDisk (state S.Store connection.new) → (db : Database)
         → Shows (state S.Store connection.old) db → IsAuditOf db audit
-        → IfOk result (IsVerdictBy (IsRightBy copy) db) }
+        → IfOk result (IsVerdictBy (IsRightBy beginning.entry) db) }
     ensures gives_up { IfErr result (λ fault. fault ≡ F20) }
     ensures mode { connection.new.in_transaction ≡ false }
 {
     if finds_journal(&audit) {
-        return play_found(alloc, connection, audit, copy);
+        return play_found(alloc, connection, audit, beginning);
     }
     Ok(Verdict {
         audit,
@@ -118,23 +121,23 @@ fn verdict_of<S: Alter>(
     })
 }
 
-/// The verdict on the tables of a connection, from the founding of a journal or from a copy.
+/// The verdict on the tables of a connection, with a journal that is played from such a beginning.
 fn audit_with<S: Alter, P: Progress>(
     alloc: Global,
     connection: &mut Connection<S>,
-    copy: Option<Store<PageStore>>,
+    beginning: Beginning<'_>,
     all: bool,
     progress: &mut P,
 ) -> Result<Verdict, Fault>
     requires alone { connection.old.in_transaction ≡ false }
     ensures kept { IsUnchangedUnder IsAny (state S.Store connection.old) (state S.Store connection.new) }
     ensures exact { HasCleanDisk (state S.Store connection.new) → HaveOwnRowids (state S.Store connection.old).now
-        → IfOk result (IsVerdictBy (IsRightBy copy) (state S.Store connection.old).now) }
+        → IfOk result (IsVerdictBy (IsRightBy beginning.entry) (state S.Store connection.old).now) }
     ensures gives_up { IfErr result (λ fault. fault ≡ F20) }
     ensures mode { connection.new.in_transaction ≡ false }
 {
     match audit_tables(alloc, connection, all, progress) {
-        Ok(audit) => verdict_of(alloc, connection, audit, copy),
+        Ok(audit) => verdict_of(alloc, connection, audit, beginning),
         Err(fault) => Err(fault),
     }
 }
@@ -155,7 +158,7 @@ pub fn audit_and_play<S: Alter, P: Progress>(
     ensures gives_up { IfErr result (λ fault. fault ≡ F20) }
     ensures mode { connection.new.in_transaction ≡ false }
 {
-    audit_with(alloc, connection, None, all, progress)
+    audit_with(alloc, connection, Beginning::Founding, all, progress)
 }
 
 /// As `audit_and_play`, but the journal is played from a copy in memory of the institution over which it was begun, and
@@ -175,5 +178,31 @@ pub fn audit_and_play_from<S: Alter, P: Progress>(
     ensures gives_up { IfErr result (λ fault. fault ≡ F20) }
     ensures mode { connection.new.in_transaction ≡ false }
 {
-    audit_with(alloc, connection, Some(copy), all, progress)
+    audit_with(alloc, connection, Beginning::Copy(copy), all, progress)
+}
+
+/// As `audit_and_play`, but of a journal whose first lines were moved to archives: the lines of the archives that lead to
+/// where it begins are played before its own.
+pub fn audit_and_play_over<S: Alter, P: Progress>(
+    alloc: Global,
+    connection: &mut Connection<S>,
+    archives: &[Archive],
+    all: bool,
+    progress: &mut P,
+) -> Result<Verdict, Fault>
+    requires alone { connection.old.in_transaction ≡ false }
+    ensures kept { IsUnchangedUnder IsAny (state S.Store connection.old) (state S.Store connection.new) }
+    ensures exact { HasCleanDisk (state S.Store connection.new) → HaveOwnRowids (state S.Store connection.old).now
+        → AreArchives archives.now
+        → IfOk result (IsVerdictOver archives.now (state S.Store connection.old).now) }
+    ensures gives_up { IfErr result (λ fault. fault ≡ F20) }
+    ensures mode { connection.new.in_transaction ≡ false }
+{
+    audit_with(
+        alloc,
+        connection,
+        Beginning::Archives(archives),
+        all,
+        progress,
+    )
 }

@@ -12,9 +12,13 @@ use crate::telling::{
 };
 use crate::why::{words_of, words_of_place};
 use mf_base::Fault;
+use mf_store_archived::Unread;
 use mf_store_audit::Audit;
-use mf_store_verdict::{Unaudited, Verdict, audit_file, audit_from_copy, passes};
-use microloan_audit::verdict_text;
+use mf_store_verdict::{
+    Unaudited, Unopened, Verdict, audit_file, audit_from_copy, audit_over_archives, passes,
+    read_archives,
+};
+use microloan_audit::{unread_archive_text, verdict_text};
 use std::rt::HostRuntime;
 
 /// Prints what an institution's rows come to and what the play of its journal says of them, or which row breaks which
@@ -79,6 +83,66 @@ fn say_rows_from(rt: &HostRuntime, file: &str, copy: &str, all: bool) -> u8
         Ok(verdict) => say(rt, &verdict),
         Err(Unaudited::Copy(refused)) => refuse(rt, words_of_copy(refused)),
         Err(Unaudited::File(finding)) => refuse(rt, words_of(finding)),
+    }
+}
+
+/// The same, but the lines of the archives in a folder are played before the file's own. A file that keeps no journal is
+/// refused then.
+pub fn say_audit_over(rt: &HostRuntime, file: &str, folder: &str, all: bool) -> u8
+    ensures { IsPrintStatus result }
+{
+    match place_at(rt, file) {
+        Place::Database => say_rows_over(rt, file, folder, all),
+        place if place.is_vacant() => tell_no_institution(rt),
+        place => refuse(rt, words_of_place(place)),
+    }
+}
+
+/// Prints the verdict on a database whose journal is played over archives, and gives the program's status.
+fn say_rows_over(rt: &HostRuntime, file: &str, folder: &str, all: bool) -> u8
+    ensures { IsPrintStatus result }
+{
+    let archives = match read_archives(rt, folder) {
+        Ok(archives) => archives,
+        Err(unopened) => return refuse_archives(rt, folder, &unopened),
+    };
+    match audit_over_archives(rt, file, &archives, all, &mut Following::new(rt, file)) {
+        Ok(verdict) if is_unplayed(&verdict) => tell_no_journal(rt),
+        Ok(verdict) => say(rt, &verdict),
+        Err(finding) => refuse(rt, words_of(finding)),
+    }
+}
+
+/// Says why the archives in a folder aren't read, and gives the program's status.
+fn refuse_archives(rt: &HostRuntime, folder: &str, unopened: &Unopened) -> u8
+    ensures { IsPrintStatus result }
+{
+    match unopened {
+        Unopened::Folder => refuse(rt, "the folder of the archives can't be read"),
+        Unopened::File { name, why: None } => {
+            let name = name.as_str();
+            let _said = print_line(rt, format_args!("audit: {folder}/{name}: it can't be read"));
+            tell_refusal(rt, Fault::F20)
+        }
+        Unopened::File {
+            name,
+            why: Some(why),
+        } => say_unread(rt, folder, name.as_str(), *why),
+    }
+}
+
+/// Says why no archive is made of a file in a folder, and gives the program's status.
+fn say_unread(rt: &HostRuntime, folder: &str, name: &str, why: Unread) -> u8
+    ensures { IsPrintStatus result }
+{
+    let Ok(words) = unread_archive_text(rt.alloc(), why) else {
+        return tell_refusal(rt, Fault::F20);
+    };
+    let words = words.as_str();
+    let _said = print_line(rt, format_args!("audit: {folder}/{name}: {words}"));
+    match why {
+        Unread::Failed(_) => tell_refusal(rt, Fault::F20),
+        _ => FAULT,
     }
 }
 

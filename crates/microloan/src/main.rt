@@ -18,7 +18,7 @@ ghost use Rattle.microloan_commands.specs.Printed.{HasLongGrace};
 ghost use Rattle.microloan.specs.Status.{IsPrintStatus};
 
 use crate::archiving::Archiving;
-use crate::auditing::{say_audit, say_audit_from};
+use crate::auditing::{say_audit, say_audit_from, say_audit_over};
 use crate::following::Following;
 use crate::ledger::{basis_asked, copy_asked, form_asked, names_in};
 use crate::places::place_at;
@@ -78,14 +78,16 @@ fn obey(rt: &HostRuntime, words: &[String]) -> u8 {
     }
 }
 
-/// Audits a file, and plays its journal from its founding, or from the copy that is named.
+/// Audits a file, and plays its journal from its founding, or from the copy that is named, or over the archives in the
+/// folder that is named.
 fn audit(rt: &HostRuntime, asked: &AuditWords<'_>) -> u8
     ensures { IsPrintStatus result }
 {
     let file = asked.file.as_str();
-    match &asked.from {
-        None => say_audit(rt, file, asked.all),
-        Some(copy) => say_audit_from(rt, file, copy.as_str(), asked.all),
+    match (&asked.from, &asked.archives) {
+        (Some(copy), _) => say_audit_from(rt, file, copy.as_str(), asked.all),
+        (None, Some(folder)) => say_audit_over(rt, file, folder.as_str(), asked.all),
+        (None, None) => say_audit(rt, file, asked.all),
     }
 }
 

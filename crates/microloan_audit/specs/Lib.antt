@@ -1,3 +1,4 @@
+pub mod Archives
 pub mod Journal
 pub mod Lines
 pub mod Played

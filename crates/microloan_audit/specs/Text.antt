@@ -11,7 +11,9 @@ use Rattle.mf_store_audit.specs.declared.journal.BrokenJournal.{BrokenJournal}
 use Rattle.mf_store_audit.specs.declared.unread.Unread.{Unread}
 use Rattle.mf_store_played.specs.declared.played.Played.{Played}
 use Rattle.mf_store_played.specs.declared.played.Played.TheVariants.{Leads, NoFounding, Stops, Differs, OtherCopy}
+use Rattle.mf_store_played.specs.declared.played.Played.TheVariants.{Lacks}
 use Rattle.mf_store_verdict.specs.declared.verdict.Verdict.{Verdict}
+use Rattle.microloan_audit.specs.Archives.{gap_line}
 use Rattle.microloan_audit.specs.Journal.{journal_line}
 use Rattle.microloan_audit.specs.Lines.{finding_line}
 use Rattle.microloan_audit.specs.Played.{difference_line, leads_line, other_copy_line, stop_line, unplayed_line}
@@ -51,7 +53,7 @@ audit_text = text_ending (codes "sound")
 
 -- What a verdict prints: of sound tables to which their journal leads, or whose journal begins at no founding, that in
 -- the last line. Else the line at which the play stops, or the first row that it doesn't give, or that the journal was
--- begun over other rows than the copy's.
+-- begun over other rows than the copy's, or which archive is missing.
 abbrev pub text_played : Audit → Option Played → List ℕ
 text_played found None = audit_text found
 text_played found (Some (Leads head)) = text_ending (leads_line head) found
@@ -59,6 +61,7 @@ text_played found (Some (NoFounding head)) = text_ending (unplayed_line head) fo
 text_played found (Some (Stops number why)) = audit_line (stop_line number why)
 text_played found (Some (Differs difference)) = audit_line (difference_line difference)
 text_played found (Some (OtherCopy head)) = audit_line (other_copy_line head)
+text_played found (Some (Lacks gap)) = audit_line (gap_line gap)
 
 -- the same of a verdict
 abbrev pub verdict_text : Verdict → List ℕ

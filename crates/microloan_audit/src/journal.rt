@@ -21,7 +21,7 @@ fn break_words(flaw: Break) -> &'static str
 }
 
 /// The line by its number, and what is wrong with it.
-fn flaw_line(alloc: Global, flaw: Flaw) -> Result<String, Fault>
+pub(crate) fn flaw_line(alloc: Global, flaw: Flaw) -> Result<String, Fault>
     ensures text { IfOk result (λ text. string_bytes text ≡ spec.flaw_line flaw) }
     ensures only { IsOkUnless result Fault.F20 }
 {

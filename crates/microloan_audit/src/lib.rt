@@ -1,6 +1,7 @@
 //! What an audit prints: which row breaks which condition, or what the rows of a sound institution come to.
 #![tactic(auto)]
 
+mod archives;
 mod catalogue;
 mod entries;
 mod journal;
@@ -14,5 +15,6 @@ mod sums;
 mod text;
 mod unread;
 
+pub use archives::unread_archive_text;
 pub use played::head_text;
 pub use text::{audit_text, verdict_text};

@@ -4,6 +4,7 @@ ghost use Rattle.std.specs.Prelude.{◌≡◌, ◌++◌, Some, string_bytes, IfO
 ghost use Rattle.microloan_audit.specs.Lines.{finding_line};
 ghost use Rattle.microloan_audit.specs.Text as spec;
 
+use crate::archives::gap_line;
 use crate::journal::journal_line;
 use crate::line::finding_line;
 use crate::played::{difference_line, leads_line, other_copy_line, stop_line, unplayed_line};
@@ -61,6 +62,10 @@ fn text_played(alloc: Global, audit: &Audit, played: &Played) -> Result<String, 
         }
         Played::OtherCopy(head) => {
             let line = other_copy_line(alloc, *head)?;
+            audit_line(alloc, line.as_str())
+        }
+        Played::Lacks(gap) => {
+            let line = gap_line(alloc, *gap)?;
             audit_line(alloc, line.as_str())
         }
     }

@@ -1,5 +1,5 @@
 -- What the program is asked to do, as it follows from the words.
-use Rattle.std.specs.Prelude.{◌≡◌, ℕ, ◌<◌, ◌≤◌, ◌==◌, Bool, true, false, IsTrue, List, length, codes, Option, Some, None}
+use Rattle.std.specs.Prelude.{◌≡◌, ◌⊎◌, ℕ, ◌<◌, ◌≤◌, ◌==◌, Bool, true, false, IsTrue, List, length, codes, Option, Some, None}
 use Rattle.std.specs.Prelude.{is_some, IfSome, Result, Ok, IfOk, IfErr, if◌then◌else◌}
 use Rattle.std.specs.Str.Parse.{IsNumeral, digits_value, without_leading_plus}
 use Rattle.clap.specs.Words.{Row, Text, Kinds, first_of, subcommand_of, fault_of}
@@ -133,6 +133,8 @@ pub record AreAuditWords (rows : List Row) (asked : AuditWords) : Type 0 where
   pub file : first_of (codes "file") rows ≡ Some asked.file
   pub all : first_of (codes "all") rows ≡ Some (flag_text asked.all)
   pub from : first_of (codes "from") rows ≡ asked.from
+  pub archives : first_of (codes "archives") rows ≡ asked.archives
+  pub one : (asked.from ≡ None) ⊎ (asked.archives ≡ None)
 
 -- the options of `upgrade`
 pub record AreUpgradeWords (rows : List Row) (asked : UpgradeWords) : Type 0 where

@@ -93,6 +93,7 @@ audit_app = app_with (codes "audit") (
     required_rule (codes "file")
     ∷ flag_rule (codes "all")
     ∷ option_rule (codes "from")
+    ∷ option_rule (codes "archives")
     ∷ [])
 
 -- `upgrade` with its options

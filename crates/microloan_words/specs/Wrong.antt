@@ -1,5 +1,5 @@
 -- Which option is told to be wrong: the first that isn't as it should be, in the order in which the command takes them.
-use Rattle.std.specs.Prelude.{◌≡◌, ◌⊎◌, ℕ, Bool, true, List, [], ◌∷◌, codes, Option, Some, is_some}
+use Rattle.std.specs.Prelude.{◌≡◌, ◌⊎◌, ℕ, Bool, true, List, [], ◌∷◌, codes, Option, Some, None, is_some}
 use Rattle.clap.specs.Words.{Row, Text, first_of}
 use Rattle.mf_base.specs.Choices.{frequency_name}
 use Rattle.mf_base.specs.declared.day.Freq.{Freq}
@@ -12,6 +12,7 @@ use Rattle.microloan_words.specs.Asked.{most_patience, IsSpanAt, IsFormAt}
 use Rattle.microloan_words.specs.declared.asked.LedgerForm.{LedgerForm}
 use Rattle.microloan_words.specs.declared.reading.Wrong.{Wrong}
 use Rattle.microloan_words.specs.declared.reading.Wrong.TheVariants.{File, Existing, Journal, All, Port, Count}
+use Rattle.microloan_words.specs.declared.reading.Wrong.TheVariants.{Beginning}
 use Rattle.microloan_words.specs.declared.reading.Wrong.TheVariants.{Patience, Staff, Method as MethodOption, Principal}
 use Rattle.microloan_words.specs.declared.reading.Wrong.TheVariants.{Rate, Periods, Day, Frequency, Every}
 use Rattle.microloan_words.specs.declared.reading.Wrong.TheVariants.{PrincipalGrace, InterestGrace, Told, ToldOfLines}
@@ -39,6 +40,7 @@ IsRight rows Told = IsFlag rows (codes "told")
 IsRight rows ToldOfLines = IsToldWell rows
 IsRight rows Lists = IsFlag rows (codes "lists")
 IsRight rows All = IsFlag rows (codes "all")
+IsRight rows Beginning = (first_of (codes "from") rows ≡ None) ⊎ (first_of (codes "archives") rows ≡ None)
 IsRight rows From = (day : ℕ) × IsDayAt rows (codes "from") day
 IsRight rows To = (day : ℕ) × IsDayAt rows (codes "to") day
 IsRight rows Span = (first : ℕ) × (last : ℕ) × IsSpanAt rows first last
@@ -86,7 +88,7 @@ file_options = File ∷ []
 
 -- of `audit`
 abbrev pub audit_options : List Wrong
-audit_options = File ∷ All ∷ []
+audit_options = File ∷ All ∷ Beginning ∷ []
 
 -- of `upgrade`
 abbrev pub upgrade_options : List Wrong

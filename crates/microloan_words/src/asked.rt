@@ -180,6 +180,8 @@ pub struct AuditWords<'a> {
     pub all: bool,
     /// The copy from which the journal is played, where one is named.
     pub from: Option<FilePath<'a>>,
+    /// The folder with the archives of the journal's first lines, where one is named. Then no copy is.
+    pub archives: Option<FilePath<'a>>,
 }
 
 /// The options of `upgrade`.

@@ -147,7 +147,7 @@ const REPORT_OPTIONS: [CommandOption; 3] = [FILE, STAFF, EXISTING];
 const FILE_OPTIONS: [CommandOption; 1] = [FILE];
 
 /// The options of `audit`.
-const AUDIT_OPTIONS: [CommandOption; 3] = [
+const AUDIT_OPTIONS: [CommandOption; 4] = [
     FILE,
     CommandOption {
         id: "all",
@@ -159,6 +159,12 @@ const AUDIT_OPTIONS: [CommandOption; 3] = [
         id: "from",
         value_name: "COPY",
         help: "The copy over which the journal was begun",
+        need: Need::Optional,
+    },
+    CommandOption {
+        id: "archives",
+        value_name: "FOLDER",
+        help: "The folder with the archives of its first lines",
         need: Need::Optional,
     },
 ];
@@ -510,9 +516,11 @@ fn audit_command<'a>(alloc: Global) -> Result<Command<'a>, AllocError>
          status is 1. A journal is played, too: its lines are answered again in memory,\n\
          and a line says which row they don't give, or which of them doesn't play.\n\
          Where upgrade --journal began it, --from names the copy of before, to play it\n\
-         over. Nothing is changed. Audit a copy: the file is held meanwhile.\n\n\
+         over. Where its first lines were archived, --archives names the folder with the\n\
+         archives. Nothing is changed. Audit a copy: the file is held meanwhile.\n\n\
          Example:\n  microloan audit --file copy.db\n  \
-         microloan audit --file copy.db --from before-the-journal.db",
+         microloan audit --file copy.db --from before-the-journal.db\n  \
+         microloan audit --file copy.db --archives archives",
     );
     with_options(alloc, command, AUDIT_OPTIONS.as_slice())
 }

@@ -1,6 +1,6 @@
 //! A command's options read from what clap found.
 
-ghost use Rattle.std.specs.Prelude.{◌≡◌, ◌≤◌, ℕ, IfOk, IfErr, Option, Ok};
+ghost use Rattle.std.specs.Prelude.{◌≡◌, ◌⊎◌, ◌↔◌, ◌≤◌, ℕ, IsTrue, IfOk, IfErr, Option, Ok, None};
 ghost use Rattle.clap.specs.Words.{Text, found_of, rows_of};
 ghost use Rattle.mf_base.specs.DayText.{last_entered_day};
 ghost use Rattle.microloan_words.specs.Asked.{AreBatchWords, AreServeWords, AreCollectWords, AreStaffWords};
@@ -28,7 +28,7 @@ ghost use Rattle.microloan_words.specs.declared.asked.PortionsWords.{PortionsWor
 ghost use Rattle.microloan_words.specs.declared.asked.ScheduleWords.{ScheduleWords};
 
 use crate::asked::{
-    ArchiveWords, AuditWords, BatchWords, CollectWords, DaySpan, FileWords, LedgerForm,
+    ArchiveWords, AuditWords, BatchWords, CollectWords, DaySpan, FilePath, FileWords, LedgerForm,
     LedgerWords, PortionsWords, ScheduleWords, ServeWords, StaffWords, ToldText, UpgradeWords,
 };
 use crate::values::{
@@ -50,6 +50,8 @@ pub(crate) enum Wrong {
     ToldOfLines,
     Lists,
     All,
+    /// A copy and a folder of archives are named.
+    Beginning,
     From,
     To,
     /// The first day of a span is after the last.
@@ -215,6 +217,16 @@ pub(crate) fn file_words<'a>(options: &ArgMatches<'a>) -> Result<FileWords<'a>, 
     }
 }
 
+/// Whether no copy is named, or no folder of archives.
+fn is_one_beginning(copy: &Option<FilePath<'_>>, archives: &Option<FilePath<'_>>) -> bool
+    ensures { IsTrue result ↔ ((copy.now ≡ None) ⊎ (archives.now ≡ None)) }
+{
+    match (copy, archives) {
+        (Some(_), Some(_)) => false,
+        _ => true,
+    }
+}
+
 /// The options of `audit`, or the first that isn't what it should be.
 pub(crate) fn audit_words<'a>(options: &ArgMatches<'a>) -> Result<AuditWords<'a>, Wrong>
     ensures read { IfOk result (λ asked. AreAuditWords (rows_of (found_of options.now)) asked) }
@@ -224,7 +236,16 @@ pub(crate) fn audit_words<'a>(options: &ArgMatches<'a>) -> Result<AuditWords<'a>
     let file = file_at(options).ok_or(Wrong::File)?;
     let all = flag_at(options, "all").ok_or(Wrong::All)?;
     let from = path_at(options, "from");
-    Ok(AuditWords { file, all, from })
+    let archives = path_at(options, "archives");
+    if !is_one_beginning(&from, &archives) {
+        return Err(Wrong::Beginning);
+    }
+    Ok(AuditWords {
+        file,
+        all,
+        from,
+        archives,
+    })
 }
 
 /// The options of `upgrade`, or the first that isn't what it should be.

@@ -21,6 +21,7 @@ fn wants(wrong: Wrong) -> &'static str {
         Wrong::ToldOfLines => "--told wants 1 to 100 printed characters of ASCII",
         Wrong::Lists => "--lists wants the --file that holds the institution",
         Wrong::All => "--all has no value",
+        Wrong::Beginning => "--from and --archives are two beginnings; name one of them",
         Wrong::Port => "--port wants a number from 1 to 65535",
         Wrong::Count => "--count wants a number of connections, or 0 for no end",
         Wrong::Patience => "--patience wants a number of seconds from 1 to 3600",

@@ -217,13 +217,20 @@ fn reads_which_file_to_look_into(rt: HostRuntime) -> Result<(), Fail> {
         return Err(Fail::from("a file to look into"));
     };
     assert_eq!(rt; asked.file.as_str(), "desk.db");
-    for (line, all, from) in [
-        ("microloan audit --file desk.db", false, None),
-        ("microloan audit --file desk.db --all", true, None),
+    for (line, all, from, archives) in [
+        ("microloan audit --file desk.db", false, None, None),
+        ("microloan audit --file desk.db --all", true, None, None),
         (
             "microloan audit --file desk.db --from old.db",
             false,
             Some("old.db"),
+            None,
+        ),
+        (
+            "microloan audit --archives parts --file desk.db",
+            false,
+            None,
+            Some("parts"),
         ),
     ] {
         let words = words_of(alloc, line)?;
@@ -237,6 +244,11 @@ fn reads_which_file_to_look_into(rt: HostRuntime) -> Result<(), Fail> {
             None => None,
         };
         assert!(rt; named == from);
+        let folder = match &asked.archives {
+            Some(path) => Some(path.as_str()),
+            None => None,
+        };
+        assert!(rt; folder == archives);
     }
     Ok(())
 }
@@ -372,7 +384,7 @@ fn reads_which_portions_to_add_up(rt: HostRuntime) -> Result<(), Fail> {
 }
 
 /// Words that are wrong, and what is said of them.
-const WRONG: [(&str, &str); 32] = [
+const WRONG: [(&str, &str); 33] = [
     (
         "microloan",
         "microloan: name a command: batch, serve, collect, report, schedule, why, audit, upgrade, archive, \
@@ -397,6 +409,10 @@ const WRONG: [(&str, &str); 32] = [
     (
         "microloan ledger --file f --from 2024-01-01 --to 2024-01-31 --csv --beancount",
         "microloan: --csv and --beancount are two forms; name one of them; see 'microloan ledger --help'",
+    ),
+    (
+        "microloan audit --file f --from g --archives h",
+        "microloan: --from and --archives are two beginnings; name one of them; see 'microloan audit --help'",
     ),
     (
         "microloan archive --file f --to 2024-02-30 --into g",

@@ -19,5 +19,5 @@ pub returns-clause-kept : goal.returns-clause-kept
 returns-clause-kept g c = unchanged_any (state g.S.Store c.args.connection.now)
 
 pub returns-clause-exact : goal.returns-clause-exact
-returns-clause-exact g c clean db shows told = verdict_unplayed (IsRightBy c.args.copy) db c.args.audit
+returns-clause-exact g c clean db shows told = verdict_unplayed (IsRightBy c.args.beginning) db c.args.audit
     (not_found c.args.audit c.finds_journal.result c.finds_journal.ensures c.if-finds_journal.false) told

@@ -1,0 +1,3 @@
+pub mod AllLemmas
+pub mod CheckLemmas
+pub mod JoinLemmas
