@@ -40,7 +40,7 @@ fn put(kept: &mut Vec<char>, c: char) -> Result<(), AllocError>
 fn without_accents(alloc: Global, all: &[char]) -> Result<Vec<char>, AllocError>
     ensures { IfOk result (λ kept. kept.items ≡ without_accents all.now) }
 {
-    let mut kept = Vec::new(alloc);
+    let mut kept = Vec::with_capacity(alloc, all.len())?;
     for c in all {
         put(&mut kept, *c)?;
     }

@@ -1,6 +1,6 @@
 -- What is due of the loans of an office.
-use Rattle.std.proofs.Common.{◌≡◌, ◌+◌, ℕ, Bool, true, false, true≢false, cond, ◌&&◌, ◌||◌, nat_le, nat_lt, List, []}
-use Rattle.std.proofs.Common.{◌∷◌, map, filter, take, Some, refl, sym, ap, ap₂, ◌∙◌, arith}
+use Rattle.std.proofs.Common.{◌≡◌, ◌+◌, ◌≤◌, ℕ, Bool, true, false, true≢false, cond, ◌&&◌, ◌||◌, nat_le, nat_lt}
+use Rattle.std.proofs.Common.{List, [], ◌∷◌, map, filter, take, Some, refl, sym, ap, ap₂, ◌∙◌, arith}
 use Rattle.std.specs.Prelude.{sum_by}
 use Rattle.std.specs.List.{enumerate_from, flat_map, list_any}
 use Rattle.std.proofs.lemmas.List.Sums.{sum_by-cons}
@@ -14,7 +14,8 @@ use Rattle.mf_model.specs.Sound.{IsSound}
 use Rattle.mf_model.specs.Store.{ledger_at}
 use Rattle.mf_store_lists.specs.Due.{due_told, is_row_due, portion_of, portions_of}
 use Rattle.mf_store_lists.proofs.CountLemmas.{active_is}
-use Rattle.mf_store_lists.proofs.ToldLemmas.{told_chosen, both_chosen}
+use Rattle.mf_store_lists.specs.Told.{told_if}
+use Rattle.mf_store_lists.proofs.ToldLemmas.{told_chosen, both_chosen, early_not}
 
 -- the lines that are told are those of the definition
 pub dues_told : (day after : ℕ) (k : Catalogue) (rows : Rows)
@@ -99,3 +100,9 @@ pub portions_are : (day : ℕ) (k : Catalogue) (l : Ledger) → portions_of day 
     ≡ portion_due 0 day k l ∷ portion_due 1 day k l ∷ portion_due 2 day k l ∷ portion_due 3 day k l ∷ []
 portions_are day k l = λ t. portion_is 0 day k l t ∷ portion_is 1 day k l t ∷ portion_is 2 day k l t
     ∷ portion_is 3 day k l t ∷ []
+
+-- none is told whose number isn't above one
+pub none_due_before : (day after : ℕ) (k : Catalogue) (rows : Rows) (n : ℕ) (l : Ledger) → n ≤ after
+    → due_told day after k rows (n, l) ≡ []
+none_due_before day after k rows n l low =
+    ap (λ b. told_if b (due_line day k rows (n, l))) (early_not after n (is_due day k l) low)

@@ -237,3 +237,8 @@ found_counted office part named i sound names =
     (filter_same (sought_by office part named i) (is_found folded office part rows) all
     (mapped_all (λ c low. sought_is office part named i sound names c low) all
     (in_range 1 rows.clients (omega arith) (omega (arith, few)))))
+
+-- where none of them is told, none is counted
+pub none_mapped : {A B C : Type 0} (f : A → B) (g : A → C) (xs : List A) → map f xs ≡ [] → [] ≡ map g xs
+none_mapped f g [] none = refl
+none_mapped f g (x ∷ xs) none = absurd (cc)

@@ -1,9 +1,11 @@
 pub mod NumberedLemmas
 pub mod ToldLemmas
+pub mod LookedUpLemmas
 pub mod StageLemmas
 pub mod ChangeLemmas
 pub mod DayLemmas
 pub mod ClientLoanLemmas
+pub mod BoundsLemmas
 pub mod CountLemmas
 pub mod DueLemmas
 pub mod FindingLemmas

@@ -1,11 +1,12 @@
 -- How the loans of clients are counted, a loan at a time.
-use Rattle.std.specs.Prelude.{ℕ, ◌+◌, Bool, true, false, cond, ◌&&◌, ◌==◌, List}
+use Rattle.std.specs.Prelude.{ℕ, ◌+◌, ◌≤◌, Bool, true, false, cond, ◌&&◌, ◌==◌, List}
 use Rattle.std.specs.List.{count_by}
 use Rattle.mf_lists.specs.declared.lines.ClientLine.{ClientLine}
 use Rattle.mf_lists.specs.Lists.{is_active, is_of_client, is_overdue, is_waiting}
 use Rattle.mf_model.specs.declared.loan.Stage.{Stage}
 use Rattle.mf_model.specs.declared.loan.Stage.TheVariants.{Submitted, Approved, Disbursed, Withdrawn, Rejected}
 use Rattle.mf_model.specs.Institution.{Catalogue, Ledger}
+use Rattle.mf_store_lists.specs.declared.clients.Bounds.{Bounds}
 use Rattle.mf_store_lists.specs.declared.clients.LoanCount.{LoanCount}
 
 -- at this stage a loan waits for its approval or for its disbursement
@@ -55,3 +56,7 @@ with_count client count line = cond (client == line.number) (record line {
   active = one_more line.active count.active;
   overdue = one_more line.overdue count.overdue;
 }) line
+
+-- a number that bounds allow
+abbrev pub IsBetween : Bounds → ℕ → Type 0
+IsBetween b n = (b.low ≤ n) × (n ≤ b.high)

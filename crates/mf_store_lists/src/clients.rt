@@ -1,31 +1,32 @@
 //! The clients of an office, with the counts of their loans.
 
 ghost use Rattle.std.specs.Prelude.{◌≡◌, ◌++◌, ◌+◌, ◌∷◌, [], ◌==◌, ◌&&◌, ◌≤◌, ℕ, List, length, map, take};
-ghost use Rattle.std.specs.Prelude.{nat_lt, Some, IfOk, IfErr, OnOk};
-ghost use Rattle.std.specs.List.{AllByRecursion, flat_map, list_any};
+ghost use Rattle.std.specs.Prelude.{nat_lt, Some, IfOk, IfErr, OnOk, IsTrue};
+ghost use Rattle.std.specs.List.{AllByRecursion, enumerate_from, flat_map, list_any};
 ghost use Rattle.mf_base.specs.declared.fault.Fault.TheVariants.{F20};
 ghost use Rattle.mf_arrears.specs.Ageing.{days_overdue};
 ghost use Rattle.mf_lists.specs.declared.lines.ClientLine.{ClientLine};
 ghost use Rattle.mf_lists.specs.Lists.{clients_after, counted_client};
-ghost use Rattle.mf_model.specs.Institution.{Institution, Ledger};
+ghost use Rattle.mf_model.specs.Institution.{Institution, Ledger, item_numbered};
 ghost use Rattle.mf_model.specs.Store.{ledger_at, rows_at};
 ghost use Rattle.mf_store.specs.Stands.{StandsFor, IsClean, Stays, AsksTables, MayAskTables};
-ghost use Rattle.mf_store_lists.specs.Counted.{counted_by, loan_count, one_more, uncounted, waits, with_count};
+ghost use Rattle.mf_store_lists.specs.Counted.{IsBetween, counted_by, loan_count, one_more, uncounted, waits};
+ghost use Rattle.mf_store_lists.specs.Counted.{with_count};
 ghost use Rattle.mf_store_lists.specs.Told.{told_if};
 ghost use Rattle.mf_store_schema.specs.Rows.{client_row, loan_row};
 ghost use Rattle.mf_store_values.specs.Flat.{client_in, loan_in};
 
-use crate::loans::instalments_of;
+use crate::loans::{account_number, instalments_of};
 use mf_alloc::Instalment;
 use mf_arrears::arrears;
 use mf_base::{Day, Fault};
 use mf_lists::ClientLine;
 use mf_model::{Loan, Stage};
-use mf_office::{Account, AccountNo, OfficeNo};
+use mf_office::{Account, OfficeNo};
 use mf_statement::Listing;
 use mf_store::Store;
 use mf_store_schema::{ClientRow, LoanRow, read_row};
-use mf_store_values::{is_active, loan_in_row};
+use mf_store_values::{is_active, loan_in_row, or_give_up};
 use sqlite::{Alter, Row};
 use std::alloc::Global;
 
@@ -35,6 +36,13 @@ pub(crate) struct LoanCount {
     waiting: bool,
     active: bool,
     overdue: bool,
+}
+
+/// The least and the greatest that some numbers may be.
+#[derive(Clone, Copy)]
+pub(crate) struct Bounds {
+    low: u32,
+    high: u32,
 }
 
 /// Whether a loan waits for its approval or for its disbursement.
@@ -116,19 +124,72 @@ fn count_among(lines: &mut [ClientLine], client: u32, count: LoanCount) -> Resul
     Ok(())
 }
 
+/// Bounds with one more number between them.
+fn widened(bounds: Bounds, number: u32) -> Bounds
+    ensures low { result.low ≤ bounds.low }
+    ensures high { bounds.high ≤ result.high }
+    ensures between { IsBetween result number }
+{
+    let low = if number < bounds.low {
+        number
+    } else {
+        bounds.low
+    };
+    let high = if bounds.high < number {
+        number
+    } else {
+        bounds.high
+    };
+    Bounds { low, high }
+}
+
+/// Bounds between which the numbers of the lines' clients lie.
+fn bounds_of(lines: &[ClientLine]) -> Bounds
+    ensures { AllByRecursion (λ (line : ClientLine). IsBetween result line.number) lines.now }
+{
+    let mut bounds = Bounds {
+        low: u32::MAX,
+        high: 0,
+    };
+    for line in lines {
+        bounds = widened(bounds, line.number.get());
+    }
+    bounds
+}
+
+/// Whether a number doesn't lie between bounds.
+fn is_outside(bounds: Bounds, number: u32) -> bool
+    ensures { IsTrue result → ¬ IsBetween bounds number }
+{
+    number < bounds.low || bounds.high < number
+}
+
 /// Whether one of the lines is a client's.
-fn is_listed(lines: &[ClientLine], client: u32) -> bool
+fn is_among(lines: &[ClientLine], client: u32) -> bool
     ensures { result ≡ list_any (λ (line : ClientLine). client == line.number) lines.now }
 {
     lines.iter().any(|line| client == line.number.get())
 }
 
-/// Counts a row's loan among the lines, where one of them is its client's. At an error they say nothing.
+/// The same of lines whose clients' numbers lie between bounds, as those of most loans don't.
+fn is_listed(lines: &[ClientLine], bounds: Bounds, client: u32) -> bool
+    ensures { AllByRecursion (λ (line : ClientLine). IsBetween bounds line.number) lines.now
+        → result ≡ list_any (λ (line : ClientLine). client == line.number) lines.now }
+{
+    if is_outside(bounds, client) {
+        return false;
+    }
+    is_among(lines, client)
+}
+
+/// Counts a row's loan among the lines, where one of them is its client's. Their numbers lie between bounds. At an
+/// error the lines say nothing.
 fn count_row<S: Alter>(
     alloc: Global,
     store: &mut Store<S>,
     row: &Row,
     today: Day,
+    bounds: Bounds,
     lines: &mut [ClientLine],
 ) -> Result<(), Fault>
     ensures asks { MayAskTables S.Store store.old store.new result }
@@ -136,12 +197,12 @@ fn count_row<S: Alter>(
         → today ≡ i.catalogue.day → (office : ℕ) (l : ℕ × Ledger) → row.now ≡ loan_row (loan_in office l.0 l.1.loan)
         → ledger_at (record { office = office; number = l.0 }) i ≡ Some l.1
         → (loans : List Ledger) (clients : List (ℕ × List ℕ))
-        → lines.old ≡ map (counted_by i.catalogue loans) clients
+        → lines.old ≡ map (counted_by i.catalogue loans) clients → AllByRecursion (λ c. IsBetween bounds c.0) clients
         → OnOk result (lines.new ≡ map (counted_by i.catalogue (loans ++ l.1 ∷ [])) clients) }
 {
     let (account, loan) = loan_in_row(row)?;
     let client = loan.client.get();
-    if !is_listed(lines, client) {
+    if !is_listed(lines, bounds, client) {
         return Ok(());
     }
     let count = count_of(alloc, store, account, &loan, today)?;
@@ -165,8 +226,9 @@ fn count_rows<S: Alter>(
         → (clients : List (ℕ × List ℕ)) → lines.old ≡ map uncounted clients
         → OnOk result (lines.new ≡ map (counted_by i.catalogue (map (λ l. l.1) ls)) clients) }
 {
+    let bounds = bounds_of(lines);
     for row in rows {
-        count_row(alloc, store, row, today, lines)?;
+        count_row(alloc, store, row, today, bounds, lines)?;
     }
     Ok(())
 }
@@ -189,17 +251,6 @@ pub(crate) fn count_loans<S: Alter>(
     Ok(())
 }
 
-/// The number of a client that a row keeps. F20 where it is none, which no number in the tables is.
-fn client_number(number: u32) -> Result<AccountNo, Fault>
-    ensures number { IfOk result (λ n. n ≡ number) }
-    ensures gives_up { IfErr result (λ fault. fault ≡ F20) }
-{
-    match AccountNo::new(number) {
-        Some(number) => Ok(number),
-        None => Err(Fault::F20),
-    }
-}
-
 /// The client of a row, none of whose loans is counted.
 pub(crate) fn client_of(row: &Row) -> Result<ClientLine, Fault>
     ensures client { IfOk result (λ line. (office : ℕ) (c : ℕ × List ℕ)
@@ -207,7 +258,7 @@ pub(crate) fn client_of(row: &Row) -> Result<ClientLine, Fault>
     ensures gives_up { IfErr result (λ fault. fault ≡ F20) }
 {
     let found = read_row::<ClientRow>(row)?;
-    let number = client_number(found.number)?;
+    let number = account_number(found.number)?;
     Ok(ClientLine {
         number,
         name: found.name.into_name(),
@@ -252,8 +303,81 @@ fn page_of(alloc: Global, rows: &[Row], after: u32) -> Result<Vec<ClientLine>, F
     Ok(lines)
 }
 
-/// The first 500 clients of an office whose number is above one, by number. It reads the rows of the office's clients
-/// and loans, and the instalments of the loans of those that it tells.
+/// The client under a number, who is there; none of their loans is counted.
+fn client_numbered<S: Alter>(
+    store: &mut Store<S>,
+    office: OfficeNo,
+    number: u32,
+) -> Result<ClientLine, Fault>
+    ensures asks { AsksTables S.Store store.old store.new result }
+    ensures client { IsClean S.Store store.new → (i : Institution) → StandsFor S.Store store.old i → (name : List ℕ)
+        → item_numbered (rows_at office i).clients number ≡ Some name
+        → IfOk result (λ line. line ≡ uncounted (number, name)) }
+{
+    let number = account_number(number)?;
+    let found = store.client(Account { office, number })?;
+    let name = or_give_up(found)?;
+    Ok(ClientLine {
+        number,
+        name,
+        waiting: 0,
+        active: 0,
+        overdue: 0,
+    })
+}
+
+/// The first 500 clients of an office of so many whose number is above one, each of them looked up.
+fn page_looked_up<S: Alter>(
+    alloc: Global,
+    store: &mut Store<S>,
+    office: OfficeNo,
+    after: u32,
+    clients: u32,
+) -> Result<Vec<ClientLine>, Fault>
+    ensures asks { MayAskTables S.Store store.old store.new result }
+    ensures value { IsClean S.Store store.new → (i : Institution) → StandsFor S.Store store.old i
+        → clients ≡ length (rows_at office i).clients
+        → IfOk result (λ lines. lines.items ≡ take 500 (flat_map (λ c. told_if (nat_lt after c.0) (uncounted c))
+        (enumerate_from 1 (rows_at office i).clients))) }
+{
+    let mut lines = Vec::new(alloc);
+    for before in after..clients {
+        if lines.len() >= PAGE {
+            return Ok(lines);
+        }
+        let line = client_numbered(store, office, before + 1)?;
+        lines.push(line)?;
+    }
+    Ok(lines)
+}
+
+/// The most clients of an office whose rows are read all at once where a page of them is asked for. One row of these
+/// takes a quarter of what the same row takes that is looked up.
+const FEW: u32 = 2_000;
+
+/// The first 500 clients of an office whose number is above one. Where it has more than 2,000 they are looked up by
+/// their numbers; else all its clients are read.
+fn first_page<S: Alter>(
+    alloc: Global,
+    store: &mut Store<S>,
+    office: OfficeNo,
+    after: u32,
+) -> Result<Vec<ClientLine>, Fault>
+    ensures asks { MayAskTables S.Store store.old store.new result }
+    ensures value { IsClean S.Store store.new → (i : Institution) → StandsFor S.Store store.old i
+        → IfOk result (λ lines. lines.items ≡ take 500 (flat_map (λ c. told_if (nat_lt after c.0) (uncounted c))
+        (enumerate_from 1 (rows_at office i).clients))) }
+{
+    let counts = store.next_numbers(office)?;
+    if counts.clients > FEW {
+        return page_looked_up(alloc, store, office, after, counts.clients);
+    }
+    let rows = store.list::<ClientRow>(office.get())?;
+    page_of(alloc, &rows, after)
+}
+
+/// The first 500 clients of an office whose number is above one, by number. It reads these, or all clients of an office
+/// of few, the rows of the office's loans, and the instalments of the loans of those that it tells.
 pub fn clients_after<S: Alter>(
     alloc: Global,
     store: &mut Store<S>,
@@ -264,8 +388,7 @@ pub fn clients_after<S: Alter>(
     ensures value { IsClean S.Store store.new → (i : Institution) → StandsFor S.Store store.old i
         → IfOk result (λ list. list ≡ clients_after after i.catalogue (rows_at office i)) }
 {
-    let rows = store.list::<ClientRow>(office.get())?;
-    let mut lines = page_of(alloc, &rows, after)?;
+    let mut lines = first_page(alloc, store, office, after)?;
     count_loans(alloc, store, office, &mut lines)?;
     Ok(Listing::new(lines))
 }

@@ -155,7 +155,7 @@ fn page_of(alloc: Global, rows: &[Row], sought: &Sought) -> Result<Vec<ClientLin
 }
 
 /// The first 50 clients of an office that have a part in their name, where both are folded, or have it as their number
-/// or as that of one of their loans, by number. It reads the rows of the office's clients up to the last that it tells,
+/// or as that of one of their loans, by number. It reads the rows of the office's clients; where it tells some also
 /// those of its loans, and the instalments of the loans of those that it tells.
 pub fn find_clients<S: Alter>(
     alloc: Global,
@@ -177,6 +177,9 @@ pub fn find_clients<S: Alter>(
     };
     let rows = store.list::<ClientRow>(office.get())?;
     let mut lines = page_of(alloc, &rows, &sought)?;
+    if lines.is_empty() {
+        return Ok(Listing::new(lines));
+    }
     count_loans(alloc, store, office, &mut lines)?;
     Ok(Listing::new(lines))
 }

@@ -20,6 +20,17 @@ use mf_store::Store;
 use sqlite::Alter;
 use std::alloc::Global;
 
+/// The number of a client or a loan that a row keeps. F20 where it is none, which no number in the tables is.
+pub(crate) fn account_number(number: u32) -> Result<AccountNo, Fault>
+    ensures number { IfOk result (λ n. n ≡ number) }
+    ensures gives_up { IfErr result (λ fault. fault ≡ F20) }
+{
+    match AccountNo::new(number) {
+        Some(number) => Ok(number),
+        None => Err(Fault::F20),
+    }
+}
+
 /// The name of a client; empty where there is none.
 pub(crate) fn name_of<S: Alter>(
     alloc: Global,

@@ -1,11 +1,14 @@
-use Rattle.std.proofs.Common.{ℕ, map, take, ap, sym, ◌∙◌}
+use Rattle.std.proofs.Common.{ℕ, map, take, ap, sym, subst, ◌∙◌}
+use Rattle.std.specs.List.{AllByRecursion}
+use Rattle.mf_lists.specs.declared.lines.ClientLine.{ClientLine}
 use Rattle.mf_model.specs.Institution.{Ledger}
 use Rattle.mf_store.proofs.KeptLemmas.{stays_then}
 use Rattle.mf_store.proofs.LoanLemmas.{IsLoanOf}
 use Rattle.mf_store_schema.specs.Rows.{loan_row}
 use Rattle.mf_store_values.specs.Flat.{loan_in}
 use Rattle.mf_store_values.proofs.ReadLemmas.{row_at}
-use Rattle.mf_store_lists.specs.Counted.{counted_by}
+use Rattle.mf_store_lists.specs.Counted.{IsBetween, counted_by, uncounted}
+use Rattle.mf_store_lists.proofs.BoundsLemmas.{all_back}
 use Rattle.mf_store_lists.proofs.CountLemmas.{loans_more}
 use Rattle.mf_store_lists.proofs.clients.count_rows.Goals as goal
 
@@ -23,5 +26,8 @@ loop-row-preserved g c =
           now.counted clean i (kept.same before i s) day office at.value at.row_is at.holds
           (map (λ (k : ℕ × Ledger). k.1) (take c.loop-row.row-index ls)) clients
           (c.loop-row.invariant.counted before i s day office ls all are clients none)
+          (all_back (λ (line : ClientLine). IsBetween c.bounds_of-bounds.result line.number) uncounted clients
+          (subst (AllByRecursion (λ (line : ClientLine). IsBetween c.bounds_of-bounds.result line.number)) none
+          c.bounds_of-bounds.ensures))
           ∙ ap (λ loans. map (counted_by i.catalogue loans) clients) (sym (loans_more ls _ at.value at.more));
     }
