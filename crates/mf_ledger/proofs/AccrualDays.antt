@@ -16,7 +16,8 @@ use Rattle.mf_ledger.specs.declared.basis.Basis.{Basis}
 use Rattle.mf_ledger.specs.declared.basis.Basis.TheVariants as basis
 use Rattle.mf_ledger.specs.declared.books.Title.{Title}
 use Rattle.mf_ledger.specs.declared.books.Transaction.{Transaction}
-use Rattle.mf_ledger.specs.Accrual.{accrued, adjusting_of, adjustments, adjustments_of, due_between, due_of_loans, due_on}
+use Rattle.mf_ledger.specs.Accrual.{accrued, adjusting_of, adjustments, adjustments_of, due_between, due_of_loans}
+use Rattle.mf_ledger.specs.Accrual.{due_on}
 use Rattle.mf_ledger.specs.Adjusting.{opened, standing}
 use Rattle.mf_ledger.specs.Basis.{booked}
 use Rattle.mf_ledger.specs.Runs.{Selection, at_end_of, between, posted}
@@ -24,8 +25,7 @@ use Rattle.mf_ledger.proofs.AccrualBooks.{Adds, at_day, call_adds, days_from, du
 use Rattle.mf_ledger.proofs.AccrualBooks.{line_leaves, same_day}
 use Rattle.mf_ledger.proofs.AdjustingLemmas.{opened_is}
 use Rattle.mf_ledger.proofs.BasisBooks.{booked_adds, booked_cash}
-use Rattle.mf_ledger.proofs.RunBooks.{all-both, day_end, filter-both, in_span, kept, none-later}
-use Rattle.mf_ledger.proofs.RunBooks.{posted_in}
+use Rattle.mf_ledger.proofs.RunBooks.{all-both, day_end, filter-both, in_span, kept, none-later, posted_in}
 use Rattle.mf_ledger.proofs.SignedSums.{sum-append}
 
 -- ---- transactions up to a day

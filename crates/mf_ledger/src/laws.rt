@@ -36,8 +36,7 @@ ghost use Rattle.mf_ledger.specs.Opening.{opening_postings};
 ghost use Rattle.mf_ledger.specs.Sheet.{columns, sheet_text, transaction_rows, opening_rows, fields_of};
 ghost use Rattle.mf_ledger.specs.Sheet.{IsOccasion, IsWritten};
 ghost use Rattle.mf_ledger.specs.Text.{preamble, transaction_text, opening_text};
-ghost use Rattle.mf_ledger.specs.WorkedBooks.{worked_days, worked_transactions, worked_opening};
-ghost use Rattle.mf_ledger.specs.WorkedBooks.{worked_adjustments};
+ghost use Rattle.mf_ledger.specs.WorkedBooks.{worked_days, worked_transactions, worked_opening, worked_adjustments};
 ghost use Rattle.mf_ledger.specs.WorkedOpenings.{worked_until_waived, worked_waived_openings};
 ghost use Rattle.mf_ledger.specs.WorkedOpenings.{worked_repaid_openings, accrual_opening_lines};
 ghost use Rattle.mf_ledger.specs.WorkedTexts.{journal_of, sheet_of, till_names, chart_names, hledger_lines};
@@ -157,7 +156,8 @@ pub fn adjustments_come_to_the_accruals()
 /// them: in any span of days they move on each account what both move there. On either basis each transaction is dated
 /// no earlier than the business day on which its line comes.
 pub fn books_on_either_basis()
-    ensures cash { (i : Institution) (lines : List Line) (n : ℕ) → booked basis.Cash n lines i ≡ transactions n lines i }
+    ensures cash { (i : Institution) (lines : List Line) (n : ℕ)
+        → booked basis.Cash n lines i ≡ transactions n lines i }
     ensures accrual { (i : Institution) (lines : List Line) (n first last : ℕ) (title : Title) (meant : Selection) →
         posted title meant (between first last (booked basis.Accrual n lines i))
         ≡ posted title meant (between first last (transactions n lines i))

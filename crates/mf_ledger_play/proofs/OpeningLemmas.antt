@@ -1,7 +1,6 @@
 -- What books of the loans of a store open with.
-use Rattle.std.proofs.Common.{◌≡◌, ◌<◌, ℕ, zero, suc, ◌+◌, Bool, true, false, cond, List, [], ◌∷◌, ◌++◌, map}
-use Rattle.std.proofs.Common.{take, length}
-use Rattle.std.proofs.Common.{Some, Ok, refl, sym, ap, ap₂, ◌∙◌, subst, arith, append-nil, append_assoc}
+use Rattle.std.proofs.Common.{◌≡◌, ◌<◌, ℕ, zero, suc, ◌+◌, Bool, true, false, cond, List, [], ◌∷◌, ◌++◌, map, take}
+use Rattle.std.proofs.Common.{length, Some, Ok, refl, sym, ap, ap₂, ◌∙◌, subst, arith, append-nil, append_assoc}
 use Rattle.std.specs.Prelude.{◌==◌, ◌&&◌, nat_le, filter, option_map, slice_get}
 use Rattle.std.specs.List.{flat_map, range_with_len}
 use Rattle.std.proofs.Math.Seq.{take-length}
@@ -232,7 +231,8 @@ module _ {S : Type 0} (store : Ghosts S) (offices : List shown.Office) (products
 
   pub opens_more : (place : ℕ) (o : shown.Office) (states told : List LoanState)
       (cash added more_cash more_added : List Posting) (old now new : S) → slice_get offices place ≡ Some o
-      → OpensOffices place cash added old now → ReadsStates store (λ i. states_of day i.catalogue (rows_at o.number i).loans) states now new
+      → OpensOffices place cash added old now
+      → ReadsStates store (λ i. states_of day i.catalogue (rows_at o.number i).loans) states now new
       → told ≡ states
       → more_cash ≡ cash ++ moving (flat_map (λ product. opening_on o.number product (sums_with product told))
       (range_with_len 1 products))
@@ -275,7 +275,8 @@ module _ {S : Type 0} (store : Ghosts S) (offices : List shown.Office) (products
     where
       -- the office that is listed there, and what its loans are found by its number
       its_office : (place : ℕ) (o : shown.Office) {cash added : List Posting} (old now : S)
-          → slice_get offices place ≡ Some o → OpensOffices place cash added old now → store.clean now → (i : Institution) → store.stands old i
+          → slice_get offices place ≡ Some o → OpensOffices place cash added old now → store.clean now
+          → (i : Institution) → store.stands old i
           → (f : Office) × (slice_get i.offices place ≡ Some f) × (f.number ≡ o.number)
           × ((k : Catalogue) → states_of day k (rows_at o.number i).loans ≡ states_of day k f.rows.loans)
       its_office place o old now there so early i s =

@@ -27,7 +27,8 @@ fn hold_loan<S: InstitutionStore>(
     loan: &Account,
     held: &mut Vec<HeldLoan>,
 ) -> Result<(), Fault>
-    ensures holds { OnOk result (HoldsAt S.InstitutionStore loan.now held.old.items held.new.items store.old store.new) }
+    ensures holds { OnOk result (HoldsAt S.InstitutionStore loan.now held.old.items held.new.items store.old
+        store.new) }
     ensures gives_up { IfErr result (λ fault. fault ≡ F20) }
 {
     match store.ledger(alloc, *loan) {

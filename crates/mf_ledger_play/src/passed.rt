@@ -86,7 +86,8 @@ fn put_loans(
 ) -> Result<(), Fault>
     ensures text { (k : Catalogue) (xs : List (office.Account × Ledger)) → passing.now.before ≡ passing.now.day - 1
         → held.now ≡ map (held_of k) xs → OnOk result (text.new.items ≡ text.old.items
-        ++ flat_map (form_text asked.now.form asked.now.names) (map (loan_due passing.now.number passing.now.day k) xs)) }
+        ++ flat_map (form_text asked.now.form asked.now.names)
+        (map (loan_due passing.now.number passing.now.day k) xs)) }
     ensures only { IsOkUnless result Fault.F20 }
 {
     for place in 0..held.len() {

@@ -43,8 +43,8 @@ pub fn limits_are_as_stated()
 
 /// The texts that may be receipts and names are those up to these limits, and a reply lists so many loans.
 pub fn texts_and_lists_keep_the_limits()
-    ensures receipt { (text : List ℕ) → is_receipt text ≡ (nat_le 1 (length text) && nat_le (length text) longest_receipt
-        && list_all is_printable text) }
+    ensures receipt { (text : List ℕ) → is_receipt text ≡ (nat_le 1 (length text)
+        && nat_le (length text) longest_receipt && list_all is_printable text) }
     ensures name { (name : List ℕ) → IsName name → (1 ≤ length (chars name)) × (length (chars name) ≤ longest_name) }
     ensures names { (name : List ℕ) → IsUtf8 name → list_all is_plain (chars name) ≡ true → 1 ≤ length (chars name) →
         length (chars name) ≤ longest_name → IsName name }

@@ -10,7 +10,8 @@ use Rattle.mf_journal.specs.declared.following.KeptRow.{KeptRow}
 use Rattle.mf_model.specs.Institution.{JournalLine}
 use Rattle.mf_store_sql.specs.Numbered.{Filed, shown_filed}
 use Rattle.mf_store_journal.specs.Checking.{CanBegin, StopsAt}
-use Rattle.mf_store_journal.specs.Rows.{filed_kept, filed_after, filed_beginning, head_with_all, journal_rows_in, HasPlace}
+use Rattle.mf_store_journal.specs.Rows.{filed_kept, filed_after, filed_beginning, head_with_all, journal_rows_in}
+use Rattle.mf_store_journal.specs.Rows.{HasPlace}
 use Rattle.mf_store_journal.specs.Written.{DaysRise, HasRoom}
 use Rattle.mf_store_journal.specs.declared.checking.Flaw.{Flaw}
 use Rattle.mf_store_journal.specs.declared.checking.Found.TheVariants.{Flawed}

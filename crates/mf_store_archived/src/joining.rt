@@ -1,10 +1,11 @@
 //! Archives put together, back from where the journal of a file begins.
 
-ghost use Rattle.std.specs.Prelude.{◌≡◌, ◌<◌, ◌↔◌, ◌∷◌, IsTrue, OnOk, IfOk, IfErr, IfSome, IfNone, length, slice_get, take};
-ghost use Rattle.std.specs.Prelude.{Some};
+ghost use Rattle.std.specs.Prelude.{◌≡◌, ◌<◌, ◌↔◌, ◌∷◌, IsTrue, OnOk, IfOk, IfErr, IfSome, IfNone, length, slice_get};
+ghost use Rattle.std.specs.Prelude.{Some, take};
 ghost use Rattle.std.specs.List.{AllByRecursion};
 ghost use Rattle.mf_base.specs.declared.fault.Fault.TheVariants.{F20};
-ghost use Rattle.mf_store_archived.specs.Joining.{AreArchives, EndsAt, EndsWith, IsGap, IsJoined, NoneEnds, last_before};
+ghost use Rattle.mf_store_archived.specs.Joining.{AreArchives, EndsAt, EndsWith, IsGap, IsJoined, NoneEnds};
+ghost use Rattle.mf_store_archived.specs.Joining.{last_before};
 ghost use Rattle.mf_store_archived.specs.declared.archive.Archive.{Archive};
 
 use crate::archive::Archive;
@@ -41,7 +42,8 @@ fn ends_at(archive: &Archive, head: Head) -> bool
 
 /// The place of the first archive that ends where a journal stands so.
 fn ending_at(archives: &[Archive], head: Head) -> Option<usize>
-    ensures some { IfSome result (λ place. AllByRecursion (λ (a : Archive). ¬ EndsAt head a) (take place archives.now)) }
+    ensures some { IfSome result (λ place. AllByRecursion (λ (a : Archive). ¬ EndsAt head a)
+        (take place archives.now)) }
     ensures there { IfSome result (λ place. (a : Archive) × (slice_get archives.now place ≡ Some a) × EndsAt head a) }
     ensures within { IfSome result (λ place. place < length archives.now) }
     ensures none { IfNone result (NoneEnds head archives.now) }

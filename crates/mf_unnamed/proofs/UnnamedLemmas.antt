@@ -1,6 +1,6 @@
 -- Names matter to no reply but those that show one.
-use Rattle.std.proofs.Common.{◌≡◌, ℕ, zero, suc, Bool, true, false, cond, List, [], ◌∷◌, ◌++◌, map, length, Option, Some, None}
-use Rattle.std.proofs.Common.{Result, Ok, Err, refl, sym, ap, ap₂, ◌∙◌}
+use Rattle.std.proofs.Common.{◌≡◌, ℕ, zero, suc, Bool, true, false, cond, List, [], ◌∷◌, ◌++◌, map, length, Option}
+use Rattle.std.proofs.Common.{Some, None, Result, Ok, Err, refl, sym, ap, ap₂, ◌∙◌}
 use Rattle.std.specs.Prelude.{◌-◌, ◌==◌, ◌&&◌, ◌||◌, not, nat_lt, is_some, option_map, slice_get}
 use Rattle.std.proofs.lemmas.List.{length-map, map-append}
 use Rattle.std.proofs.lemmas.Option.{slice_get-map}
@@ -82,7 +82,8 @@ below_same : (fs : List Office) (x y : ℕ)
 unfolding is_at_or_below
 below_same fs x y = within_same 5 fs x y
 
-office_same : (x : ℕ) (fs : List Office) → office_at x (map unnamed_office fs) ≡ option_map unnamed_office (office_at x fs)
+office_same : (x : ℕ) (fs : List Office) → office_at x (map unnamed_office fs)
+    ≡ option_map unnamed_office (office_at x fs)
 office_same x [] = refl
 office_same x (f ∷ fs) = go (f.number == x) (office_same x fs)
   where
@@ -354,7 +355,8 @@ offices_shown : (fs : List Office) → map office_shown fs ≡ map office_shown 
 offices_shown [] = refl
 offices_shown (f ∷ fs) = ap (λ os. office_shown f ∷ os) (offices_shown fs)
 
-arrears_shown : (k : Catalogue) (fs : List Office) → map (arrears_line k) fs ≡ map (arrears_line k) (map unnamed_office fs)
+arrears_shown : (k : Catalogue) (fs : List Office) → map (arrears_line k) fs
+    ≡ map (arrears_line k) (map unnamed_office fs)
 arrears_shown k [] = refl
 arrears_shown k (f ∷ fs) = ap (λ ls. arrears_line k f ∷ ls) (arrears_shown k fs)
 
@@ -466,7 +468,8 @@ change_in_same (Err e) = refl
 change_in_same (Ok r) = refl
 
 -- the answer to a line, and what it changes, without names, are those of the line and the institution without names
-answer_same : (l : Line) (i : Institution) → unnamed_answer (answer l i) ≡ unnamed_answer (answer (unnamed_line l) (unnamed i))
+answer_same : (l : Line) (i : Institution) → unnamed_answer (answer l i)
+    ≡ unnamed_answer (answer (unnamed_line l) (unnamed i))
 answer_same l i = go l.given_up
   where
     go : (b : Bool) → unnamed_answer (cond b (Err F20) (reply l.call i))

@@ -1,6 +1,6 @@
 -- What the program is asked to do, as it follows from the words.
-use Rattle.std.specs.Prelude.{◌≡◌, ◌⊎◌, ℕ, ◌<◌, ◌≤◌, ◌==◌, Bool, true, false, IsTrue, List, length, codes, Option, Some, None}
-use Rattle.std.specs.Prelude.{is_some, IfSome, Result, Ok, IfOk, IfErr, if◌then◌else◌}
+use Rattle.std.specs.Prelude.{◌≡◌, ◌⊎◌, ℕ, ◌<◌, ◌≤◌, ◌==◌, Bool, true, false, IsTrue, List, length, codes, Option}
+use Rattle.std.specs.Prelude.{Some, None, is_some, IfSome, Result, Ok, IfOk, IfErr, if◌then◌else◌}
 use Rattle.std.specs.Str.Parse.{IsNumeral, digits_value, without_leading_plus}
 use Rattle.clap.specs.Words.{Row, Text, Kinds, first_of, subcommand_of, fault_of}
 use Rattle.mf_base.specs.Choices.{frequency_name}

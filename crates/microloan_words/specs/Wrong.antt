@@ -12,11 +12,10 @@ use Rattle.microloan_words.specs.Asked.{most_patience, IsSpanAt, IsFormAt}
 use Rattle.microloan_words.specs.declared.asked.LedgerForm.{LedgerForm}
 use Rattle.microloan_words.specs.declared.reading.Wrong.{Wrong}
 use Rattle.microloan_words.specs.declared.reading.Wrong.TheVariants.{File, Existing, Journal, All, Port, Count}
-use Rattle.microloan_words.specs.declared.reading.Wrong.TheVariants.{Beginning}
-use Rattle.microloan_words.specs.declared.reading.Wrong.TheVariants.{Patience, Staff, Method as MethodOption, Principal}
-use Rattle.microloan_words.specs.declared.reading.Wrong.TheVariants.{Rate, Periods, Day, Frequency, Every}
-use Rattle.microloan_words.specs.declared.reading.Wrong.TheVariants.{PrincipalGrace, InterestGrace, Told, ToldOfLines}
-use Rattle.microloan_words.specs.declared.reading.Wrong.TheVariants.{Lists, Into}
+use Rattle.microloan_words.specs.declared.reading.Wrong.TheVariants.{Beginning, Patience, Staff}
+use Rattle.microloan_words.specs.declared.reading.Wrong.TheVariants.{Method as MethodOption, Principal, Rate, Periods}
+use Rattle.microloan_words.specs.declared.reading.Wrong.TheVariants.{Day, Frequency, Every, PrincipalGrace}
+use Rattle.microloan_words.specs.declared.reading.Wrong.TheVariants.{InterestGrace, Told, ToldOfLines, Lists, Into}
 use Rattle.microloan_words.specs.declared.reading.Wrong.TheVariants.{From, To, Span, Csv, Beancount, Form, Accrual}
 
 -- a flag is given or not

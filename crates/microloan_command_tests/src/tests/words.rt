@@ -302,46 +302,49 @@ fn reads_which_lines_to_archive(rt: HostRuntime) -> Result<(), Fail> {
     Ok(())
 }
 
+/// Words of `ledger`, and what they ask for: the form, whether by accrual, the names, the copy to begin from.
+const LEDGER_WORDS: [(&str, LedgerForm, bool, Option<&str>, Option<&str>); 5] = [
+    (
+        "microloan ledger --file desk.db --from 2024-01-01 --to 2024-01-31",
+        LedgerForm::Hledger,
+        false,
+        None,
+        None,
+    ),
+    (
+        "microloan ledger --csv --to 2024-01-31 --from 2024-01-01 --existing --file=desk.db",
+        LedgerForm::Sheet,
+        false,
+        None,
+        None,
+    ),
+    (
+        "microloan ledger --accrual --file desk.db --from 2024-01-01 --to 2024-01-31",
+        LedgerForm::Hledger,
+        true,
+        None,
+        None,
+    ),
+    (
+        "microloan ledger --file desk.db --from 2024-01-01 --to 2024-01-31 --beancount --names chart",
+        LedgerForm::Beancount,
+        false,
+        Some("chart"),
+        None,
+    ),
+    (
+        "microloan ledger --file desk.db --from-copy old.db --from 2024-01-01 --to 2024-01-31",
+        LedgerForm::Hledger,
+        false,
+        None,
+        Some("old.db"),
+    ),
+];
+
 #[test]
 fn reads_which_books_to_write(rt: HostRuntime) -> Result<(), Fail> {
     let alloc = rt.alloc();
-    for (line, form, accrual, names, copy) in [
-        (
-            "microloan ledger --file desk.db --from 2024-01-01 --to 2024-01-31",
-            LedgerForm::Hledger,
-            false,
-            None,
-            None,
-        ),
-        (
-            "microloan ledger --csv --to 2024-01-31 --from 2024-01-01 --existing --file=desk.db",
-            LedgerForm::Sheet,
-            false,
-            None,
-            None,
-        ),
-        (
-            "microloan ledger --accrual --file desk.db --from 2024-01-01 --to 2024-01-31",
-            LedgerForm::Hledger,
-            true,
-            None,
-            None,
-        ),
-        (
-            "microloan ledger --file desk.db --from 2024-01-01 --to 2024-01-31 --beancount --names chart",
-            LedgerForm::Beancount,
-            false,
-            Some("chart"),
-            None,
-        ),
-        (
-            "microloan ledger --file desk.db --from-copy old.db --from 2024-01-01 --to 2024-01-31",
-            LedgerForm::Hledger,
-            false,
-            None,
-            Some("old.db"),
-        ),
-    ] {
+    for (line, form, accrual, names, copy) in LEDGER_WORDS {
         let words = words_of(alloc, line)?;
         let Ok(Command::Ledger(asked)) = command(alloc, &words) else {
             return Err(Fail::from("books"));
@@ -634,7 +637,7 @@ fn tells_the_version(rt: HostRuntime) -> Result<(), Fail> {
         let Err(Words::Version(text)) = command(alloc, &words) else {
             return Err(Fail::from("a version"));
         };
-        assert_eq!(rt; text.as_str(), "microloan 1.10.0 (schema 2)\n");
+        assert_eq!(rt; text.as_str(), "microloan 1.11.0 (schema 2)\n");
     }
     let said = line_of(&rt, alloc, "microloan report --version")?;
     assert!(rt; said.as_str().find("--version").is_some());

@@ -8,7 +8,8 @@ pub returns-in_ok-put_postings-in-Accrual-clause-text : goal.returns-in_ok-put_p
 returns-in_ok-put_postings-in-Accrual-clause-text c =
     let asked = c.args.asked.now in
     let text = c.args.text.now.items in
-    both_written asked c.args.booking.now c.args.change.now c.postings-cash.result c.adjusting_postings-added.result text
+    both_written asked c.args.booking.now c.args.change.now c.postings-cash.result
+    c.adjusting_postings-added.result text
     c.put_postings.new.text.items c.put_postings-in-Accrual.new.text.items c.postings-cash.ensures
     c.adjusting_postings-added.ensures c.in_ok-put_postings.ensures.text
     c.in_ok-put_postings-in-Accrual.ensures.text

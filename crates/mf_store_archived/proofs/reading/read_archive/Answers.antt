@@ -19,5 +19,6 @@ returns-in-Ok-clause-only g c clean begins lines part =
 
 pub returns-in-Ok-clause-gives_up : goal.returns-in-Ok-clause-gives_up
 returns-in-Ok-clause-gives_up g c clean begins lines part =
-    no_error c.archive_of.result _ (c.archive_of.ensures.none begins lines (tells_all c.all_text.result.now begins lines
-    (state g.S.Store c.args.connection.now).now c.in-Ok.rows.items c.all_text.ensures part (c.in-Ok.ensures.rows clean)))
+    no_error c.archive_of.result _ (c.archive_of.ensures.none begins lines
+    (tells_all c.all_text.result.now begins lines (state g.S.Store c.args.connection.now).now c.in-Ok.rows.items
+    c.all_text.ensures part (c.in-Ok.ensures.rows clean)))
