@@ -18,6 +18,7 @@ ghost use Rattle.mf_archive_files.specs.Finding.{IsFirstDay, IsFoundFor, are_lin
 use mf_base::{Day, Fault};
 use mf_journal::Head;
 use mf_store_journal::{Journal, kept_row, read_journal, rows_after};
+use mf_store_told::narrow;
 use sqlite::{Alter, Connection, Row};
 
 /// Why no line was moved.
@@ -60,17 +61,6 @@ fn is_up_to(first: Option<u64>, day: u32) -> bool
     match first {
         Some(first) => first <= u64::from(day),
         None => false,
-    }
-}
-
-/// The number in 32 bits, as the table keeps it.
-fn narrow(number: u64) -> Result<u32, Fault>
-    ensures same { IfOk result (λ narrow. narrow ≡ number) }
-    ensures gives_up { IfErr result (λ fault. fault ≡ F20) }
-{
-    match u32::try_from(number) {
-        Ok(narrow) => Ok(narrow),
-        Err(_) => Err(Fault::F20),
     }
 }
 

@@ -5,3 +5,4 @@ pub mod Runs
 pub mod Played
 pub mod PlayedLines
 pub mod WorkedLemmas
+pub mod TellingLemmas

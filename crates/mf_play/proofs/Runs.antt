@@ -134,7 +134,7 @@ in_range c r = ap₂ (λ a b. a && b) (number c.office r.0) (number c.staff r.1)
 abbrev the_write : Call → Institution → AcceptedWrite
 the_write call i = record { day = i.catalogue.day; call = call; told = reply call i }
 
-call_plays : (caller : Option Caller) (request : Request) (received : Received) (i : Institution) (change : Change)
+pub call_plays : (caller : Option Caller) (request : Request) (received : Received) (i : Institution) (change : Change)
     → IsAsReceived (record { caller = caller; request = request; received = received })
     → change_in (outcome (record { caller = caller; request = request; received = received }) i) ≡ Some change
     → IsPlayed i (line_of_write (the_write (record { caller = caller; request = request; received = received }) i))

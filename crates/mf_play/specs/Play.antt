@@ -1,6 +1,7 @@
 -- The play of a journal: its lines, answered again one after the other.
 use Rattle.std.specs.Prelude.{◌≡◌, ◌≢◌, ℕ, ◌&&◌, cond, List, [], ◌∷◌, take, slice_get, Option, Some, None, Ok, Err}
 use Rattle.std.specs.Prelude.{option_map, option_and_then, IfSome}
+use Rattle.std.specs.List.{AllByRecursion}
 use Rattle.mf_base.specs.declared.fault.Fault.{Fault}
 use Rattle.mf_office.specs.Numbers.{is_number_up_to}
 use Rattle.mf_office.specs.Texts.{IsCaller}
@@ -41,6 +42,21 @@ abbrev pub call_told : JournalLine → Option Call
 call_told l = option_and_then
     (λ caller. option_map (λ request. call_from caller request (text_told l)) (asked_by_text (text_told l)))
     (caller_told l)
+
+-- the line tells a request, and who sends it
+abbrev pub TellsRequest : JournalLine → Type 0
+TellsRequest l = (call : Call) × (call_told l ≡ Some call)
+
+-- each of these lines does
+abbrev pub AllTellRequests : List JournalLine → Type 0
+AllTellRequests lines = AllByRecursion TellsRequest lines
+
+-- the lines before a place do, and the one there tells none
+pub record IsFirstUntold (lines : List JournalLine) (place : ℕ) : Type 0 where
+  pub before : AllTellRequests (take place lines)
+  pub line : JournalLine
+  pub there : slice_get lines place ≡ Some line
+  pub none : call_told line ≡ None
 
 -- the office and the loan that a line names
 abbrev pub names_told : JournalLine → Names

@@ -7,7 +7,7 @@ ghost use Rattle.mf_model.specs.Run.{Line, last};
 ghost use Rattle.mf_journal.specs.Journal.{line_of_write, with_lines, writes_of};
 ghost use Rattle.mf_wire_requests.specs.RequestLine.{Parts};
 ghost use Rattle.mf_wire_requests.specs.Requests.{call_in, call_by_parts, call_of_parts};
-ghost use Rattle.mf_play.specs.Play.{PlaysTo, StopsAt, IsAsReceived, AreAsReceived};
+ghost use Rattle.mf_play.specs.Play.{PlaysTo, StopsAt, IsAsReceived, AreAsReceived, AllTellRequests};
 ghost use Rattle.mf_play.specs.WorkedPlay.{opened, morning, after_morning, stopping, morning_with};
 ghost use Rattle.mf_play.specs.declared.stop.Stop.{Stop};
 
@@ -47,6 +47,13 @@ pub fn what_a_run_notes_plays()
         PlaysTo i (map line_of_write (writes_of run i)) (last run i) }
     ensures noted { (i : Institution) (run : List Line) → (last run i).journal
         ≡ with_lines (map line_of_write (writes_of run i)) i.journal }
+{}
+
+/// Lines that play tell requests. So does each line that a run notes, where each call of the run is what its text asks.
+pub fn what_plays_tells_requests()
+    ensures plays { (i j : Institution) (lines : List JournalLine) → PlaysTo i lines j → AllTellRequests lines }
+    ensures noted { (i : Institution) (run : List Line) → AreAsReceived run →
+        AllTellRequests (map line_of_write (writes_of run i)) }
 {}
 
 /// And what plays is what some run of received requests notes: it leaves the institution to which the lines play.

@@ -8,3 +8,4 @@ mod told;
 
 pub use playing::{play_line, play_lines};
 pub use stop::Stop;
+pub use told::first_untold;

@@ -1,11 +1,12 @@
 //! What a line of a journal tells: who sent a request, and what its text asks.
 
-ghost use Rattle.std.specs.Prelude.{◌≡◌, ◌↔◌, IsTrue, IfErr, IfOk, IfSome, option_map};
+ghost use Rattle.std.specs.Prelude.{◌≡◌, ◌↔◌, IsTrue, IfErr, IfOk, IfNone, IfSome, map, option_map};
 ghost use Rattle.mf_base.specs.declared.fault.Fault.TheVariants.{F20};
 ghost use Rattle.mf_journal.specs.Chain.{line_of_row};
 ghost use Rattle.mf_model.specs.Sound.{IsInRange};
 ghost use Rattle.mf_model.specs.Unseen.{call_from};
 ghost use Rattle.mf_play.specs.Play.{asked_by_text, call_told, caller_told, names_told, text_told};
+ghost use Rattle.mf_play.specs.Play.{AllTellRequests, IsFirstUntold};
 
 use mf_base::{Day, Fault};
 use mf_journal::JournalRow;
@@ -71,6 +72,27 @@ pub(crate) fn call_told(
         Ok(None) => Ok(None),
         Err(fault) => Err(fault),
     }
+}
+
+/// The place of the first row that tells no request: it tells no caller, or its text reads as no request. None where
+/// each tells one. The error is F20.
+pub fn first_untold(
+    alloc: Global,
+    routes: &Routes,
+    rows: &[JournalRow<'_>],
+) -> Result<Option<usize>, Fault>
+    ensures first { IfOk result (λ found. IfSome found (IsFirstUntold (map line_of_row rows.now))) }
+    ensures none { IfOk result (λ found. IfNone found (AllTellRequests (map line_of_row rows.now))) }
+    ensures gives_up { IfErr result (λ fault. fault ≡ F20) }
+{
+    for place in 0..rows.len() {
+        match call_told(alloc, routes, rows[place]) {
+            Ok(Some(_)) => {}
+            Ok(None) => return Ok(Some(place)),
+            Err(fault) => return Err(fault),
+        }
+    }
+    Ok(None)
 }
 
 /// Whether a reply names what a row names.

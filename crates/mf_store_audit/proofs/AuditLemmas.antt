@@ -9,6 +9,7 @@ use Rattle.mf_store_schema.specs.declared.versions.Version.{Version}
 use Rattle.mf_store_schema.specs.declared.versions.Version.TheVariants.{First, Second, Third}
 use Rattle.mf_store_sound.specs.Schemas.{lists_at, tables_at}
 use Rattle.mf_store_audit.specs.Findings.{AllBreak, AreOfNone}
+use Rattle.mf_store_told.specs.Told.{TellsRequests}
 use Rattle.mf_store_sound.specs.Held.{CanBeHeld, DoRise, KeepsJournalAt}
 use Rattle.mf_store_sound.proofs.JudgedLemmas.{can_be_held, holds_sound, rows_are}
 use Rattle.mf_store_sound.proofs.SchemaLemmas.{one_version}
@@ -36,7 +37,8 @@ module _ (db : Database) (v : Version) (ours : IsOfVersion v db.schema) where
     none_held none w i sound held = none i sound (rows_are v db.trees tables only i (at_ours w i held).0)
 
     pub of_rows : (DoRise tables → HoldsAt v db.trees tables) → (a : Audit)
-        → (FindsSound a → (journal : Option (List JournalLine)) × KeepsJournalAt v db.trees journal)
+        → (FindsSound a → (journal : Option (List JournalLine)) × KeepsJournalAt v db.trees journal
+        × TellsRequests journal)
         → IsAuditOfRows v tables a → IsAuditOf db a
     of_rows keeps NoTables kept told = absurd told
     of_rows keeps OtherTables kept told = absurd told
@@ -54,7 +56,7 @@ module _ (db : Database) (v : Version) (ours : IsOfVersion v db.schema) where
         record {
           institution = whole;
           sound = record { catalogue = its.sound.catalogue; tree = its.sound.tree; each = its.sound.each };
-          has = subst (λ (x : Version). HoldsInAt x db whole) (sym told.0) (ours, holds, journal.1);
+          has = subst (λ (x : Version). HoldsInAt x db whole) (sym told.0) (ours, holds, journal.1, journal.2);
           sums_are = its.sums_are;
         }
     of_rows keeps (Unsound w rows findings) kept told =
@@ -74,10 +76,14 @@ module _ (db : Database) (v : Version) (ours : IsOfVersion v db.schema) where
         → IsAuditOfRows v tables others → IsWithJournal db.trees others whole → IsAuditOf db whole
     of_rows_with_journal third keeps others whole told (inl (same, kept)) = subst (IsAuditOf db) (sym same)
         (of_rows keeps others (λ found. let j = kept found in
-        (j.0, subst (λ x. KeepsJournalAt x db.trees j.0) (sym third) j.1)) told)
+        (j.0, subst (λ x. KeepsJournalAt x db.trees j.0) (sym third) j.1, j.2)) told)
     of_rows_with_journal third keeps others whole told (inr (broken, is, none, its)) = subst (IsAuditOf db) (sym is) (
       subst (λ x. IsOfVersion x db.schema) third ours,
-      λ w i sound held. none (i.journal, subst (λ x. KeepsJournalAt x db.trees i.journal) third (at_ours w i held).1),
+      λ w i sound held. none (
+        i.journal,
+        subst (λ x. KeepsJournalAt x db.trees i.journal) third (at_ours w i held).1,
+        held.3,
+      ),
       its,
     )
 

@@ -11,5 +11,6 @@ pub mod WalkLemmas
 pub mod TableLemmas
 mod WorkedRows
 pub mod AuditLemmas
+pub mod JournalLemmas
 pub mod KeptLemmas
 pub mod UnreadLemmas

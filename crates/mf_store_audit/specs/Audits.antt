@@ -14,8 +14,11 @@ use Rattle.mf_store_sql.specs.Numbered.{Filed, KeepsLines}
 use Rattle.mf_store_schema.specs.Tables.{journal}
 use Rattle.mf_store_schema.specs.declared.versions.Version.TheVariants.{Third}
 use Rattle.mf_store_journal.specs.Checking.{IsFound}
-use Rattle.mf_store_journal.specs.declared.checking.Found.TheVariants.{Nothing, Flawed}
-use Rattle.mf_store_journal.specs.declared.checking.Found.TheVariants.{NoBeginning as NoFirst}
+use Rattle.mf_store_journal.specs.declared.checking.Found.TheVariants.{Nothing, Flawed, NoBeginning as NoFirst}
+use Rattle.mf_store_journal.specs.Written.{KeepsJournalFrom, KeepsTo}
+use Rattle.mf_store_journal.specs.declared.journal.Journal.{Journal}
+use Rattle.mf_journal.specs.declared.following.Head.{Head}
+use Rattle.mf_store_told.specs.Told.{IsUntoldAt, TellsRequests}
 use Rattle.mf_store_sound.specs.Held.{KeepsJournalAt}
 use Rattle.mf_store_sound.specs.Schemas.{lists_at, tables_at}
 use Rattle.mf_store_audit.specs.Findings.{AllBreak, AreOfNone}
@@ -26,7 +29,7 @@ use Rattle.mf_store_audit.specs.declared.audits.Audit.{Audit}
 use Rattle.mf_store_audit.specs.declared.audits.Audit.TheVariants.{NoTables, OtherTables, Sound, Unsound, Unreadable}
 use Rattle.mf_store_audit.specs.declared.audits.Audit.TheVariants as audit
 use Rattle.mf_store_audit.specs.declared.journal.BrokenJournal.{BrokenJournal}
-use Rattle.mf_store_audit.specs.declared.journal.BrokenJournal.TheVariants.{NoRows, NoBeginning, Row}
+use Rattle.mf_store_audit.specs.declared.journal.BrokenJournal.TheVariants.{NoRows, NoBeginning, Row, NoRequest}
 
 -- a sound institution of which this holds has these sums, office by office
 pub record AreSumsOf (Has : Institution → Type 0) (sums : List OfficeSums) : Type 0 where
@@ -45,10 +48,12 @@ IsAuditOfRows v lists (Unsound version tables findings) =
 IsAuditOfRows v lists (Unreadable version unread) = ⊥
 IsAuditOfRows v lists (audit.BrokenJournal broken) = ⊥
 
--- a database has the tables of a version, with the rows of an institution, and its journal's, and nothing else
+-- a database has the tables of a version, with the rows of an institution, and its journal's, each line of which tells
+-- a request, and nothing else
 abbrev pub HoldsInAt : Version → Database → Institution → Type 0
 HoldsInAt v db i =
     IsOfVersion v db.schema × HoldsAt v db.trees (tables_at v i) × KeepsJournalAt v db.trees i.journal
+    × TellsRequests i.journal
 
 -- whatever lists the tables of a version hold, they are these
 abbrev pub AreAllHeld : Version → Database → Lists → Type 0
@@ -59,16 +64,23 @@ AreAllHeld v db tables =
 abbrev pub HoldsNone : Database → Type 0
 HoldsNone db = (v : Version) (i : Institution) → IsSound i → ¬ HoldsInAt v db i
 
--- the lines in the journal's table are none, or no beginning stands first, or this is wrong with the first that is
--- wrong
-abbrev pub IsBrokenBy : List Filed → BrokenJournal → Type 0
-IsBrokenBy lines NoRows = IsFound lines Nothing
-IsBrokenBy lines NoBeginning = IsFound lines NoFirst
-IsBrokenBy lines (Row flaw) = IsFound lines (Flawed flaw)
+-- it is so of whatever rows the journal's table keeps
+abbrev pub OfKept : Trees → (List Filed → Type 0) → Type 0
+OfKept trees P = (rows : List Filed) → KeepsLines journal (trees 23) rows → P rows
 
--- so whatever lines the table keeps
+-- the rows in the journal's table are none, or no beginning stands first, or this is wrong with the first that is
+-- wrong; or they are those of a journal whose line with this number is the first that tells no request
 abbrev pub IsBroken : Trees → BrokenJournal → Type 0
-IsBroken trees broken = (lines : List Filed) → KeepsLines journal (trees 23) lines → IsBrokenBy lines broken
+IsBroken trees NoRows = OfKept trees (λ rows. IsFound rows Nothing)
+IsBroken trees NoBeginning = OfKept trees (λ rows. IsFound rows NoFirst)
+IsBroken trees (Row flaw) = OfKept trees (λ rows. IsFound rows (Flawed flaw))
+IsBroken trees (NoRequest number) =
+    (found : Journal) × (to : KeepsTo found trees) × IsUntoldAt found.begins.number to.lines number
+
+-- the trees keep the lines of a journal that begins and stands so, and of no other
+pub record KeepsOnly (found : Journal) (trees : Trees) : Type 0 where
+  pub to : KeepsTo found trees
+  pub only : (begins : Head) (lines : List JournalLine) → KeepsJournalFrom begins trees lines → found.begins ≡ begins
 
 -- what is said of a database
 abbrev pub IsAuditOf : Database → Audit → Type 0
@@ -90,9 +102,10 @@ FindsSound (Unsound version tables findings) = ⊥
 FindsSound (Unreadable version unread) = ⊥
 FindsSound (audit.BrokenJournal broken) = ⊥
 
--- the trees keep a journal that the program can have written
+-- the trees keep a journal that the program can have written, each line of which tells a request
 abbrev pub KeepsSomeJournal : Trees → Type 0
-KeepsSomeJournal trees = (journal : Option (List JournalLine)) × KeepsJournalAt Third trees journal
+KeepsSomeJournal trees =
+    (journal : Option (List JournalLine)) × KeepsJournalAt Third trees journal × TellsRequests journal
 
 -- the audit of the other tables is that of all, but where it finds a sound institution and no journal is kept it tells
 -- what is wrong with that

@@ -99,7 +99,7 @@ fn audit_known<S: Alter, P: Progress>(
     let audit = audit_rows(alloc, version, tables, all)?;
     match version {
         Version::First | Version::Second => Ok(audit),
-        Version::Third => audit_journal(connection, audit),
+        Version::Third => audit_journal(alloc, connection, audit),
     }
 }
 

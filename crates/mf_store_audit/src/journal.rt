@@ -8,12 +8,14 @@ ghost use Rattle.mf_store_schema.specs.Schemas.{IsUnchangedUnder};
 ghost use Rattle.mf_store_schema.specs.Versions.{IsOfVersion};
 ghost use Rattle.mf_store_schema.specs.Whole.{HaveRowids};
 ghost use Rattle.mf_store_schema.specs.declared.versions.Version.TheVariants.{Third};
-ghost use Rattle.mf_store_audit.specs.Audits.{FindsSound, IsBroken, IsWithJournal};
+ghost use Rattle.mf_store_audit.specs.Audits.{FindsSound, IsBroken, IsWithJournal, KeepsOnly};
 
 use crate::audits::Audit;
 use mf_base::Fault;
-use mf_store_journal::{Flaw, Found, check_journal, read_journal};
+use mf_store_journal::{Flaw, Found, Journal, check_journal, read_journal};
+use mf_store_told::first_untold_line;
 use sqlite::{Alter, Connection};
+use std::alloc::Global;
 
 /// What is wrong with the rows of a journal.
 #[derive(Clone, Copy)]
@@ -24,6 +26,9 @@ pub enum BrokenJournal {
     NoBeginning,
     /// The first that doesn't follow on those before it.
     Row(Flaw),
+    /// Each follows on those before it; the line with this number is the first that tells no request: it tells no
+    /// caller, or its text reads as no request.
+    NoRequest(u64),
 }
 
 /// What is wrong with the journal of a table that keeps none which the program can have written.
@@ -59,9 +64,35 @@ fn finds_sound(audit: &Audit) -> bool
     }
 }
 
+/// The audit of tables that keep this journal, by that of all but the journal: the first of its lines that tells no
+/// request is told where nothing else is. The error is F20.
+fn audit_lines<S: Alter>(
+    alloc: Global,
+    connection: &mut Connection<S>,
+    audit: Audit,
+    journal: Journal,
+) -> Result<Audit, Fault>
+    requires alone { connection.old.in_transaction ≡ false }
+    ensures kept { IsUnchangedUnder (IsOfVersion Third) (state S.Store connection.old)
+        (state S.Store connection.new) }
+    ensures exact { HasCleanDisk (state S.Store connection.new)
+        → IsOfVersion Third (state S.Store connection.old).now.schema
+        → KeepsOnly journal (state S.Store connection.old).now.trees
+        → IfOk result (IsWithJournal (state S.Store connection.old).now.trees audit) }
+    ensures gives_up { IfErr result (λ fault. fault ≡ F20) }
+    ensures mode { connection.new.in_transaction ≡ false }
+{
+    match first_untold_line(alloc, connection, journal.begins) {
+        Ok(None) => Ok(audit),
+        Ok(Some(number)) => Ok(Audit::BrokenJournal(BrokenJournal::NoRequest(number))),
+        Err(fault) => Err(fault),
+    }
+}
+
 /// The audit of tables of the third version, by that of all but the journal: what is wrong with that is told where
 /// nothing else is. The error is F20.
 pub(crate) fn audit_journal<S: Alter>(
+    alloc: Global,
     connection: &mut Connection<S>,
     audit: Audit,
 ) -> Result<Audit, Fault>
@@ -79,7 +110,7 @@ pub(crate) fn audit_journal<S: Alter>(
         return Ok(audit);
     }
     match read_journal(connection) {
-        Ok(Some(_)) => return Ok(audit),
+        Ok(Some(journal)) => return audit_lines(alloc, connection, audit, journal),
         Ok(None) => {}
         Err(fault) => return Err(fault),
     }

@@ -23,7 +23,7 @@ use Rattle.mf_store.specs.Stands.{StandsFor, IsClean, IsOpen, Leaves}
 use Rattle.mf_store_files.specs.Versions.{IsTabledAt, IsLeftAt}
 use Rattle.sqlite.specs.Effect.{Database}
 use Rattle.mf_store_journal.specs.declared.journal.Journal.{Journal}
-use Rattle.mf_store_sound.specs.Held.{HoldsSoundAt, IsFoundIn, KeepsJournalAt}
+use Rattle.mf_store_sound.specs.Held.{CanBeOpened, HoldsSoundAt, IsFoundIn, KeepsJournalAt}
 use Rattle.mf_store_files.proofs.UpgradedLemmas.{first_or_later, found_none, journal_of, keeps_own}
 
 module _ {S : Type 0} (g : Ghosts S) (v : Version) (old mid : Held S)
@@ -132,7 +132,7 @@ module _ {S : Type 0} (g : Ghosts S) (v : Version) (old mid : Held S)
           → (trees : Trees) → (state g new).may_leave trees → (state g mid).may_leave trees
           ⊎ ((v ≡ First) × Holds trees (Some (tables_of i))))
           (sound : HasGoodDisk g mid → IsOfVersion v (state g old).now.schema → HaveRowids v (state g old).now.trees
-          → HoldsSoundAt v (state g old).now.trees) where
+          → CanBeOpened v (state g old).now.trees) where
         pub left_at : IsOfVersion v (state g old).now.schema → IsLeftAt g v old new
         left_at its = record {
           premise = λ clean. u.premise (premise clean);
@@ -144,5 +144,5 @@ module _ {S : Type 0} (g : Ghosts S) (v : Version) (old mid : Held S)
                 | inl before ↦ inl (u.stop (premise clean) (λ now. its) trees before)
                 | inr made ↦ inr made
               ];
-          refused = λ clean rowids none_held trees may. absurd (none_held (sound (premise clean) its rowids));
+          refused = λ clean rowids none_held trees may. absurd (none_held (sound (premise clean) its rowids).held);
         }

@@ -28,7 +28,7 @@ use Rattle.mf_store_files.specs.declared.adopted.Refused.{Refused}
 use Rattle.mf_store_files.specs.declared.adopted.Refused.TheVariants.{NoInstitution, Failed}
 use Rattle.mf_store_sound.specs.Files.{HasNoTables, ShowsFile}
 use Rattle.mf_store_files.specs.Versions.{IsTabledAt, LacksJournal}
-use Rattle.mf_store_sound.specs.Held.{HoldsSoundAt, KeepsJournalAt}
+use Rattle.mf_store_sound.specs.Held.{CanBeOpened, HoldsSoundAt, KeepsJournalAt}
 use Rattle.mf_store_files.specs.Opened.{HoldsNoneSound, OpensAsFound, StaysAsFound}
 use Rattle.mf_store_files.specs.Taken.{IsTaken, IsGivenBack}
 use Rattle.mf_store_sound.proofs.FileLemmas.{under, is_one, left_as_held}
@@ -65,12 +65,12 @@ module _ {D : Type 0} {g : Ghosts D} (image : Image) (h : Held (FileStore D g)) 
   module _ (store : KnownStore (FileStore D g)) (taken : IsTaken over_files h store)
       (known : ((file_state h).now.schema ≡ no_schema) ⊎ IsKnown (file_state h).now.schema) where
     sound : IsClean over_files store → (v : Version) (trees : Trees) → HoldsDatabase image trees
-        → IsSound (schema_at v) trees → HoldsSoundAt v trees
+        → IsSound (schema_at v) trees → CanBeOpened v trees
     sound clean v trees holds its =
         let good = taken.premise clean in
         let is = now_under good (schema_at v) (no_views v) trees holds its in
         let ours = schema_is over_files h trees (schema_at v) is in
-        subst (HoldsSoundAt v) (trees_are over_files h trees (schema_at v) is)
+        subst (CanBeOpened v) (trees_are over_files h trees (schema_at v) is)
         (taken.sound clean v ours ((shown good).rowids v ours))
 
     tabled : IsClean over_files store → (v : Version) (trees : Trees) → HoldsDatabase image trees
@@ -152,10 +152,10 @@ module _ {D : Type 0} {g : Ghosts D} (image : Image) (h : Held (FileStore D g)) 
     none_sound told some clean =
         let good = back.still clean in record {
           some = λ nothing. some ((shown good).none nothing).schema_is;
-          none = λ v trees holds held.
-              let is = now_under good (schema_at v) (no_views v) trees holds held.holds.sound in
+          none = λ v trees holds opened.
+              let is = now_under good (schema_at v) (no_views v) trees holds opened.held.holds.sound in
               back.refused told clean v (schema_is over_files h trees (schema_at v) is)
-              (subst (HoldsSoundAt v) (sym (trees_are over_files h trees (schema_at v) is)) held);
+              (subst (CanBeOpened v) (sym (trees_are over_files h trees (schema_at v) is)) opened);
         }
 
   -- where the institution is to keep a journal

@@ -22,7 +22,8 @@ use Rattle.mf_store_schema.specs.declared.versions.Version.{Version}
 use Rattle.mf_store_schema.specs.declared.versions.Version.TheVariants.{Second, Third}
 use Rattle.mf_store_journal.specs.Rows.{journal_rows_in}
 use Rattle.mf_store_journal.specs.Written.{CanBeLines, KeepsJournalFrom}
-use Rattle.mf_store_sound.specs.Held.{HoldsSound, HoldsSoundAt}
+use Rattle.mf_store_told.specs.Told.{TellsRequests}
+use Rattle.mf_store_sound.specs.Held.{CanBeOpened, HoldsSound, HoldsSoundAt}
 use Rattle.mf_store_sound.specs.Schemas.{tables_at}
 use Rattle.mf_store_sound.proofs.NestedLemmas.{first_held}
 use Rattle.mf_store_noted.specs.Kept.{IsBegun, tables_kept}
@@ -207,6 +208,14 @@ rows_are_sound trees j sound held = go held.begins held.begun held.holds
           },
           refl,
         )
+
+-- and where each line of its journal tells a request, a file that is opened
+pub rows_are_opened : (trees : Trees) (j : Institution) → IsSound j → HoldsRowsOf trees j → TellsRequests j.journal
+    → (v : Version) × (opened : CanBeOpened v trees) × (opened.held.institution ≡ j)
+rows_are_opened trees j sound held told =
+    let its = rows_are_sound trees j sound held in
+    let its_told = subst (λ (i : Institution). TellsRequests i.journal) (sym its.2) told in
+    (its.0, record { held = its.1; told = its_told }, its.2)
 
 -- what is noted doesn't matter
 noted_sound : (noted : Noted) (change : Change) (i : Institution) → IsSound (after change i)

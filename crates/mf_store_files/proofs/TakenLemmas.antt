@@ -26,7 +26,7 @@ use Rattle.mf_store.specs.Facts.{KnownStore}
 use Rattle.mf_store.specs.Stands.{StandsFor, IsClean, Leaves, IsOpen}
 use Rattle.mf_store_sound.proofs.SchemaLemmas.{none_at, one_version}
 use Rattle.mf_store_files.specs.Versions.{IsTabledAt, IsLeftAt}
-use Rattle.mf_store_sound.specs.Held.{HoldsSoundAt}
+use Rattle.mf_store_sound.specs.Held.{CanBeOpened}
 use Rattle.mf_store_files.specs.Taken.{IsTaken, IsGivenBack}
 
 module _ {S : Type 0} (g : Ghosts S) (h : Held S) where
@@ -50,7 +50,7 @@ module _ {S : Type 0} (g : Ghosts S) (h : Held S) where
     pub taken_at : (r : Made)
         → IfOk r (λ store. IsClean g store → HasCleanDisk (state g h))
         → IfOk r (λ store. IsClean g store → IsOfVersion v (state g h).now.schema → HaveRowids v (state g h).now.trees
-        → HoldsSoundAt v (state g h).now.trees)
+        → CanBeOpened v (state g h).now.trees)
         → IfOk r (λ store. IsClean g store → (i : Institution) → IsTabledAt g v h i → StandsFor g store i)
         → IfOk r (λ store. IsClean g store → (i : Institution) → IsTabledAt g v h i → Leaves g store (i ∷ []))
         → IfOk r (λ store. IsClean g store → IsTrue (state g h).is_open)
@@ -60,7 +60,7 @@ module _ {S : Type 0} (g : Ghosts S) (h : Held S) where
       premise = premise;
       was_open = was_open;
       is_open = is_open;
-      sound = λ clean. at (λ w. HaveRowids w (state g h).now.trees → HoldsSoundAt w (state g h).now.trees)
+      sound = λ clean. at (λ w. HaveRowids w (state g h).now.trees → CanBeOpened w (state g h).now.trees)
           (sound clean ours);
       stands = λ clean w i was. stands clean i (tabled (was_open clean) w i was);
       leaves = λ clean w i was. leaves clean i (tabled (was_open clean) w i was);
@@ -71,7 +71,7 @@ module _ {S : Type 0} (g : Ghosts S) (h : Held S) where
         → IfErr r (λ e. HasCleanDisk (state g e.1) → HasCleanDisk (state g h))
         → IfErr r (λ e. (e.0 ≡ F19) ⊎ (e.0 ≡ F20))
         → IfErr r (λ e. e.0 ≡ F19 → HasCleanDisk (state g e.1) → IsOfVersion v (state g h).now.schema
-        → ¬ HoldsSoundAt v (state g h).now.trees)
+        → ¬ CanBeOpened v (state g h).now.trees)
         → IfErr r (λ e. IsOfVersion v (state g h).now.schema → IsLeftAt g v h e.1)
         → IfErr r (λ e. v ≢ First → IsUnchangedUnder (IsOfVersion v) (state g h) (state g e.1))
         → IfErr r (λ e. e.1.in_transaction ≡ false)
@@ -84,7 +84,7 @@ module _ {S : Type 0} (g : Ghosts S) (h : Held S) where
       unchanged = λ w later other. at (λ x. x ≢ First → IsUnchangedUnder (IsOfVersion x) (state g h) (state g e.1))
           unchanged w other later;
       left = at (λ w. IsLeftAt g w h e.1) (left ours);
-      refused = λ told clean. at (λ w. ¬ HoldsSoundAt w (state g h).now.trees) (refused told clean ours);
+      refused = λ told clean. at (λ w. ¬ CanBeOpened w (state g h).now.trees) (refused told clean ours);
       foreign = λ some others. absurd (others (v, ours));
     }
 

@@ -21,12 +21,12 @@ use Rattle.mf_store_values.specs.Flat.{tables_of}
 use Rattle.mf_store.specs.Facts.{KnownStore}
 use Rattle.mf_store.specs.Stands.{StandsFor, IsClean, Leaves, IsOpen}
 use Rattle.mf_store_sound.specs.Files.{HasNoTables}
-use Rattle.mf_store_sound.specs.Held.{HoldsSoundAt}
+use Rattle.mf_store_sound.specs.Held.{CanBeOpened, HoldsSoundAt}
 
--- the file had tables, and not those of a sound institution
+-- the file had tables, and not those of a sound institution, each line of whose journal tells a request
 pub record HoldsNoneSound (image : Image) : Type 0 where
   pub some : ¬ HasNoTables image
-  pub none : (v : Version) (trees : Trees) → HoldsDatabase image trees → ¬ HoldsSoundAt v trees
+  pub none : (v : Version) (trees : Trees) → HoldsDatabase image trees → ¬ CanBeOpened v trees
 
 module _ {D : Type 0} {g : Ghosts D} (image : Image) where
   -- Where the file held tables of a version, whatever rows stood there, the store is that of the sound institution
@@ -36,14 +36,14 @@ module _ {D : Type 0} {g : Ghosts D} (image : Image) where
     pub known : IsClean over_files store → (trees : Trees) (k : Schema) → HoldsDatabase image trees → IsSound k trees
         → (k ≡ no_schema) ⊎ IsKnown k
     pub sound : IsClean over_files store → (v : Version) (trees : Trees) → HoldsDatabase image trees
-        → IsSound (schema_at v) trees → HoldsSoundAt v trees
+        → IsSound (schema_at v) trees → CanBeOpened v trees
     pub stands : IsClean over_files store → (v : Version) (trees : Trees) → HoldsDatabase image trees
         → (held : HoldsSoundAt v trees) → StandsFor over_files store held.institution
     pub leaves : IsClean over_files store → (v : Version) (trees : Trees) → HoldsDatabase image trees
         → (held : HoldsSoundAt v trees) → Leaves over_files store (held.institution ∷ [])
 
   -- A stop leaves tables of the first version as they were, or those of the second, whole, and all others as they were;
-  -- F19 tells that there were tables and not those of a sound institution.
+  -- F19 tells that there were tables and none that are opened.
   pub record StaysAsFound (c : Held (FileStore D g)) (fault : Fault) : Type 0 where
     pub unchanged : HasCleanDisk (file_state c) → (v : Version) → v ≢ First → (trees : Trees)
         → HoldsDatabase image trees → IsSound (schema_at v) trees → (left : Trees) → (file_state c).may_leave left

@@ -15,7 +15,7 @@ use Rattle.mf_store_schema.specs.declared.versions.Version.TheVariants.{First}
 use Rattle.mf_store.specs.Facts.{KnownStore}
 use Rattle.mf_store.specs.Stands.{StandsFor, IsClean, Leaves, IsOpen}
 use Rattle.mf_store_files.specs.Versions.{IsTabledAt, IsLeftAt}
-use Rattle.mf_store_sound.specs.Held.{HoldsSoundAt}
+use Rattle.mf_store_sound.specs.Held.{CanBeOpened}
 
 module _ {S : Type 0} (g : Ghosts S) where
   -- Where the tables are those of a version, whatever rows stand there, the store is that of the sound institution
@@ -25,12 +25,13 @@ module _ {S : Type 0} (g : Ghosts S) where
     pub was_open : IsClean g store → IsTrue (state g old).is_open
     pub is_open : IsClean g store → IsOpen g store
     pub sound : IsClean g store → (v : Version) → IsOfVersion v (state g old).now.schema
-        → HaveRowids v (state g old).now.trees → HoldsSoundAt v (state g old).now.trees
+        → HaveRowids v (state g old).now.trees → CanBeOpened v (state g old).now.trees
     pub stands : IsClean g store → (v : Version) (i : Institution) → IsTabledAt g v old i → StandsFor g store i
     pub leaves : IsClean g store → (v : Version) (i : Institution) → IsTabledAt g v old i → Leaves g store (i ∷ [])
 
   -- Tables of the first version are unchanged, or a stop leaves those of the second, whole; those of the others are
-  -- unchanged. F19 tells that no sound institution has their rows, or that they are others.
+  -- unchanged. F19 tells that no sound institution has their rows, that a line of its journal tells no request, or that
+  -- they are others.
   pub record IsGivenBack (old new : Held S) (fault : Fault) : Type 0 where
     pub still : HasCleanDisk (state g new) → HasCleanDisk (state g old)
     pub alone : new.in_transaction ≡ false
@@ -39,6 +40,6 @@ module _ {S : Type 0} (g : Ghosts S) where
         → IsUnchangedUnder (IsOfVersion v) (state g old) (state g new)
     pub left : (v : Version) → IsOfVersion v (state g old).now.schema → IsLeftAt g v old new
     pub refused : fault ≡ F19 → HasCleanDisk (state g new) → (v : Version) → IsOfVersion v (state g old).now.schema
-        → ¬ HoldsSoundAt v (state g old).now.trees
+        → ¬ CanBeOpened v (state g old).now.trees
     pub foreign : (state g old).now.schema ≢ no_schema → ¬ IsKnown (state g old).now.schema → (fault ≡ F19)
         × (new ≡ old)

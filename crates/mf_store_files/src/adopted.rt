@@ -19,7 +19,7 @@ ghost use Rattle.mf_store_noted.specs.Kept.{journaled};
 ghost use Rattle.mf_store_noted.specs.Tabled.{IsUnfounded, IsUnfoundedJournaled};
 ghost use Rattle.mf_store.specs.Stands.{StandsFor, IsClean, Leaves, IsOpen};
 ghost use Rattle.mf_store_files.specs.Versions.{IsTabledAt, IsLeftAt, LacksJournal};
-ghost use Rattle.mf_store_sound.specs.Held.{HoldsSoundAt};
+ghost use Rattle.mf_store_sound.specs.Held.{CanBeOpened};
 ghost use Rattle.mf_store_files.specs.Taken.{IsTaken, IsGivenBack};
 
 use crate::upgraded::bring_up;
@@ -50,7 +50,7 @@ fn take_over<S: Alter, P: Progress>(
     ensures premise { IfOk result (λ store. IsClean S.Store store → HasCleanDisk (state S.Store connection)) }
     ensures sound { IfOk result (λ store. IsClean S.Store store → IsOfVersion version (state S.Store
         connection).now.schema → HaveRowids version (state S.Store connection).now.trees
-        → HoldsSoundAt version (state S.Store connection).now.trees) }
+        → CanBeOpened version (state S.Store connection).now.trees) }
     ensures stands { IfOk result (λ store. IsClean S.Store store → (i : Institution)
         → IsTabledAt S.Store version connection i → StandsFor S.Store store i) }
     ensures leaves { IfOk result (λ store. IsClean S.Store store → (i : Institution)
@@ -61,7 +61,7 @@ fn take_over<S: Alter, P: Progress>(
     ensures errors { IfErr result (λ e. (e.0 ≡ F19) ⊎ (e.0 ≡ F20)) }
     ensures refused { IfErr result (λ e. e.0 ≡ F19 → HasCleanDisk (state S.Store e.1)
         → IsOfVersion version (state S.Store connection).now.schema
-        → ¬ HoldsSoundAt version (state S.Store connection).now.trees) }
+        → ¬ CanBeOpened version (state S.Store connection).now.trees) }
     ensures left { IfErr result (λ e. IsOfVersion version (state S.Store connection).now.schema
         → IsLeftAt S.Store version connection e.1) }
     ensures unchanged { IfErr result (λ e. version ≢ First → IsUnchangedUnder (IsOfVersion version)
@@ -106,8 +106,9 @@ fn take_known<S: Alter, P: Progress>(
 /// commit; else the institution that they hold, whatever the day, with its journal where they keep one. Tables of the
 /// first version are brought to the second's, in one commit.
 ///
-/// The day is at most 2099-12-31. F19 tells that the tables are others than this program makes, or that no sound
-/// institution has their rows, and F20 out of memory or a failure of the disk; with either the connection comes back.
+/// The day is at most 2099-12-31. F19 tells that the tables are others than this program makes, that no sound
+/// institution has their rows, or that a line of its journal tells no request; F20 out of memory or a failure of the
+/// disk. With either the connection comes back.
 pub fn adopt<S: Alter, P: Progress>(
     alloc: Global,
     connection: Connection<S>,

@@ -10,10 +10,12 @@ ghost use Rattle.mf_model.specs.Institution.{Institution};
 ghost use Rattle.mf_model.specs.Run.{Line};
 ghost use Rattle.mf_model.specs.Sound.{IsSound, AreInRange};
 ghost use Rattle.mf_model.specs.Store.{left_after};
+ghost use Rattle.mf_play.specs.Play.{AreAsReceived};
 ghost use Rattle.mf_store.specs.Stands.{IsClean, Leaves};
 ghost use Rattle.mf_store_noted.specs.Tabled.{HoldsRowsOf};
 ghost use Rattle.mf_store_schema.specs.declared.versions.Version.{Version};
-ghost use Rattle.mf_store_sound.specs.Held.{HoldsSound, HoldsSoundAt};
+ghost use Rattle.mf_store_told.specs.Told.{TellsRequests};
+ghost use Rattle.mf_store_sound.specs.Held.{CanBeOpened, HoldsSound};
 ghost use Rattle.mf_store_files.specs.Stops.{HoldsBeginning, IsLeftBy};
 
 use mf_model::laws;
@@ -45,11 +47,20 @@ pub fn left_files_hold_a_beginning<D: Disk>(store: &Store<FileStore<D>>)
     laws::soundness();
 }
 
-/// Where trees hold the rows of a sound institution, and its journal's where it keeps one, `open_with` makes a store of
-/// that institution over them, and doesn't answer F19. So does it over what a stop leaves.
+/// Where trees hold the rows of a sound institution, and its journal's where it keeps one, each line of which tells a
+/// request, `open_with` makes a store of that institution over them, and doesn't answer F19. So does it over what a
+/// stop leaves.
 pub fn what_is_left_can_be_opened()
-    ensures { (trees : Trees) (i : Institution) → IsSound i → HoldsRowsOf trees i
-        → (v : Version) × (held : HoldsSoundAt v trees) × (held.institution ≡ i) }
+    ensures { (trees : Trees) (i : Institution) → IsSound i → HoldsRowsOf trees i → TellsRequests i.journal
+        → (v : Version) × (opened : CanBeOpened v trees) × (opened.held.institution ≡ i) }
+{}
+
+/// Each line that a run notes tells a request: where the lines before it do, and each call of the run is what its text
+/// asks, as those are that come as messages and lines (`mf_play::laws::texts_are_as_received`), those of the journal
+/// that a stop leaves do too.
+pub fn what_is_left_tells_requests()
+    ensures { (run : List Line) (i j : Institution) → AreAsReceived run → TellsRequests i.journal → IsLeftBy run i j
+        → TellsRequests j.journal }
 {}
 
 /// A journal doesn't begin by itself: where a run began with an institution that keeps none, the rows of what a stop

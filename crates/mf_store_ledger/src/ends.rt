@@ -19,7 +19,7 @@ use mf_play::Stop;
 use mf_portions_play::play_lines_before;
 use mf_store::{lines_told, number_after};
 use mf_store_journal::rows_after;
-use mf_store_played::number_at;
+use mf_store_told::number_at;
 use mf_wire_requests::Routes;
 use sqlite::{Alter, Connection, Row};
 use std::alloc::Global;

@@ -1,8 +1,8 @@
 -- The lines of archives and then a journal's own, played from a founding.
-use Rattle.std.proofs.Common.{◌≡◌, ◌<◌, ◌≤◌, ◌+◌, ◌⊎◌, inl, inr, ◌++◌, ℕ, zero, suc, List, [], ◌∷◌, drop, length, map, slice_get, Some}
-use Rattle.std.proofs.Common.{◌↔◌, Bool, false, IsTrue, Ok, Err, IfOk, refl, sym, ap, ◌∙◌, subst, arith, append-nil, append_assoc}
-use Rattle.std.specs.Prelude.{Result}
-use Rattle.std.specs.Prelude.{get_or, unwrap_or}
+use Rattle.std.proofs.Common.{◌≡◌, ◌<◌, ◌≤◌, ◌+◌, ◌⊎◌, inl, inr, ◌++◌, ℕ, zero, suc, List, [], ◌∷◌, drop, length, map}
+use Rattle.std.proofs.Common.{slice_get, Some, ◌↔◌, Bool, false, IsTrue, Ok, Err, IfOk, refl, sym, ap, ◌∙◌, subst}
+use Rattle.std.proofs.Common.{arith, append-nil, append_assoc}
+use Rattle.std.specs.Prelude.{Result, get_or, unwrap_or}
 use Rattle.std.specs.List.{AllByRecursion}
 use Rattle.std.proofs.lemmas.List.{length-append}
 use Rattle.std.proofs.lemmas.Option.{unwrap_or-slice_get}
@@ -32,7 +32,8 @@ use Rattle.mf_store_journal.specs.declared.journal.Journal.{Journal}
 use Rattle.mf_store_schema.specs.declared.versions.Version.TheVariants.{Third}
 use Rattle.mf_store_sound.specs.Held.{HoldsSoundAt}
 use Rattle.mf_store_played.specs.Answer.{IsAnswer, IsAnswerOver}
-use Rattle.mf_store_played.specs.Archived.{IsAnswerFrom, IsArchivedAnswer, IsArchivedAnswerOf, PlaysArchive, PlaysArchives}
+use Rattle.mf_store_played.specs.Archived.{IsAnswerFrom, IsArchivedAnswer, IsArchivedAnswerOf, PlaysArchive}
+use Rattle.mf_store_played.specs.Archived.{PlaysArchives}
 use Rattle.mf_store_played.specs.Played.{CameToByNumber, IsFounding, founded}
 use Rattle.mf_store_played.specs.declared.played.Played.{Played}
 use Rattle.mf_store_played.specs.declared.played.Played.TheVariants.{Leads, NoFounding, Stops, Differs, OtherCopy}
@@ -219,7 +220,8 @@ module _ {S : Type 0} (store : Ghosts S) where
 
       -- a line of it doesn't
       pub going_stops : (number : ℕ) (why : Stop) → ((a : Archive) → slice_get archives place ≡ Some a
-          → PlaysArchive store a here there (Ok (Err (number, why)))) → PlaysArchives store archives places was there (Ok (Err (number, why)))
+          → PlaysArchive store a here there (Ok (Err (number, why))))
+          → PlaysArchives store archives places was there (Ok (Err (number, why)))
       going_stops number why plays ok from to lines leads i stands =
           let r = going.far (early ok) from to lines leads i stands in
           let n = next_is r.now to r.rest r.leads in

@@ -1,6 +1,7 @@
 //! Tables against the play of a journal whose first lines were moved to archives.
 
-ghost use Rattle.std.specs.Prelude.{◌≡◌, ◌<◌, ◌↔◌, ◌++◌, List, map, length, slice_get, Some, false, IsTrue, OnOk, IfOk, IfErr};
+ghost use Rattle.std.specs.Prelude.{◌≡◌, ◌<◌, ◌↔◌, ◌++◌, List, map, length, slice_get, Some, false, IsTrue, OnOk};
+ghost use Rattle.std.specs.Prelude.{IfOk, IfErr};
 ghost use Rattle.mf_base.specs.declared.fault.Fault.TheVariants.{F20};
 ghost use Rattle.sqlite.specs.Held.{state};
 ghost use Rattle.sqlite.specs.State.{HasCleanDisk};
@@ -22,15 +23,16 @@ ghost use Rattle.mf_store_played.specs.Archived.{PlaysArchive, PlaysArchives};
 ghost use Rattle.mf_store_played.specs.Played.{IsFounding};
 
 use crate::founding::{found_in_memory, founding_day};
-use crate::pages::{number_at, play_page};
+use crate::pages::play_page;
 use crate::played::Played;
-use crate::playing::{narrow, play_over};
+use crate::playing::play_over;
 use mf_base::{Day, Fault};
 use mf_journal::Head;
 use mf_model::InstitutionStore;
 use mf_play::Stop;
 use mf_store_archived::{Archive, Joined, gap_before, join};
 use mf_store_journal::{Journal, read_journal};
+use mf_store_told::{narrow, number_at};
 use mf_wire_requests::Routes;
 use sqlite::{Alter, Connection, Row};
 use std::alloc::Global;
@@ -222,8 +224,8 @@ fn play_archived<S: Alter>(
 /// rows; else where archives are missing, or the first line that doesn't play, or the first table and row that differ.
 /// It plays in memory and changes nothing. The error is F20.
 ///
-/// The answer speaks of tables of the third version that hold a sound institution with its journal, and of archives that
-/// were read whole.
+/// The answer speaks of tables of the third version that hold a sound institution with its journal, and of archives
+/// that were read whole.
 pub fn play_tables_over_archives<S: Alter>(
     alloc: Global,
     connection: &mut Connection<S>,

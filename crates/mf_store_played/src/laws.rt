@@ -21,8 +21,8 @@ pub fn one_answer_from_a_copy()
         IsCopyAnswer copied begins lines i one → IsCopyAnswer copied begins lines i other → one ≡ other }
 {}
 
-/// The same of a journal whose first lines were moved to archives. So archives lead back to one head alone, with one list
-/// of lines.
+/// The same of a journal whose first lines were moved to archives. So archives lead back to one head alone, with one
+/// list of lines.
 pub fn one_answer_over_archives()
     ensures { (archives : List Archive) (begins : Head) (lines : List JournalLine) (i : Institution)
         (one other : Played) → IsArchivedAnswer archives begins lines i one

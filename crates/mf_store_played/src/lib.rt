@@ -14,6 +14,5 @@ mod rows;
 pub use archived::play_tables_over_archives;
 pub use copied::{begun_over, is_at, play_tables_from};
 pub use founding::{found_in_memory, founding_day};
-pub use pages::number_at;
 pub use played::{Difference, Played, PlayedTable};
 pub use playing::play_tables;

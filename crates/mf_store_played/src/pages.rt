@@ -18,20 +18,10 @@ use mf_model::InstitutionStore;
 use mf_play::{Stop, play_lines};
 use mf_store::{lines_told, number_after};
 use mf_store_journal::rows_after;
+use mf_store_told::number_at;
 use mf_wire_requests::Routes;
 use sqlite::{Alter, Connection, Row};
 use std::alloc::Global;
-
-/// The number of the line at a place among those after a number. The error is F20.
-pub fn number_at(number: u32, place: usize) -> Result<u64, Fault>
-    ensures number { IfOk result (λ found. found ≡ number + place + 1) }
-    ensures gives_up { IfErr result (λ fault. fault ≡ F20) }
-{
-    match number_after(number, place) {
-        Ok(before) => Ok(u64::from(before) + 1),
-        Err(fault) => Err(fault),
-    }
-}
 
 /// Plays the lines that have these rows, one after the other, until one doesn't play.
 pub(crate) fn play_page<T: InstitutionStore>(

@@ -29,6 +29,7 @@ use mf_store_journal::{Journal, read_journal};
 use mf_store_schema::{Unfollowed, Version};
 use mf_store_sound::{Tables, read_tables};
 use mf_store_sql::pages::PageStore;
+use mf_store_told::narrow;
 use mf_wire_requests::Routes;
 use sqlite::{Alter, Connection};
 use std::alloc::Global;
@@ -88,17 +89,6 @@ fn compare_rows<S: Alter>(
     match rows_in_memory(alloc, store) {
         Ok(played) => Ok(compared(head, found, played)),
         Err(fault) => Err(fault),
-    }
-}
-
-/// The number in 32 bits, as the table keeps it. The error is F20.
-pub(crate) fn narrow(number: u64) -> Result<u32, Fault>
-    ensures same { IfOk result (λ narrow. narrow ≡ number) }
-    ensures gives_up { IfErr result (λ fault. fault ≡ F20) }
-{
-    match u32::try_from(number) {
-        Ok(narrow) => Ok(narrow),
-        Err(_) => Err(Fault::F20),
     }
 }
 

@@ -10,22 +10,23 @@ use Rattle.mf_journal.specs.declared.following.Head.{Head}
 use Rattle.mf_store_journal.specs.Rows.{head_with_all}
 use Rattle.mf_store_journal.specs.Written.{KeepsJournalFrom, KeepsTo}
 use Rattle.mf_store_journal.specs.declared.journal.Journal.{Journal}
+use Rattle.mf_play.specs.Play.{AllTellRequests}
+use Rattle.mf_store_told.specs.Told.{KeepsTold, TellsRequests}
 use Rattle.mf_store_schema.specs.Rows.{Lists}
 use Rattle.mf_store_schema.specs.Writes.{HoldsAt}
 use Rattle.mf_store_schema.specs.declared.versions.Version.{Version}
 use Rattle.mf_store_schema.specs.declared.versions.Version.TheVariants.{First, Second, Third}
 use Rattle.mf_store_sound.specs.Schemas.{lists_at, tables_at}
 use Rattle.mf_store_sound.specs.Sound.{AreOfSoundAt}
-use Rattle.mf_store_sound.specs.Held.{CanBeHeld, DoRise, HoldsSoundAt, IsFoundIn, KeepsJournalAt}
+use Rattle.mf_store_sound.specs.Held.{CanBeHeld, CanBeOpened, DoRise, HoldsSoundAt, IsFoundIn, KeepsJournalAt}
 use Rattle.mf_store_sound.proofs.HeldAccountLemmas.{held_instalments, held_shares}
 use Rattle.mf_store_schema.proofs.ReadLemmas.{unchanged_then}
 use Rattle.mf_store_schema.specs.Schemas.{IsUnchangedUnder}
 use Rattle.mf_store_schema.specs.Versions.{IsOfVersion}
 use Rattle.mf_store_schema.specs.Whole.{HaveRowids}
 use Rattle.mf_store_sound.proofs.NestedLemmas.{◌also◌, unchanged_fewer}
-use Rattle.mf_store_sound.proofs.HeldLemmas.{held_meta, held_meta_under, held_offices, held_staff}
-use Rattle.mf_store_sound.proofs.HeldLemmas.{held_clients, held_charges, held_products, held_loans, held_entries}
-use Rattle.mf_store_sound.proofs.HeldLemmas.{held_receipts}
+use Rattle.mf_store_sound.proofs.HeldLemmas.{held_meta, held_meta_under, held_offices, held_staff, held_clients}
+use Rattle.mf_store_sound.proofs.HeldLemmas.{held_charges, held_products, held_loans, held_entries, held_receipts}
 use Rattle.mf_store_sound.proofs.RiseLemmas.{meta_rises, offices_rise, staff_rise, clients_rise, charges_rise}
 use Rattle.mf_store_sound.proofs.RiseLemmas.{products_rise, loans_rise, entries_rise, receipts_rise, instalments_rise}
 use Rattle.mf_store_sound.proofs.RiseLemmas.{shares_rise}
@@ -90,6 +91,14 @@ module _ (v : Version) (trees : Trees) (lists : Lists) where
     keeps = kept;
   }
 
+  -- and where each line of the journal tells a request, they can be opened
+  pub can_be_opened : (DoRise lists → HoldsAt v trees lists) → AreOfSoundAt v lists
+      → (journal : Option (List JournalLine)) → KeepsJournalAt v trees journal → TellsRequests journal
+      → CanBeOpened v trees
+  unfolding holds_sound
+  can_be_opened keeps are journal kept told =
+      record { held = holds_sound keeps are journal kept; told = told }
+
   module _ (only : (l : Lists) → HoldsAt v trees l → lists ≡ lists_at v l) where
     -- where trees hold a sound institution and the lists read are all that they hold, these are its rows
     pub rows_are : (i : Institution) → HoldsAt v trees (tables_at v i) → tables_at v i ≡ lists
@@ -120,6 +129,17 @@ module _ (trees : Trees) where
         subst (λ b. KeepsJournalFrom b trees lines) (sym one.0) from,
         one.1 ∙ ap (λ b. head_with_all b lines) (sym one.0),
       )
+
+  -- where each line tells a request
+  pub told_kept : (found : Journal) → KeepsTold found trees
+      → (journal : Option (List JournalLine)) × KeepsJournalAt Third trees journal × TellsRequests journal
+  told_kept found keeps =
+      (Some keeps.to.lines, (found.begins, keeps.to.lines, refl, keeps.to.keeps), keeps.told)
+
+  pub no_told_kept : ((begins : Head) (lines : List JournalLine) → KeepsJournalFrom begins trees lines
+      → ¬ AllTellRequests lines) → (journal : Option (List JournalLine)) → KeepsJournalAt Third trees journal
+      → ¬ TellsRequests journal
+  no_told_kept none journal (begins, lines, is, from) told = none begins lines from (subst TellsRequests is told)
 
   pub no_journal_kept : ((begins : Head) (lines : List JournalLine) → ¬ KeepsJournalFrom begins trees lines)
       → (journal : Option (List JournalLine)) → ¬ KeepsJournalAt Third trees journal

@@ -11,7 +11,7 @@ use Rattle.sqlite_wal.specs.Recovery.{Image}
 use Rattle.mf_store_sql.specs.Tables.{no_schema}
 use Rattle.mf_store_schema.specs.Schemas.{IsKnown}
 use Rattle.mf_store_schema.specs.Versions.{schema_at}
-use Rattle.mf_store_sound.specs.Held.{HoldsSoundAt}
+use Rattle.mf_store_sound.specs.Held.{CanBeOpened}
 use Rattle.mf_store_sound.specs.Files.{ShowsFile}
 use Rattle.mf_store_sound.specs.Told.{IsToldOf, IsToldOfFile}
 use Rattle.mf_store_sound.specs.declared.judging.Contents.{Contents}
@@ -40,7 +40,7 @@ module _ (image : Image) (s : State) (shows : ShowsFile image s) where
     told_tables Nothing told = is_seen no_schema refl told
     told_tables (Known v held) told = (
       is_seen (schema_at v) (no_views v) told.0,
-      subst (λ (t : Trees). IsTrue held ↔ HoldsSoundAt v t) (shows.holds trees holds) told.1,
+      subst (λ (t : Trees). IsTrue held ↔ CanBeOpened v t) (shows.holds trees holds) told.1,
     )
     told_tables Others told = (λ none. told.0 (was_seen no_schema refl none), λ known. told.1 (as_known known))
       where

@@ -12,6 +12,7 @@ use Rattle.mf_journal.specs.declared.following.Head.{Head}
 use Rattle.mf_store_journal.specs.Rows.{head_with_all}
 use Rattle.mf_store_journal.specs.Written.{KeepsJournalFrom}
 use Rattle.mf_store_journal.specs.declared.journal.Journal.{Journal}
+use Rattle.mf_store_told.specs.Told.{TellsRequests}
 use Rattle.mf_store_schema.specs.Tables as table
 use Rattle.mf_store_sql.specs.Columns.{Named}
 use Rattle.mf_store_schema.specs.Fields.{HasFields}
@@ -83,6 +84,11 @@ pub record HoldsSoundAt (v : Version) (trees : Trees) : Type 0 where
   pub holds : HoldsAt v trees (tables_at v institution)
   pub keeps : KeepsJournalAt v trees institution.journal
 
--- the same by tables without a journal
+-- The same, and each line of the journal tells a request: tables that are opened.
+pub record CanBeOpened (v : Version) (trees : Trees) : Type 0 where
+  pub held : HoldsSoundAt v trees
+  pub told : TellsRequests held.institution.journal
+
+-- the rows of a sound institution, by tables without a journal
 abbrev pub HoldsSound : Trees → Type 0
 HoldsSound trees = HoldsSoundAt Second trees

@@ -12,7 +12,7 @@ use Rattle.mf_store_schema.specs.Versions.{IsOfVersion}
 use Rattle.mf_store_schema.specs.Whole.{HaveRowids}
 use Rattle.mf_store_schema.specs.declared.versions.Version.{Version}
 use Rattle.mf_store_sound.specs.Files.{HasNoTables}
-use Rattle.mf_store_sound.specs.Held.{HoldsSoundAt}
+use Rattle.mf_store_sound.specs.Held.{CanBeOpened}
 use Rattle.mf_store_sound.specs.declared.judging.Contents.{Contents}
 use Rattle.mf_store_sound.specs.declared.judging.Contents.TheVariants.{Nothing, Known, Others}
 use Rattle.mf_store_sound.specs.declared.looking.Finding.{Finding}
@@ -29,7 +29,7 @@ HaveOwnRowids db = (v : Version) → IsOfVersion v db.schema → HaveRowids v db
 -- There are no tables; or those of a version, with the rows of a sound institution or not; or others.
 abbrev pub IsToldOf : Database → Contents → Type 0
 IsToldOf db Nothing = db.schema ≡ no_schema
-IsToldOf db (Known v sound) = IsOfVersion v db.schema × (IsTrue sound ↔ HoldsSoundAt v db.trees)
+IsToldOf db (Known v sound) = IsOfVersion v db.schema × (IsTrue sound ↔ CanBeOpened v db.trees)
 IsToldOf db Others = (db.schema ≢ no_schema) × (¬ IsKnown db.schema)
 
 -- the same of the database that a file held

@@ -12,16 +12,18 @@ ghost use Rattle.mf_store_schema.specs.Whole.{HaveRowids};
 ghost use Rattle.mf_store_sound.specs.Schemas.{lists_at, tables_at};
 ghost use Rattle.mf_model.specs.Institution.{JournalLine};
 ghost use Rattle.mf_store_schema.specs.declared.versions.Version.TheVariants.{Third};
-ghost use Rattle.mf_store_sound.specs.Held.{CanBeHeld, DoRise, HoldsSoundAt, IsFoundIn, KeepsJournalAt};
+ghost use Rattle.mf_store_told.specs.Told.{TellsRequests};
+ghost use Rattle.mf_store_sound.specs.Held.{CanBeHeld, CanBeOpened, DoRise, HoldsSoundAt, IsFoundIn, KeepsJournalAt};
 
 use crate::sound::is_sound;
 use crate::tables::{Tables, has_accounts};
 use mf_base::Fault;
-use mf_store_journal::{Journal, read_journal};
+use mf_store_journal::Journal;
 use mf_store_schema::{
     ChargeRow, ClientRow, EntryRow, Group, InstalmentRow, Last, LoanRow, MetaRow, OfficeRow,
     ProductRow, Progress, ReceiptRow, ShareRow, StaffRow, Version,
 };
+use mf_store_told::read_told_journal;
 use sqlite::{Alter, Connection};
 use std::alloc::Global;
 
@@ -134,10 +136,11 @@ pub struct SoundTables {
 }
 
 /// The rows with the journal beside them, in tables of the third version, and none where no journal is kept there that
-/// the program can have written.
+/// the program can have written, or a line of it tells no request.
 ///
 /// The clauses on the journal speak of a connection whose tables are those of the version, whatever rows stand there.
 fn with_journal<S: Alter>(
+    alloc: Global,
     connection: &mut Connection<S>,
     tables: Tables,
 ) -> Result<Option<SoundTables>, Fault>
@@ -152,7 +155,7 @@ fn with_journal<S: Alter>(
         → IsOfVersion Third (state S.Store connection.old).now.schema
         → HaveRowids Third (state S.Store connection.old).now.trees
         → IfOk result (λ x. IfSome x (λ found. (journal : Option (List JournalLine))
-        × KeepsJournalAt Third (state S.Store connection.old).now.trees journal)) }
+        × KeepsJournalAt Third (state S.Store connection.old).now.trees journal × TellsRequests journal)) }
     ensures only { HasCleanDisk (state S.Store connection.new)
         → IsOfVersion Third (state S.Store connection.old).now.schema
         → IfOk result (λ x. IfSome x (λ found. (journal : Option (List JournalLine))
@@ -161,10 +164,10 @@ fn with_journal<S: Alter>(
     ensures none { HasCleanDisk (state S.Store connection.new)
         → IsOfVersion Third (state S.Store connection.old).now.schema
         → IfOk result (λ x. IfNone x ((journal : Option (List JournalLine))
-        → ¬ KeepsJournalAt Third (state S.Store connection.old).now.trees journal)) }
+        → KeepsJournalAt Third (state S.Store connection.old).now.trees journal → ¬ TellsRequests journal)) }
     ensures mode { connection.new.in_transaction ≡ false }
 {
-    match read_journal(connection) {
+    match read_told_journal(alloc, connection) {
         Ok(Some(journal)) => Ok(Some(SoundTables {
             tables,
             journal: Some(journal),
@@ -175,8 +178,8 @@ fn with_journal<S: Alter>(
 }
 
 /// The rows of the tables of a version where they are those of a sound institution, with the journal where the version
-/// has one, and none where no sound one has them or no journal is kept that the program can have written. It changes
-/// nothing. The error is F20.
+/// has one. None where no sound one has them, where no journal is kept that the program can have written, and where a
+/// line of it tells no request. It changes nothing. The error is F20.
 ///
 /// The answer speaks of a connection whose tables are those of the version, whatever rows stand there.
 pub fn read_sound<S: Alter, P: Progress>(
@@ -194,7 +197,7 @@ pub fn read_sound<S: Alter, P: Progress>(
     ensures sound { HasCleanDisk (state S.Store connection.new)
         → IsOfVersion version (state S.Store connection.old).now.schema
         → HaveRowids version (state S.Store connection.old).now.trees
-        → IfOk result (λ x. IfSome x (λ found. HoldsSoundAt version (state S.Store connection.old).now.trees)) }
+        → IfOk result (λ x. IfSome x (λ found. CanBeOpened version (state S.Store connection.old).now.trees)) }
     ensures rows { HasCleanDisk (state S.Store connection.new)
         → IsOfVersion version (state S.Store connection.old).now.schema
         → IfOk result (λ x. IfSome x
@@ -207,7 +210,7 @@ pub fn read_sound<S: Alter, P: Progress>(
         → IsFoundIn (state S.Store connection.old).now.trees found.journal held.institution.journal)) }
     ensures none { HasCleanDisk (state S.Store connection.new)
         → IsOfVersion version (state S.Store connection.old).now.schema
-        → IfOk result (λ x. IfNone x (¬ HoldsSoundAt version (state S.Store connection.old).now.trees)) }
+        → IfOk result (λ x. IfNone x (¬ CanBeOpened version (state S.Store connection.old).now.trees)) }
     ensures mode { connection.new.in_transaction ≡ false }
 {
     let Some(tables) = read_tables(alloc, connection, version, progress)? else {
@@ -222,6 +225,6 @@ pub fn read_sound<S: Alter, P: Progress>(
             tables,
             journal: None,
         })),
-        Version::Third => with_journal(connection, tables),
+        Version::Third => with_journal(alloc, connection, tables),
     }
 }

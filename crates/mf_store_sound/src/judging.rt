@@ -7,7 +7,7 @@ ghost use Rattle.sqlite.specs.State.{HasCleanDisk};
 ghost use Rattle.mf_store_schema.specs.Schemas.{IsUnchangedUnder};
 ghost use Rattle.mf_store_schema.specs.Versions.{IsOfVersion};
 ghost use Rattle.mf_store_schema.specs.Whole.{HaveRowids};
-ghost use Rattle.mf_store_sound.specs.Held.{HoldsSoundAt};
+ghost use Rattle.mf_store_sound.specs.Held.{CanBeOpened};
 ghost use Rattle.mf_store_sound.specs.Told.{IsAny, HaveOwnRowids, IsToldOf};
 
 use crate::judged::read_sound;
@@ -27,7 +27,8 @@ pub enum Contents {
     Others,
 }
 
-/// Whether tables of a version hold the rows of a sound institution. It changes nothing. The error is F20.
+/// Whether tables of a version hold the rows of a sound institution, and no line of a journal that tells no request. It
+/// changes nothing. The error is F20.
 fn holds_sound<S: Alter>(
     alloc: Global,
     connection: &mut Connection<S>,
@@ -39,7 +40,7 @@ fn holds_sound<S: Alter>(
     ensures exact { HasCleanDisk (state S.Store connection.new)
         → IsOfVersion version (state S.Store connection.old).now.schema
         → HaveRowids version (state S.Store connection.old).now.trees
-        → IfOk result (λ yes. IsTrue yes ↔ HoldsSoundAt version (state S.Store connection.old).now.trees) }
+        → IfOk result (λ yes. IsTrue yes ↔ CanBeOpened version (state S.Store connection.old).now.trees) }
     ensures gives_up { IfErr result (λ fault. fault ≡ F20) }
     ensures mode { connection.new.in_transaction ≡ false }
 {

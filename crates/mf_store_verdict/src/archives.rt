@@ -23,8 +23,8 @@ use sqlite::{Connection, FileFrom, FileStore, Start, Unknown};
 use std::alloc::Global;
 use std::rt::HostRuntime;
 
-/// The archive that the bytes of a file hold, and of the log beside it, with all its lines; else why none is made of it.
-/// `Failed` is F20: out of memory, or bytes that hold no database.
+/// The archive that the bytes of a file hold, and of the log beside it, with all its lines; else why none is made of
+/// it. `Failed` is F20: out of memory, or bytes that hold no database.
 pub fn archive_in_bytes(alloc: Global, log: &[u8], db: &[u8]) -> Result<Archive, Unread>
     // Whatever the bytes are, the lines are those of a journal.
     ensures whole { IfOk result (λ archive. (lines : List JournalLine) × IsPart archive lines) }

@@ -181,8 +181,8 @@ pub fn audit_and_play_from<S: Alter, P: Progress>(
     audit_with(alloc, connection, Beginning::Copy(copy), all, progress)
 }
 
-/// As `audit_and_play`, but of a journal whose first lines were moved to archives: the lines of the archives that lead to
-/// where it begins are played before its own.
+/// As `audit_and_play`, but of a journal whose first lines were moved to archives: the lines of the archives that lead
+/// to where it begins are played before its own.
 pub fn audit_and_play_over<S: Alter, P: Progress>(
     alloc: Global,
     connection: &mut Connection<S>,

@@ -3,8 +3,10 @@
 ghost use Rattle.std.specs.Prelude.{◌≡◌, string_bytes, IfOk, IsOkUnless};
 ghost use Rattle.microloan_audit.specs.Journal as spec;
 
+use crate::played::stop_line;
 use mf_base::Fault;
 use mf_journal::Break;
+use mf_play::Stop;
 use mf_store_audit::BrokenJournal;
 use mf_store_journal::Flaw;
 use std::alloc::Global;
@@ -49,5 +51,6 @@ pub(crate) fn journal_line(alloc: Global, broken: BrokenJournal) -> Result<Strin
             Ok(format!(in alloc; "journal: its first row does not say where it begins")?)
         }
         BrokenJournal::Row(flaw) => flaw_line(alloc, flaw),
+        BrokenJournal::NoRequest(number) => stop_line(alloc, number, Stop::NoRequest),
     }
 }

@@ -45,7 +45,7 @@ returns-in-First-clause-exact g c clean ours rowids =
     let tables = c.in-Some.tables in
     let only = at_some c.in_ok-tables.field-0 _ tables c.in-Some.is (c.in_ok-tables.ensures.only clean ours) in
     let keeps = at_some c.in_ok-tables.field-0 _ tables c.in-Some.is (c.in_ok-tables.ensures.keeps clean ours rowids) in
-    of_rows db v ours tables only keeps c.in_ok-audit.audit (λ _. (None, none_kept v c.in-First.is db.trees))
+    of_rows db v ours tables only keeps c.in_ok-audit.audit (λ _. (None, none_kept v c.in-First.is db.trees, tt))
     c.in_ok-audit.ensures.exact
 
 pub returns-in-Third-clause-kept : goal.returns-in-Third-clause-kept

@@ -1,10 +1,17 @@
 use Rattle.std.proofs.Common.{sym, subst}
 use Rattle.sqlite.specs.Held.{state}
+use Rattle.mf_store_noted.specs.Tabled.{HasGoodDisk}
 use Rattle.mf_store_schema.specs.Schemas.{IsUnchangedUnder}
 use Rattle.mf_store_schema.specs.Versions.{IsOfVersion}
 use Rattle.mf_store_files.proofs.AdoptLemmas.{stands_at, leaves_at, left_at}
 use Rattle.mf_store_schema.proofs.ReadLemmas.{at_some}
 use Rattle.mf_store_files.proofs.adopted.take_over.Goals as goal
+
+pub returns-in-Ok-bring_up-clause-sound : goal.returns-in-Ok-bring_up-clause-sound
+returns-in-Ok-bring_up-clause-sound g c clean ours rowids =
+    let read = c.in-Ok-Some in
+    let good = c.in-Ok-bring_up.ensures.premise (subst (HasGoodDisk g.S.Store) c.over.ensures.same clean) in
+    at_some read.field-0 _ read.found read.field-0-is (read.ensures.sound good ours rowids)
 
 pub returns-in-Ok-bring_up-clause-stands : goal.returns-in-Ok-bring_up-clause-stands
 returns-in-Ok-bring_up-clause-stands g c =

@@ -30,7 +30,8 @@ returns-in-Ok-Ok-clause-answer g c clean its lines keeps =
       c.requires.founds,
       came.0,
       came.1,
-      came.2.text ∙ ap (λ text. text ++ span_text c.args.asked.now (journal_transactions c.args.asked.now.basis day lines))
+      came.2.text
+          ∙ ap (λ text. text ++ span_text c.args.asked.now (journal_transactions c.args.asked.now.basis day lines))
           c.in_ok-text.ensures.text,
     )
 

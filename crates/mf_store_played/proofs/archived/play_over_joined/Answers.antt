@@ -12,7 +12,8 @@ use Rattle.mf_store_played.proofs.archived.play_over_joined.Goals as goal
 
 pub gap_before-requires : goal.gap_before-requires
 gap_before-requires g c =
-    above_none c.args.joined.now.begins.number c.is_before_all.result c.is_before_all.ensures c.if-not-is_before_all.true
+    above_none c.args.joined.now.begins.number c.is_before_all.result c.is_before_all.ensures
+    c.if-not-is_before_all.true
 
 pub returns-then-not-is_before_all-clause-kept : goal.returns-then-not-is_before_all-clause-kept
 returns-then-not-is_before_all-clause-kept g c = unchanged_itself (state g.S.Store c.args.connection.now)

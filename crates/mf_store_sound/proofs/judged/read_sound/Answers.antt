@@ -2,7 +2,8 @@ use Rattle.std.proofs.Common.{None, sym, ◌∙◌, true≢false}
 use Rattle.std.proofs.lemmas.Result.{IfOk-weaker}
 use Rattle.sqlite.specs.Held.{state}
 use Rattle.mf_store_schema.proofs.ReadLemmas.{at_none, at_some}
-use Rattle.mf_store_sound.proofs.JudgedLemmas.{can_be_held, holds_sound, rows_are, are_of_sound, none_kept, kept_none}
+use Rattle.mf_store_sound.proofs.JudgedLemmas.{can_be_held, can_be_opened, rows_are, are_of_sound}
+use Rattle.mf_store_sound.proofs.JudgedLemmas.{none_kept, kept_none}
 use Rattle.mf_store_sound.proofs.JudgedLemmas.{some_weaker, none_weaker, unchanged_twice, ours_there, rowids_there}
 use Rattle.mf_store_sound.proofs.JudgedLemmas.{journal_there, journal_here, found_here}
 use Rattle.mf_store_sound.proofs.judged.read_sound.Goals as goal
@@ -10,14 +11,14 @@ use Rattle.mf_store_sound.proofs.judged.read_sound.Goals as goal
 pub returns-in_default-clause-none : goal.returns-in_default-clause-none
 returns-in_default-clause-none g c clean ours h =
     at_none c.in_ok-tables.field-0 _ c.in_default.is (c.in_ok-tables.ensures.none clean ours) _
-    (can_be_held c.args.version h.institution h.sound) h.holds
+    (can_be_held c.args.version h.held.institution h.held.sound) h.held.holds
 
 pub returns-then-not-sound-clause-none : goal.returns-then-not-sound-clause-none
 returns-then-not-sound-clause-none g c clean ours h =
     let trees = (state g.S.Store c.args.connection.now).now.trees in
     let only = at_some c.in_ok-tables.field-0 _ c.in-Some.tables c.in-Some.is (c.in_ok-tables.ensures.only clean
     ours) in
-    true≢false (sym (c.in_ok-sound.ensures.exact.1 (are_of_sound c.args.version trees c.in-Some.tables only h))
+    true≢false (sym (c.in_ok-sound.ensures.exact.1 (are_of_sound c.args.version trees c.in-Some.tables only h.held))
     ∙ c.if-not-sound.true)
 
 -- ---- no journal
@@ -27,8 +28,8 @@ returns-in-First-clause-sound g c clean ours rowids =
     let trees = (state g.S.Store c.args.connection.now).now.trees in
     let keeps = at_some c.in_ok-tables.field-0 _ c.in-Some.tables c.in-Some.is (c.in_ok-tables.ensures.keeps clean ours
     rowids) in
-    holds_sound c.args.version trees c.in-Some.tables keeps (c.in_ok-sound.ensures.exact.0 c.if-not-sound.false) None
-    (none_kept c.args.version c.in-First.is trees)
+    can_be_opened c.args.version trees c.in-Some.tables keeps (c.in_ok-sound.ensures.exact.0 c.if-not-sound.false) None
+    (none_kept c.args.version c.in-First.is trees) tt
 
 pub returns-in-First-clause-rows : goal.returns-in-First-clause-rows
 returns-in-First-clause-rows g c clean ours h =
@@ -60,8 +61,8 @@ returns-in-Third-clause-sound g c clean ours rowids =
     let keeps = at_some c.in_ok-tables.field-0 _ c.in-Some.tables c.in-Some.is (c.in_ok-tables.ensures.keeps early ours
     rowids) in
     IfOk-weaker c.with_journal.result _ _ (λ x told. some_weaker x _ _ (λ found kept.
-    holds_sound v was.trees c.in-Some.tables keeps (c.in_ok-sound.ensures.exact.0 c.if-not-sound.false) kept.0
-    (journal_here v third was now same kept.0 kept.1)) told)
+    can_be_opened v was.trees c.in-Some.tables keeps (c.in_ok-sound.ensures.exact.0 c.if-not-sound.false) kept.0
+    (journal_here v third was now same kept.0 kept.1) kept.2) told)
     (c.with_journal.ensures.some clean (ours_there v third was now same ours) (rowids_there v third was now same
     rowids))
 
@@ -97,5 +98,6 @@ returns-in-Third-clause-none g c clean ours =
     let early = c.with_journal.ensures.kept.premise clean in
     let same = c.read_tables.ensures.kept.same early (c.in_ok-tables.ensures.open early) ours in
     IfOk-weaker c.with_journal.result _ _ (λ x told. none_weaker x _ _ (λ none h.
-    none h.institution.journal (journal_there v third was now same h.institution.journal h.keeps)) told)
+    none h.held.institution.journal (journal_there v third was now same h.held.institution.journal h.held.keeps)
+    h.told) told)
     (c.with_journal.ensures.none clean (ours_there v third was now same ours))
