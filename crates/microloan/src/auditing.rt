@@ -86,8 +86,8 @@ fn say_rows_from(rt: &HostRuntime, file: &str, copy: &str, all: bool) -> u8
     }
 }
 
-/// The same, but the lines of the archives in a folder are played before the file's own. A file that keeps no journal is
-/// refused then.
+/// The same, but the lines of the archives in a folder are played before the file's own. A file that keeps no journal
+/// is refused then.
 pub fn say_audit_over(rt: &HostRuntime, file: &str, folder: &str, all: bool) -> u8
     ensures { IsPrintStatus result }
 {
