@@ -31,8 +31,8 @@ not_past e f past apart stands later tells =
 
 -- a row's entry stands, is another of the same loan, and does not come before an entry
 abbrev pub Outlasts : EntryRow → EntryRow → Entry → Type 0
-Outlasts row seal e = (f : Entry) × (entry_in seal.office seal.loan f ≡ row) × (f.seq ≢ e.seq) × (f.reversed ≡ false)
-    × (is_before f e ≡ false)
+Outlasts row seal e = (f : Entry) × IsReadable f × (entry_in seal.office seal.loan f ≡ row) × (f.seq ≢ e.seq)
+    × (f.reversed ≡ false) × (is_before f e ≡ false)
 
 pub outlasts_by : (row seal : EntryRow) (past : Bool) → (row.office ≡ seal.office) × (row.loan ≡ seal.loan)
     → IsReadableRow row
@@ -46,7 +46,7 @@ outlasts_by row seal false same r tells no_ e readable is =
     (tells seal.office seal.loan r.0 e r.1 own readable is) in
     let tested : (r.0.seq == e.seq) ≡ false = none.1 in
     let apart : r.0.seq ≢ e.seq = grind (arith, nat_tests) in
-    (r.0, own, apart, none.0, none.2)
+    (r.0, r.1, own, apart, none.0, none.2)
 
 pub not_last : (rows : List EntryRow) (row other : EntryRow) → IsReadableRow row → ((x m : ℕ) (e : Entry)
     → entry_in x m e ≡ row → (is_seal e.kind ≡ true) × (e.reversed ≡ false)) → Contains rows other
@@ -56,12 +56,29 @@ not_last rows row other r standing there outlasts =
     let o = outlasts r.0 r.1 r.2 in
     record {
       seal = r.0;
+      readable = r.1;
       seal_is = r.2;
       sealing = seal.0;
       stands = seal.1;
       other = o.0;
-      other_there = subst (λ (q : EntryRow). Contains rows q) (sym o.1) there;
-      another = o.2;
-      other_stands = o.3;
-      not_before = o.4;
+      other_readable = o.1;
+      other_there = subst (λ (q : EntryRow). Contains rows q) (sym o.2) there;
+      another = o.3;
+      other_stands = o.4;
+      not_before = o.5;
     }
+
+-- entries of two rows, of which the one doesn't come before the other, which seals
+abbrev pub CanOutlast : EntryRow → EntryRow → Type 0
+CanOutlast row seal = (e : Entry) × (f : Entry) × IsReadable e × (entry_in seal.office seal.loan e ≡ seal)
+    × IsReadable f × (entry_in seal.office seal.loan f ≡ row) × (f.seq ≢ e.seq) × (f.reversed ≡ false)
+    × (is_before f e ≡ false)
+
+-- an entry that is not the last is one that another one of its loan outlasts
+pub outlasted : (rows around : List EntryRow) (row : EntryRow) → ((other : EntryRow) → Contains rows other
+    → other.office ≡ row.office → other.loan ≡ row.loan → Contains around other)
+    → ((other : EntryRow) → Contains around other → ¬ CanOutlast other row) → ¬ IsNotLast rows row
+outlasted rows around row all none n =
+    let other : EntryRow = entry_in row.office row.loan n.other in
+    none other (all other n.other_there refl refl) (n.seal, n.other, n.readable, n.seal_is, n.other_readable, refl,
+    n.another, n.other_stands, n.not_before)

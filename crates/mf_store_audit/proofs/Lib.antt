@@ -1,7 +1,9 @@
-pub mod DifferenceLemmas
 pub mod EntryFlawLemmas
+pub mod AroundLemmas
 pub mod LoanFlawLemmas
 pub mod PlaceLemmas
+pub mod DifferenceLemmas
+pub mod AddLemmas
 pub mod AddedLemmas
 pub mod LoanLemmas
 pub mod BalancedLemmas

@@ -1,5 +1,7 @@
 pub mod Places
 pub mod Keys
+pub mod Kinds
+pub mod Differences
 pub mod Catalogue
 pub mod Offices
 pub mod Loans

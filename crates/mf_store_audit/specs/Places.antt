@@ -1,6 +1,7 @@
--- Rows by their places in the order of a table's key, and what a row owes to the one before it.
-use Rattle.std.specs.Prelude.{◌≡◌, ◌≢◌, ◌⊎◌, ℕ, ◌+◌, ◌-◌, ◌==◌, ◌≤◌, ◌<◌, Bool, true, cond, List, [], ◌∷◌}
+-- Rows by their places in the order of a table's key, what a row owes to the one before it, and what is found of rows.
+use Rattle.std.specs.Prelude.{◌≡◌, ◌≢◌, ◌⊎◌, ℕ, ◌+◌, ◌-◌, ◌==◌, ◌≤◌, ◌<◌, Bool, true, cond, List, [], ◌∷◌, ◌++◌}
 use Rattle.std.specs.Prelude.{Option, Some, None, slice_get}
+use Rattle.std.specs.List.{AllByRecursion}
 use Rattle.std.specs.declared.cmp.Ordering.{Ordering}
 use Rattle.std.specs.declared.cmp.Ordering.TheVariants.{Less}
 use Rattle.mf_base.specs.DayText.{last_entered_day, day_text}
@@ -15,18 +16,45 @@ pub record IsAt {R : Type 0} (Holds : Option R → R → Type 0) (place : ℕ) (
   pub at : slice_get rows place ≡ Some row
   pub holds : Holds (row_before rows place) row
 
--- no row from one place up to another breaks a condition
-abbrev pub NoneBetween : {F R : Type 0} → (F → Option R → R → Type 0) → ℕ → ℕ → List R → Type 0
-NoneBetween breaks from to rows = (place : ℕ) (flaw : _) → from ≤ place → place < to → ¬ IsAt (breaks flaw) place rows
-
 -- one of a list
 abbrev pub IsOneOf : {A : Type 0} → List A → A → Type 0
 IsOneOf [] a = ⊥
 IsOneOf (b ∷ bs) a = (b ≡ a) ⊎ IsOneOf bs a
 
--- a row breaks a condition that is decided of each row
-abbrev pub BreaksDecided : {F R : Type 0} → (F → Bool) → (F → Option R → R → Type 0) → F → Option R → R → Type 0
-BreaksDecided is_decided breaks flaw before row = (is_decided flaw ≡ true) × breaks flaw before row
+-- the first of a list of which this holds, if it holds of one
+abbrev pub IsFirst : {A : Type 0} → (A → Type 0) → List A → Option A → Type 0
+IsFirst Holds [] first = first ≡ None
+IsFirst Holds (a ∷ later) first = (Holds a × (first ≡ Some a)) ⊎ ((¬ Holds a) × IsFirst Holds later first)
+
+-- what is told of the row at a place: the condition that it breaks, if it breaks one
+abbrev pub told_at : {F N : Type 0} → (ℕ → F → N) → ℕ → Option F → List N
+told_at name place None = []
+told_at name place (Some flaw) = name place flaw ∷ []
+
+-- What is found of rows from a place on, behind another row: of each that breaks a condition, row by row, the first
+-- condition that it breaks, and of no other row anything.
+abbrev pub AreFound : {F R N : Type 0} → List F → (F → Option R → R → Type 0) → (ℕ → F → N) → ℕ → Option R → List R
+    → List N → Type 0
+AreFound flaws breaks name place before [] found = found ≡ []
+AreFound flaws breaks name place before (row ∷ rows) found =
+    (first : Option _) × (later : List _) × IsFirst (λ flaw. breaks flaw before row) flaws first
+    × AreFound flaws breaks name (place + 1) (Some row) rows later × (found ≡ told_at name place first ++ later)
+
+-- the same of a whole table
+abbrev pub AreFoundIn : {F R N : Type 0} → List F → (F → Option R → R → Type 0) → (ℕ → F → N) → List R → List N
+    → Type 0
+AreFoundIn flaws breaks name rows found = AreFound flaws breaks name 0 None rows found
+
+-- these are found one after the other
+abbrev pub AreInTurn : {N : Type 0} → List (List N → Type 0) → List N → Type 0
+AreInTurn [] found = found ≡ []
+AreInTurn (Part ∷ Parts) found =
+    (first : List _) × (later : List _) × Part first × AreInTurn Parts later × (found ≡ first ++ later)
+
+-- each of these names a condition that the row at its place breaks
+abbrev pub AreOfRows : {F R N : Type 0} → (F → Option R → R → Type 0) → (ℕ → F → N) → List R → List N → Type 0
+AreOfRows breaks name rows found =
+    AllByRecursion (λ n. (place : ℕ) × (flaw : _) × (n ≡ name place flaw) × IsAt (breaks flaw) place rows) found
 
 -- the number after that of the row before, where that is of the same owner, and else 1
 abbrev pub number_within : {R : Type 0} → (R → Bool) → (R → ℕ) → Option R → ℕ

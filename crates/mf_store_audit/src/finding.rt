@@ -1,5 +1,8 @@
 //! The conditions of a sound institution, one kind each, by the row that breaks it.
 
+ghost use Rattle.mf_store_audit.specs.Kinds.{meta_flaws, charge_flaws, product_flaws, office_flaws, staff_flaws};
+ghost use Rattle.mf_store_audit.specs.Kinds.{client_flaws, loan_flaws, entry_flaws, receipt_flaws};
+
 use crate::places::Flaws;
 
 /// What is wrong with a row of `meta`.
@@ -14,6 +17,8 @@ pub enum MetaFlaw {
 }
 
 impl Flaws for MetaFlaw {
+    ghost all = { meta_flaws };
+
     fn all() -> &'static [MetaFlaw] {
         &[MetaFlaw::Key, MetaFlaw::Schema, MetaFlaw::Day]
     }
@@ -36,6 +41,8 @@ pub enum ChargeFlaw {
 }
 
 impl Flaws for ChargeFlaw {
+    ghost all = { charge_flaws };
+
     fn all() -> &'static [ChargeFlaw] {
         &[
             ChargeFlaw::Number,
@@ -97,6 +104,8 @@ pub enum ProductFlaw {
 }
 
 impl Flaws for ProductFlaw {
+    ghost all = { product_flaws };
+
     fn all() -> &'static [ProductFlaw] {
         &[
             ProductFlaw::Number,
@@ -142,6 +151,8 @@ pub enum OfficeFlaw {
 }
 
 impl Flaws for OfficeFlaw {
+    ghost all = { office_flaws };
+
     fn all() -> &'static [OfficeFlaw] {
         &[
             OfficeFlaw::Order,
@@ -171,6 +182,8 @@ pub enum StaffFlaw {
 }
 
 impl Flaws for StaffFlaw {
+    ghost all = { staff_flaws };
+
     fn all() -> &'static [StaffFlaw] {
         &[
             StaffFlaw::Order,
@@ -198,6 +211,8 @@ pub enum ClientFlaw {
 }
 
 impl Flaws for ClientFlaw {
+    ghost all = { client_flaws };
+
     fn all() -> &'static [ClientFlaw] {
         &[
             ClientFlaw::Order,
@@ -240,6 +255,8 @@ pub enum LoanFlaw {
 }
 
 impl Flaws for LoanFlaw {
+    ghost all = { loan_flaws };
+
     fn all() -> &'static [LoanFlaw] {
         &[
             LoanFlaw::Order,
@@ -298,6 +315,8 @@ pub enum EntryFlaw {
 }
 
 impl Flaws for EntryFlaw {
+    ghost all = { entry_flaws };
+
     fn all() -> &'static [EntryFlaw] {
         &[
             EntryFlaw::Order,
@@ -331,13 +350,16 @@ pub enum ReceiptFlaw {
 }
 
 impl Flaws for ReceiptFlaw {
+    ghost all = { receipt_flaws };
+
     fn all() -> &'static [ReceiptFlaw] {
         &[ReceiptFlaw::Order, ReceiptFlaw::Entry]
     }
 }
 
-/// The loan of a row of an account, and the number of its instalment or of its entry.
-#[derive(Clone, Copy, Debug, PartialEq, Eq)]
+/// The loan of a row of an account, and the number of its instalment or of its entry. Their order is by office, loan and
+/// number.
+#[derive(Clone, Copy, Debug, PartialEq, Eq, PartialOrd, Ord)]
 pub struct RowKey {
     pub office: u32,
     /// The loan's number within the office.
@@ -363,12 +385,11 @@ pub enum Finding {
     Loan { place: usize, flaw: LoanFlaw },
     Entry { place: usize, flaw: EntryFlaw },
     Receipt { place: usize, flaw: ReceiptFlaw },
-    /// At this place the instalments are not those that the loans' entries give, replayed; one of the two may be
-    /// missing there. The key is the lesser of the two.
-    Instalment { place: usize, key: Option<RowKey> },
-    /// At this place the shares are not those that the loans' entries give, replayed; one of the two may be missing
-    /// there. The key is the lesser of the two.
-    Share { place: usize, key: Option<RowKey> },
+    /// The instalment with this key is not what replaying the loan's entries gives: another one, one too many, or one
+    /// that is missing.
+    Instalment { key: RowKey },
+    /// The shares of the entry with this key are not those that replaying the loan's entries gives.
+    Share { key: RowKey },
     /// No sound institution has these rows, although no row by itself breaks a condition.
     Unsound,
 }

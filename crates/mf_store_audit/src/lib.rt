@@ -14,7 +14,6 @@ mod keys;
 mod loans;
 mod meta;
 mod offices;
-mod parts;
 mod places;
 mod products;
 mod receipts;

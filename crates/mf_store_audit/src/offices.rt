@@ -3,9 +3,10 @@
 ghost use Rattle.std.specs.Prelude.{◌≡◌, ◌↔◌, IsTrue, option_copied};
 ghost use Rattle.mf_store_sound.specs.Offices.{office_row_in, parent_row};
 ghost use Rattle.mf_store_audit.specs.Offices.{BreaksOffice, HasParent, is_office};
+ghost use Rattle.mf_store_audit.specs.declared.finding.Finding.TheVariants as finding;
 
 use crate::charges::is_no_name;
-use crate::finding::OfficeFlaw;
+use crate::finding::{Finding, OfficeFlaw};
 use crate::keys::{is_after, row_at};
 use crate::places::Row;
 use mf_base::Fault;
@@ -59,6 +60,8 @@ impl<'a> Row<&'a OfficeSetting<'a>> for OfficeRow {
 
     ghost Breaks = { λ setting flaw before row. BreaksOffice setting.now.offices.now flaw before row };
 
+    ghost finding = { finding.Office };
+
     fn breaks(
         &self,
         setting: &'a OfficeSetting<'a>,
@@ -77,5 +80,9 @@ impl<'a> Row<&'a OfficeSetting<'a>> for OfficeRow {
             }
             OfficeFlaw::Depth => Ok(!is_within_depth(self)),
         }
+    }
+
+    fn finding(place: usize, flaw: OfficeFlaw) -> Finding {
+        Finding::Office { place, flaw }
     }
 }

@@ -1,17 +1,23 @@
-//! The rows of a table by their places: the first from a place on that breaks a condition.
+//! The rows of a table by their places: which break a condition, and the first condition that each breaks.
 
-ghost use Rattle.std.specs.Prelude.{◌≡◌, ◌+◌, ◌≤◌, ◌<◌, ◌^◌, List, Option, Bool, true, length, option_copied};
-ghost use Rattle.std.specs.Prelude.{IsTrue, IsNone, IfSome, IfOk, IfErr};
+ghost use Rattle.std.specs.Prelude.{◌≡◌, ◌≤◌, ◌++◌, ℕ, List, Option, true, false, length, option_copied};
+ghost use Rattle.std.specs.Prelude.{IsTrue, IfSome, IfOk, IfErr, OnOk};
 ghost use Rattle.mf_base.specs.declared.fault.Fault.TheVariants.{F20};
-ghost use Rattle.mf_store_audit.specs.Places.{BreaksDecided, IsOneOf, IsAt, NoneBetween, row_before};
+ghost use Rattle.mf_store_audit.specs.Places.{AreFoundIn, AreOfRows, IsFirst, IsOneOf, row_before};
+ghost use Rattle.mf_store_audit.specs.declared.finding.Finding.{Finding};
 
+use crate::finding::Finding;
 use mf_base::Fault;
 
 /// What may be wrong with a row of a table.
 pub(crate) trait Flaws: Copy + 'static {
     /// All that may be, in the order in which it is asked.
+    ghost all: { List Self };
+
+    /// All that may be, in the order in which it is asked.
     fn all() -> &'static [Self]
-        ensures { (flaw : Self) → IsOneOf result.now flaw };
+        ensures listed { result.now ≡ all }
+        ensures every { (flaw : Self) → IsOneOf result.now flaw };
 }
 
 /// A row of a table, with the conditions that it may break by what it is held against.
@@ -22,11 +28,14 @@ pub(crate) trait Row<Setting>: Sized {
     /// What rows are held against is such as the conditions need it.
     ghost IsSetting: { Setting → Type 0 } = { λ setting. Unit {0} };
 
+    /// The rows that rows are held against rise by their keys.
+    ghost IsInOrder: { Setting → Type 0 } = { λ setting. Unit {0} };
+
     /// The row, after the one before it, breaks this condition.
     ghost Breaks: { Setting → Self.Flaw → Option Self → Self → Type 0 };
 
-    /// Whether this condition is decided of each row.
-    ghost is_decided: { Self.Flaw → Bool } = { λ flaw. true };
+    /// What is told of a row at a place that breaks a condition.
+    ghost finding: { ℕ → Self.Flaw → Finding };
 
     /// Whether the row, after the one before it, breaks this condition. The error is F20, out of memory.
     fn breaks(
@@ -37,9 +46,13 @@ pub(crate) trait Row<Setting>: Sized {
     ) -> Result<bool, Fault>
         requires { IsSetting setting }
         ensures found { IfOk result (λ yes. IsTrue yes → Breaks setting flaw (option_copied before.entry) self.now) }
-        ensures every { IfOk result (λ yes. is_decided flaw ≡ true →
+        ensures every { IfOk result (λ yes. IsInOrder setting →
             Breaks setting flaw (option_copied before.entry) self.now → IsTrue yes) }
         ensures gives_up { IfErr result (λ fault. fault ≡ F20) };
+
+    /// What is told of a row at a place that breaks a condition.
+    fn finding(place: usize, flaw: Self::Flaw) -> Finding
+        ensures { result ≡ finding place flaw };
 }
 
 /// The row before a place.
@@ -61,8 +74,8 @@ fn first_flaw<Setting: Copy, R: Row<Setting>>(
     requires { R.IsSetting setting }
     ensures found { IfOk result (λ found. IfSome found
         (λ flaw. R.Breaks setting flaw (option_copied before.entry) row.now)) }
-    ensures none { IfOk result (λ found. IsNone found → (flaw : R.Flaw) →
-        ¬ BreaksDecided R.is_decided (R.Breaks setting) flaw (option_copied before.entry) row.now) }
+    ensures first { IfOk result (λ found. R.IsInOrder setting
+        → IsFirst (λ flaw. R.Breaks setting flaw (option_copied before.entry) row.now) R.Flaw.all found) }
     ensures gives_up { IfErr result (λ fault. fault ≡ F20) }
 {
     for flaw in R::Flaw::all() {
@@ -73,27 +86,32 @@ fn first_flaw<Setting: Copy, R: Row<Setting>>(
     Ok(None)
 }
 
-/// The first row from a place on that breaks a condition: its place, and the first condition that it breaks. Of the
-/// conditions that are not decided of each row, the clauses leave open whether a row before it breaks one. The error is
-/// F20, out of memory.
-pub(crate) fn next_flaw<Setting: Copy, R: Row<Setting>>(
+/// Adds what is found of the rows of a table: of each that breaks a condition, in order, the first condition that it
+/// breaks. Where not all is wanted, it adds that of the first such row, and nothing where something was found before.
+/// The error is F20, out of memory.
+pub(crate) fn add_found<Setting: Copy, R: Row<Setting>>(
     setting: Setting,
     rows: &[R],
-    from: usize,
-) -> Result<Option<(usize, R::Flaw)>, Fault>
+    all: bool,
+    findings: &mut Vec<Finding>,
+) -> Result<(), Fault>
     requires { R.IsSetting setting }
-    ensures at { IfOk result (λ next. IfSome next (λ found. IsAt (R.Breaks setting found.1) found.0 rows.now)) }
-    ensures first { IfOk result (λ next. IfSome next (λ found.
-        NoneBetween (BreaksDecided R.is_decided (R.Breaks setting)) from found.0 rows.now)) }
-    ensures none { IfOk result (λ next. IsNone next →
-        NoneBetween (BreaksDecided R.is_decided (R.Breaks setting)) from (length rows.now) rows.now) }
-    ensures later { IfOk result (λ next. IfSome next (λ found. (from ≤ found.0) × (found.0 + 1 < 2 ^ 64))) }
+    ensures added { OnOk result ((found : List Finding) × (findings.new.items ≡ findings.old.items ++ found)
+        × AreOfRows (R.Breaks setting) R.finding rows.now found
+        × (all ≡ true → R.IsInOrder setting → AreFoundIn R.Flaw.all (R.Breaks setting) R.finding rows.now found)) }
+    ensures one { OnOk result (all ≡ false → length findings.old.items ≤ 1 → length findings.new.items ≤ 1) }
     ensures gives_up { IfErr result (λ fault. fault ≡ F20) }
 {
-    for place in from..rows.len() {
+    if !all && !findings.is_empty() {
+        return Ok(());
+    }
+    for place in 0..rows.len() {
         if let Some(flaw) = first_flaw(setting, row_before(rows, place), &rows[place])? {
-            return Ok(Some((place, flaw)));
+            findings.push(R::finding(place, flaw))?;
+            if !all {
+                return Ok(());
+            }
         }
     }
-    Ok(None)
+    Ok(())
 }

@@ -7,7 +7,9 @@ ghost use Rattle.mf_account.specs.Standing.{is_before};
 ghost use Rattle.mf_account.specs.declared.entry.Entry.{Entry};
 ghost use Rattle.mf_store_values.specs.Flat.{entry_in};
 ghost use Rattle.mf_store_values.specs.Ledgers.{IsReadable};
+ghost use Rattle.mf_store_schema.specs.Rows.{by_entry};
 ghost use Rattle.mf_store_schema.specs.declared.entries.EntryRow.{EntryRow};
+ghost use Rattle.mf_store_sound.specs.Held.{Rises};
 ghost use Rattle.mf_store_audit.specs.Entries.{IsNotLast};
 
 use mf_store_schema::EntryRow;
@@ -23,8 +25,8 @@ fn is_same_loan(row: &EntryRow, other: &EntryRow) -> bool
 /// Whether a row is of a standing entry of the same loan that does not come before the entry of another row.
 fn outlasts(row: &EntryRow, seal: &EntryRow) -> bool
     ensures some { IsTrue result → (e : Entry) → IsReadable e → entry_in seal.now.office seal.now.loan e ≡ seal.now →
-        (f : Entry) × (entry_in seal.now.office seal.now.loan f ≡ row.now) × (f.seq ≢ e.seq) × (f.reversed ≡ false)
-        × (is_before f e ≡ false) }
+        (f : Entry) × IsReadable f × (entry_in seal.now.office seal.now.loan f ≡ row.now) × (f.seq ≢ e.seq)
+        × (f.reversed ≡ false) × (is_before f e ≡ false) }
     ensures every { (e f : Entry) → IsReadable e → entry_in seal.now.office seal.now.loan e ≡ seal.now → IsReadable f →
         entry_in seal.now.office seal.now.loan f ≡ row.now → f.seq ≢ e.seq → f.reversed ≡ false →
         is_before f e ≡ false → IsTrue result }
@@ -38,15 +40,20 @@ fn outlasts(row: &EntryRow, seal: &EntryRow) -> bool
     !is_past(row, seal)
 }
 
-/// Rows of a table's, among them all those of the loan of one of them where the table is in order.
+/// Rows of a table's, among them all those of the loan of one of them where the table is in order; all rows where its
+/// ends are out of order.
 fn around<'a>(rows: &'a [EntryRow], row: &EntryRow) -> &'a [EntryRow]
-    ensures { (other : EntryRow) → Contains result.now other → Contains rows.now other }
+    ensures some { (other : EntryRow) → Contains result.now other → Contains rows.now other }
+    ensures every { Rises by_entry rows.now → (other : EntryRow) → Contains rows.now other
+        → other.office ≡ row.now.office → other.loan ≡ row.now.loan → Contains result.now other }
 {
     let loan = (row.office, row.loan);
     let first = rows.partition_point(|other| (other.office, other.loan) < loan);
-    let later = &rows[first..];
-    let count = later.partition_point(|other| (other.office, other.loan) == loan);
-    &later[..count]
+    let last = rows.partition_point(|other| (other.office, other.loan) <= loan);
+    if last < first {
+        return rows;
+    }
+    &rows[first..last]
 }
 
 /// Whether a row is of a write-off or a refund that stands.
@@ -63,7 +70,8 @@ fn is_standing_seal(row: &EntryRow) -> bool
 /// Whether a row is of a write-off or a refund that stands, and another standing entry of its loan does not come before
 /// it.
 pub(crate) fn is_not_last(rows: &[EntryRow], row: &EntryRow) -> bool
-    ensures { IsTrue result → IsNotLast rows.now row.now }
+    ensures some { IsTrue result → IsNotLast rows.now row.now }
+    ensures every { Rises by_entry rows.now → IsNotLast rows.now row.now → IsTrue result }
 {
     if !is_standing_seal(row) {
         return false;

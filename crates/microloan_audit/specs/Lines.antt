@@ -67,15 +67,13 @@ abbrev pub receipt_line : (ReceiptRow → List ℕ) → ℕ → Option ReceiptRo
 receipt_line =
     said_at (codes "receipts") (λ (row : ReceiptRow). decimal row.office ++ (codes " " ++ quoted row.receipt))
 
--- the line of an instalment, by the lesser key at its place
-abbrev pub instalment_line : ℕ → Option RowKey → List ℕ
-instalment_line =
-    said_at (codes "instalments") (λ (key : RowKey). instalment_key key.office key.loan key.number)
-    (λ key. not_replayed)
+-- the line of an instalment, by its key
+abbrev pub instalment_line : RowKey → List ℕ
+instalment_line key = said_of (codes "instalments") (instalment_key key.office key.loan key.number) not_replayed
 
--- the line of a share, in the same way
-abbrev pub share_line : ℕ → Option RowKey → List ℕ
-share_line = said_at (codes "shares") (λ (key : RowKey). entry_key key.office key.loan key.number) (λ key. not_replayed)
+-- the line of shares, by the key of their entry
+abbrev pub share_line : RowKey → List ℕ
+share_line key = said_of (codes "shares") (entry_key key.office key.loan key.number) not_replayed
 
 -- the line of a finding among these rows
 unfoldable pub finding_line : Lists → Finding → List ℕ
@@ -98,6 +96,6 @@ finding_line lists (finding.Entry place flaw) =
     entry_line (λ row. entry_words flaw) place (slice_get lists.entries place)
 finding_line lists (finding.Receipt place flaw) =
     receipt_line (λ row. receipt_words flaw) place (slice_get lists.receipts place)
-finding_line lists (finding.Instalment place key) = instalment_line place key
-finding_line lists (finding.Share place key) = share_line place key
+finding_line lists (finding.Instalment key) = instalment_line key
+finding_line lists (finding.Share key) = share_line key
 finding_line lists finding.Unsound = codes "no sound institution has these rows"

@@ -45,8 +45,8 @@ pub(crate) fn finding_line(
         Finding::Loan { place, flaw } => loan_line(alloc, tables, place, flaw),
         Finding::Entry { place, flaw } => entry_line(alloc, tables, place, flaw),
         Finding::Receipt { place, flaw } => receipt_line(alloc, tables, place, flaw),
-        Finding::Instalment { place, key } => instalment_line(alloc, place, key),
-        Finding::Share { place, key } => share_line(alloc, place, key),
+        Finding::Instalment { key } => instalment_line(alloc, key),
+        Finding::Share { key } => share_line(alloc, key),
         Finding::Unsound => Ok(format!(in alloc; "no sound institution has these rows")?),
     }
 }
@@ -278,30 +278,20 @@ pub(crate) fn instalment_key(
     Ok(format!(in alloc; "{loan} instalment {number}")?)
 }
 
-/// The line of an instalment, by the lesser key at its place.
-fn instalment_line(alloc: Global, place: usize, key: Option<RowKey>) -> Result<String, Fault>
-    ensures text { IfOk result (λ text. string_bytes text ≡ spec.instalment_line place key) }
+/// The line of an instalment, by its key.
+fn instalment_line(alloc: Global, key: RowKey) -> Result<String, Fault>
+    ensures text { IfOk result (λ text. string_bytes text ≡ spec.instalment_line key) }
     ensures only { IsOkUnless result Fault.F20 }
 {
-    match key {
-        Some(key) => {
-            let key = instalment_key(alloc, key.office, key.loan, key.number)?;
-            say(alloc, "instalments", key.as_str(), NOT_REPLAYED)
-        }
-        None => no_row(alloc, "instalments", place),
-    }
+    let key = instalment_key(alloc, key.office, key.loan, key.number)?;
+    say(alloc, "instalments", key.as_str(), NOT_REPLAYED)
 }
 
-/// The line of a share, by the lesser key at its place.
-fn share_line(alloc: Global, place: usize, key: Option<RowKey>) -> Result<String, Fault>
-    ensures text { IfOk result (λ text. string_bytes text ≡ spec.share_line place key) }
+/// The line of shares, by the key of their entry.
+fn share_line(alloc: Global, key: RowKey) -> Result<String, Fault>
+    ensures text { IfOk result (λ text. string_bytes text ≡ spec.share_line key) }
     ensures only { IsOkUnless result Fault.F20 }
 {
-    match key {
-        Some(key) => {
-            let key = entry_key(alloc, key.office, key.loan, key.number)?;
-            say(alloc, "shares", key.as_str(), NOT_REPLAYED)
-        }
-        None => no_row(alloc, "shares", place),
-    }
+    let key = entry_key(alloc, key.office, key.loan, key.number)?;
+    say(alloc, "shares", key.as_str(), NOT_REPLAYED)
 }
