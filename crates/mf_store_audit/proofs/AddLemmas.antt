@@ -1,8 +1,16 @@
 -- Findings that are added in turn.
-use Rattle.std.proofs.Common.{◌≡◌, ◌∙◌, ℕ, Bool, true, List, [], ◌∷◌, ◌++◌, Option, refl, sym, subst}
+use Rattle.std.proofs.Common.{◌≡◌, ◌≢◌, ◌∙◌, ◌==◌, ℕ, Bool, true, false, List, [], ◌∷◌, ◌++◌, length, Option, refl}
+use Rattle.std.proofs.Common.{sym, subst, arith}
+use Rattle.std.specs.Prelude.{if◌then◌else◌}
 use Rattle.std.specs.List.{AllByRecursion}
 use Rattle.std.proofs.lemmas.List.{append-nil, append_assoc}
 use Rattle.sqlite_keyed.proofs.ListLemmas.{all-append}
+use Rattle.std.proofs.lemmas.Bool.Decides.{nat_tests}
+use Rattle.mf_store_schema.specs.Rows.{Lists}
+use Rattle.mf_store_schema.specs.declared.versions.Version.{Version}
+use Rattle.mf_store_audit.specs.Findings.{Breaks, told_of_meta}
+use Rattle.mf_store_audit.specs.declared.finding.Finding.{Finding}
+use Rattle.mf_store_audit.specs.declared.finding.Finding.TheVariants as finding
 use Rattle.mf_store_audit.specs.Places.{AreFoundIn, AreInTurn, AreOfRows, IsAt}
 
 module _ {N : Type 0} where
@@ -35,6 +43,12 @@ module _ {N : Type 0} where
       λ all order. in_turn_then Ps Qs f g (whole all order) (whole_too all order),
     )
 
+    -- this is told, where nothing was found before
+    pub adds_told : (told a b : List N) → a ≡ [] → b ≡ told → AllByRecursion Is told
+        → AddsOf ((λ found. found ≡ told) ∷ []) a b
+    adds_told told a b none b_is each =
+        (told, b_is ∙ (λ t. sym none t ++ told), each, λ all order. alone (λ found. found ≡ told) told refl)
+
     module _ {F R : Type 0} (flaws : List F) (breaks : F → Option R → R → Type 0) (name : ℕ → F → N) (rows : List R)
         (theirs : Type 0) where
       -- what is found of the rows of a table
@@ -52,3 +66,18 @@ module _ {N : Type 0} where
           each : (found : List N) → AreOfRows breaks name rows found → AllByRecursion Is found
           each [] none = tt
           each (n ∷ ns) ((place, flaw, n_is, at), later) = (subst Is (sym n_is) (is place flaw at), each ns later)
+
+-- what is found, part by part
+abbrev pub Parts : Type 1
+Parts = List (List Finding → Type 0)
+
+-- what is told of meta is so
+pub meta_told : (v : Version) (today : ℕ) (lists : Lists) → AllByRecursion (Breaks v today lists)
+    (told_of_meta lists.meta)
+meta_told v today lists = go (length lists.meta == 1) refl
+  where
+    go : (b : Bool) → (length lists.meta == 1) ≡ b
+        → AllByRecursion (Breaks v today lists) (if b then [] else finding.MetaRows ∷ [])
+    go true is = tt
+    go false is =
+        let apart : length lists.meta ≢ 1 = grind (arith, nat_tests) in (apart, tt)

@@ -6,7 +6,7 @@ use Rattle.std.specs.List.Sorted.{IsPartitionPoint, IsPartitionedBy}
 use Rattle.std.specs.Ordering.{is_le, ordering_then}
 use Rattle.std.proofs.Math.ListN.{drop, take}
 use Rattle.std.proofs.lemmas.Bool.Decides.{nat_tests}
-use Rattle.std.proofs.lemmas.List.{get_or-drop, get_or-take, get_or_default, length-drop, length-take-le}
+use Rattle.std.proofs.lemmas.List.{get_or-drop, get_or-take, length-drop, length-take-le}
 use Rattle.sqlite_trees.proofs.ListLemmas.{ascending-get_or}
 use Rattle.mf_store_schema.specs.Rows.{by_entry}
 use Rattle.mf_store_schema.specs.declared.entries.EntryRow.{EntryRow}
@@ -51,7 +51,7 @@ module _ (o l : ℕ) where
       go false e =
           let apart : i ≢ j = grind (arith, nat_tests) in
           steps (get_or rows i d) (get_or rows j d)
-              (ascending-get_or (λ a b. by_entry a b ≡ Less) rows i j d up (omega (arith, low, apart)) inside) is
+          (ascending-get_or (λ a b. by_entry a b ≡ Less) rows i j d up (omega (arith, low, apart)) inside) is
 
   -- where each search of the ends of a loan's rows answers as it must, its rows lie between them
   pub own_between : (rows : List EntryRow) (first last : ℕ) → Rises by_entry rows → last ≤ length rows

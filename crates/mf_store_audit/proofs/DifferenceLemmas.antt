@@ -1,5 +1,5 @@
 -- Rows that are looked for among rows that rise, and the keys of the rows in which two lists differ.
-use Rattle.std.proofs.Common.{◌≡◌, ◌≢◌, ◌<◌, ◌≤◌, ◌+◌, ◌∙◌, ◌==◌, ◌⊎◌, ℕ, zero, suc, Bool, true, false, List, [], ◌∷◌}
+use Rattle.std.proofs.Common.{◌≡◌, ◌≢◌, ◌<◌, ◌≤◌, ◌+◌, ◌∙◌, ◌==◌, ℕ, zero, suc, Bool, true, false, List, [], ◌∷◌}
 use Rattle.std.proofs.Common.{◌++◌, length, get_or, refl, sym, ap, subst, arith, inl, inr, Ordering, Less, Equal, Err}
 use Rattle.std.proofs.Common.{eqb-true, is_eq, map, true≢false}
 use Rattle.std.specs.Cmp.{IsEquivalence, IsTotalOrder}
@@ -98,12 +98,15 @@ module _ {R : Type 0} (key : R → ℕ × ℕ × ℕ) (InOrder : Type 0) (rows o
       let one = row_key (key row) ∷ [] in (
         added ++ one,
         more_is ∙ (λ t. keys_are t ++ one) ∙ append_assoc start added one,
-        λ order. all-append (Lacks key rows others) added one (each order) (record {
-          row = row;
-          key_is = refl;
-          there = contains_item rows place row inside is;
-          lacking = lacking order;
-        }, tt),
+        λ order. all-append (Lacks key rows others) added one (each order) (
+          record {
+            row = row;
+            key_is = refl;
+            there = contains_item rows place row inside is;
+            lacking = lacking order;
+          },
+          tt,
+        ),
         said_more (λ r. ¬ Contains others r → Contains (added ++ one) (row_key (key r))) rows place row is
             (λ no_. Contains-append_right added one (row_key (key row)) (zero, omega arith, refl))
             (λ k d low in_ no_. Contains-append_left added one (row_key (key (get_or rows k d)))
@@ -132,13 +135,19 @@ module _ {R : Type 0} (key : R → ℕ × ℕ × ℕ) (InOrder : Type 0) (rows o
         → Contains added (row_key (key r))) rows place past every lacks.row lacks.there lacks.lacking),
   )
 
-of_all : {X : Type 0} (P : X → Type 0) (xs : List X) (x : X) → AllByRecursion P xs → Contains xs x → P x
+pub of_all : {X : Type 0} (P : X → Type 0) (xs : List X) (x : X) → AllByRecursion P xs → Contains xs x → P x
 of_all P xs x each there = All-contains P xs x (All-from_recursion P xs each) there
 
 all_of : {X : Type 0} (P : X → Type 0) (xs : List X) → ((x : X) → Contains xs x → P x) → AllByRecursion P xs
 all_of P [] has = tt
-all_of P (x ∷ xs) has = (has x (zero, omega arith, refl), all_of P xs (λ y there. has y (suc there.0,
-    (let low : there.0 < length xs = there.1 in omega (arith, low)), there.2)))
+all_of P (x ∷ xs) has = (
+  has x (zero, omega arith, refl),
+  all_of P xs (λ y there. has y (
+    suc there.0,
+    (let low : there.0 < length xs = there.1 in omega (arith, low)),
+    there.2,
+  )),
+)
 
 by_row_key_total : IsTotalOrder by_row_key
 by_row_key_total = then_total (on_total (λ (k : RowKey). k.office) nat_cmp_total) (then_total
@@ -195,20 +204,22 @@ module _ {R : Type 0} (key : R → ℕ × ℕ × ℕ) (made stored : List R) whe
     back : (at : RowKey) → Contains last at → Differ key made stored at
     back at there = elim (Contains-append_cases first second at (subst (λ l. Contains l at) all_is
         (Contains-permutation ordered more at (IsPermutation-sym more ordered moved) (Contains-from_dedup same ordered at
-        (subst (λ l. Contains l at) last_is there)))))
-        [ inl a ↦ inl (of_all (Lacks key made stored) first at each_first a)
-        | inr b ↦ inr (of_all (Lacks key stored made) second at each_second b) ]
+        (subst (λ l. Contains l at) last_is there))))) [
+          | inl a ↦ inl (of_all (Lacks key made stored) first at each_first a)
+          | inr b ↦ inr (of_all (Lacks key stored made) second at each_second b)
+        ]
 
     pub differ_in : AreDifferences key made stored last
     differ_in = record {
       each = all_of (Differ key made stored) last back;
-      every = λ at differ. elim differ
-          [ inl x ↦ carries at (subst (λ l. Contains l at) (sym all_is) (Contains-append_left first second at
-              (all_first at x)))
-          | inr y ↦ carries at (subst (λ l. Contains l at) (sym all_is) (Contains-append_right first second at
-              (all_second at y))) ];
+      every = λ at differ. elim differ [
+        | inl x ↦ carries at (subst (λ l. Contains l at) (sym all_is) (Contains-append_left first second at
+            (all_first at x)))
+        | inr y ↦ carries at (subst (λ l. Contains l at) (sym all_is) (Contains-append_right first second at
+            (all_second at y)))
+      ];
       order = subst (IsStrictlySortedBy by_row_key) (sym last_is) (IsStrictlySortedBy-dedup by_row_key_total tied
-      ordered up);
+          ordered up);
     }
 
 -- ---- what is told of keys
@@ -234,11 +245,14 @@ module _ {K N : Type 0} (told : K → N) (all : Bool) (keys : List K) where
         λ yes. (λ t. whole yes t ++ told (is t) ∷ []) ∙ sym (map-append told (take place keys)
             (get_or keys place key ∷ [])) ∙ ap (map told) (sym (take-suc keys place key inside))
             ∙ ap (λ k. map told (take k keys)) (sym one),
-        all-append (λ n. (k : K) × Contains keys k × (n ≡ told k)) found (told key ∷ []) each ((
-          key,
-          contains_item keys place key inside is,
-          refl,
-        ), tt),
+        all-append (λ n. (k : K) × Contains keys k × (n ≡ told k)) found (told key ∷ []) each (
+          (
+            key,
+            contains_item keys place key inside is,
+            refl,
+          ),
+          tt,
+        ),
         λ no_ low.
             let none_yet : length items ≡ 0 = none no_ in
             let longer : length more ≡ length items + 1 = ap length more_is ∙ length-append items (told key ∷ []) in

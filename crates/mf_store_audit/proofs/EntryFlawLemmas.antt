@@ -1,16 +1,23 @@
 -- What is wrong with rows of entries, by the tests of their columns.
 use Rattle.std.proofs.Common.{◌≡◌, ◌≢◌, ◌∙◌, ◌==◌, ℕ, Bool, true, false, List, IsTrue, refl, sym, ap, subst, arith}
-use Rattle.std.proofs.Common.{true≢false}
+use Rattle.std.proofs.Common.{Bor, Less, None, Option, Some, true≢false}
 use Rattle.std.specs.Prelude.{◌||◌, not}
 use Rattle.std.proofs.lemmas.Bool.Decides.{nat_tests}
-use Rattle.std.specs.List.{Contains}
+use Rattle.std.specs.List.{Contains, list_any}
+use Rattle.std.specs.Option.{IfSome, IsNone, option_copied}
+use Rattle.std.proofs.lemmas.List.Folds.{list_any_at}
 use Rattle.mf_account.specs.Kinds.{is_seal}
 use Rattle.mf_account.specs.Standing.{is_before}
 use Rattle.mf_account.specs.declared.entry.Entry.{Entry}
 use Rattle.mf_store_values.specs.Flat.{entry_in}
 use Rattle.mf_store_values.specs.Ledgers.{IsReadable}
 use Rattle.mf_store_schema.specs.declared.entries.EntryRow.{EntryRow}
-use Rattle.mf_store_audit.specs.Entries.{IsNotLast}
+use Rattle.mf_store_schema.specs.Rows.{by_loan}
+use Rattle.mf_store_schema.specs.declared.loans.LoanRow.{LoanRow}
+use Rattle.mf_store_sound.specs.Held.{Rises}
+use Rattle.mf_store_audit.specs.Entries.{IsNotLast, is_own_loan}
+use Rattle.mf_store_audit.specs.Keys.{is_at}
+use Rattle.mf_store_audit.proofs.DifferenceLemmas.{one_there}
 
 -- the row is that of an entry
 abbrev pub IsReadableRow : EntryRow → Type 0
@@ -80,5 +87,40 @@ pub outlasted : (rows around : List EntryRow) (row : EntryRow) → ((other : Ent
     → ((other : EntryRow) → Contains around other → ¬ CanOutlast other row) → ¬ IsNotLast rows row
 outlasted rows around row all none n =
     let other : EntryRow = entry_in row.office row.loan n.other in
-    none other (all other n.other_there refl refl) (n.seal, n.other, n.readable, n.seal_is, n.other_readable, refl,
-    n.another, n.other_stands, n.not_before)
+    none other (all other n.other_there refl refl) (
+      n.seal,
+      n.other,
+      n.readable,
+      n.seal_is,
+      n.other_readable,
+      refl,
+      n.another,
+      n.other_stands,
+      n.not_before,
+    )
+
+-- ---- the loan of an entry
+
+module _ (row : EntryRow) where
+  -- the row at the entry's loan's key
+  abbrev pub is_loan : LoanRow → Bool
+  is_loan = is_at (λ (l : LoanRow). (l.office, 0, l.number)) (row.office, 0, row.loan)
+
+  not_before : (a b : LoanRow) → is_loan a ≡ true → is_own_loan row b ≡ true → by_loan a b ≢ Less
+  not_before a b at own less = absurd (grind (arith, nat_tests))
+
+  not_after : (a b : LoanRow) → is_loan a ≡ true → is_own_loan row b ≡ true → by_loan b a ≢ Less
+  not_after a b at own less = absurd (grind (arith, nat_tests))
+
+  -- a look-up by its key finds the one row of the loan, where rows rise
+  pub one_loan : (loans : List LoanRow) (found : Option (Bor LoanRow)) (loan : LoanRow)
+      → IfSome found (λ l. Contains loans l.now × (is_loan l.now ≡ true))
+      → (IsNone found → list_any is_loan loans ≡ false) → Rises by_loan loans → Contains loans loan
+      → is_own_loan row loan ≡ true → option_copied found ≡ Some loan
+  one_loan loans (Some l) loan its none up there own =
+      ap Some (one_there by_loan loans l.now loan up its.0 there (not_before l.now loan its.1 own)
+      (not_after l.now loan its.1 own))
+  one_loan loans None loan its none up there own =
+      let is : is_loan loan ≡ true = grind (arith, nat_tests) in
+      absurd (true≢false (sym (list_any_at is_loan loans there.0 loan there.1 (ap is_loan there.2 ∙ is))
+      ∙ none refl))

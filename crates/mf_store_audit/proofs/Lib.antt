@@ -1,9 +1,10 @@
-pub mod EntryFlawLemmas
 pub mod AroundLemmas
 pub mod LoanFlawLemmas
 pub mod PlaceLemmas
 pub mod DifferenceLemmas
+pub mod EntryFlawLemmas
 pub mod AddLemmas
+pub mod AccountLemmas
 pub mod AddedLemmas
 pub mod LoanLemmas
 pub mod BalancedLemmas

@@ -2,13 +2,13 @@
 use Rattle.std.proofs.Common.{◌≡◌, ◌≢◌, ◌<◌, ◌≤◌, ◌+◌, ◌-◌, ◌∙◌, ◌==◌, ℕ, zero, suc, Bool, true, false, List, []}
 use Rattle.std.proofs.Common.{◌∷◌, ◌++◌, length, get_or, Option, Some, None, refl, sym, ap, subst, arith, inl, inr}
 use Rattle.std.specs.Prelude.{◌||◌, cond, slice_get}
-use Rattle.std.specs.List.{list_any, Contains, AllByRecursion}
+use Rattle.std.specs.List.{list_any, Contains}
 use Rattle.std.specs.Option.{IfSome}
 use Rattle.sqlite_keyed.proofs.ListLemmas.{all-append}
 use Rattle.std.proofs.Math.ListN.{take}
 use Rattle.std.proofs.Math.Seq.{take-suc}
 use Rattle.std.proofs.lemmas.Bool.Decides.{nat_tests}
-use Rattle.std.proofs.lemmas.List.{append-nil, append_assoc, get_or_default, length-take-le, take_all}
+use Rattle.std.proofs.lemmas.List.{append-nil, append_assoc, get_or_default, length-take-le}
 use Rattle.std.proofs.lemmas.Option.{slice_get_read}
 use Rattle.mf_store_audit.specs.Places.{row_before, IsOneOf, IsAt, IsFirst, AreFound, AreFoundIn, AreOfRows, told_at}
 
@@ -75,8 +75,10 @@ module _ {A : Type 0} (Holds : A → Type 0) where
       let more : length bs + 1 ≤ i = omega (arith, past) in
       inr (
         none 0 b (omega (arith, more)) (omega arith),
-        first_none bs (length bs) (omega arith) (λ k d low in_. none (suc k) d (omega (arith, low, more)) (omega (arith,
-        in_))),
+        first_none bs (length bs) (omega arith) (λ k d low in_. none (suc k) d (omega (arith, low, more)) (omega (
+          arith,
+          in_,
+        ))),
       )
 
 -- ---- what is found of rows
@@ -166,13 +168,13 @@ module _ {F R N : Type 0} (flaws : List F) (breaks : F → Option R → R → Ty
       → AreAdded InOrder all rows start items place → AreAdded InOrder all rows start more (place + 1)
   one_more InOrder all rows start items more place row before first inside is last broken firsts none more_is
       (found, items_are, of_rows, are, not_all) = (
-    found ++ told_at name place first,
-    more_is ∙ (λ t. items_are t ++ told_at name place first) ∙ append_assoc start found (told_at name place first),
-    all-append (λ n. (k : ℕ) × (flaw : F) × (n ≡ name k flaw) × IsAt (breaks flaw) k rows) found
-        (told_at name place first) of_rows (told first broken),
-    λ whole order. table_more rows place row before found first inside is last (firsts order) (are whole order),
-    λ one. let its = not_all one in ((λ t. its.0 t ++ told_at name place (none one t)), its.1),
-  )
+        found ++ told_at name place first,
+        more_is ∙ (λ t. items_are t ++ told_at name place first) ∙ append_assoc start found (told_at name place first),
+        all-append (λ n. (k : ℕ) × (flaw : F) × (n ≡ name k flaw) × IsAt (breaks flaw) k rows) found
+            (told_at name place first) of_rows (told first broken),
+        λ whole order. table_more rows place row before found first inside is last (firsts order) (are whole order),
+        λ one. let its = not_all one in ((λ t. its.0 t ++ told_at name place (none one t)), its.1),
+      )
     where
       told : (o : Option F) → IfSome o (λ flaw. breaks flaw before row) → AreOfRows breaks name rows
           (told_at name place o)

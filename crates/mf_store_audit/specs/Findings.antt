@@ -98,7 +98,7 @@ abbrev pub found_in_loans : ℕ → Lists → List (List Finding → Type 0)
 found_in_loans today lists =
     AreFoundIn loan_flaws (BreaksLoan today lists.offices lists.clients lists.products) finding.Loan lists.loans
     ∷ AreFoundIn entry_flaws (BreaksEntry today lists.loans lists.staff lists.receipts lists.entries) finding.Entry
-        lists.entries
+    lists.entries
     ∷ AreFoundIn receipt_flaws (BreaksReceipt lists.entries) finding.Receipt lists.receipts ∷ []
 
 -- what is found of all these tables
@@ -117,7 +117,7 @@ pub record AreDiffering (v : Version) (lists : Lists) (found : List Finding) : T
   pub shares : List RowKey
   pub found_are : found ≡ map (told_of Instalments) instalments ++ map (told_of Shares) shares
   pub instalments_are :
-    OfReplay v lists (λ made. AreDifferences instalment_key made.instalments lists.instalments instalments)
+      OfReplay v lists (λ made. AreDifferences instalment_key made.instalments lists.instalments instalments)
   pub shares_are : OfReplay v lists (λ made. AreDifferences share_key made.shares lists.shares shares)
 
 -- the same by the tables of a version, of which the first has none of accounts

@@ -35,9 +35,11 @@ impl Ranked for InstalmentRow {
     ghost by = { by_instalment };
 
     fn compare(&self, other: &InstalmentRow) -> Ordering {
-        self.office
-            .cmp(&other.office)
-            .then(self.loan.cmp(&other.loan).then(self.number.cmp(&other.number)))
+        self.office.cmp(&other.office).then(
+            self.loan
+                .cmp(&other.loan)
+                .then(self.number.cmp(&other.number)),
+        )
     }
 }
 
@@ -81,11 +83,7 @@ fn is_among<T: Ranked>(rows: &[T], row: &T) -> bool
 }
 
 /// Adds the keys of the rows that others lack, which rise by their key.
-fn add_lacking<T: Ranked>(
-    rows: &[T],
-    others: &[T],
-    keys: &mut Vec<RowKey>,
-) -> Result<(), Fault>
+fn add_lacking<T: Ranked>(rows: &[T], others: &[T], keys: &mut Vec<RowKey>) -> Result<(), Fault>
     ensures added { OnOk result ((added : List RowKey) × (keys.new.items ≡ keys.old.items ++ added)
         × (IsTotalOrder T.by → Rises T.by others.now → AllByRecursion (Lacks T.key rows.now others.now) added)
         × ((at : RowKey) → Lacks T.key rows.now others.now at → Contains added at)) }

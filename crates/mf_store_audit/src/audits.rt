@@ -10,7 +10,7 @@ ghost use Rattle.mf_store_schema.specs.Whole.{HaveRowids};
 ghost use Rattle.mf_store_sound.specs.Told.{IsAny, HaveOwnRowids};
 ghost use Rattle.mf_store_audit.specs.Audits.{IsAuditOfRows, IsAuditOf};
 
-use crate::find::findings;
+use crate::find::{are_none, findings};
 use crate::finding::Finding;
 use crate::journal::{BrokenJournal, audit_journal};
 use crate::searched::unread_at;
@@ -48,13 +48,6 @@ pub enum Audit {
     },
     /// Their other rows are those of a sound institution, and the journal's are not.
     BrokenJournal(BrokenJournal),
-}
-
-/// Whether there are no findings.
-fn are_none(findings: &[Finding]) -> bool
-    ensures { IsTrue result ↔ (findings.now ≡ []) }
-{
-    findings.is_empty()
 }
 
 /// An audit of rows by the tables of a version: of all that break a condition, or of the first alone.

@@ -5,9 +5,8 @@ ghost use Rattle.mf_catalog.specs.Names.{calc_number};
 ghost use Rattle.mf_catalog.specs.declared.charge.Calc.{Calc};
 ghost use Rattle.mf_model.specs.Sound.{IsName, IsValue};
 ghost use Rattle.mf_store_audit.specs.Catalogue.{BreaksCharge, IsNoNumber};
-ghost use Rattle.mf_store_audit.specs.declared.finding.Finding.TheVariants as finding;
 
-use crate::finding::{ChargeFlaw, Finding};
+use crate::finding::ChargeFlaw;
 use crate::keys::is_next;
 use crate::places::Row;
 use mf_base::{Choice, Fault};
@@ -52,8 +51,6 @@ impl Row<()> for ChargeRow {
 
     ghost Breaks = { λ setting flaw before row. BreaksCharge flaw before row };
 
-    ghost finding = { finding.Charge };
-
     fn breaks(&self, _setting: (), before: Option<&Self>, flaw: ChargeFlaw) -> Result<bool, Fault> {
         match flaw {
             ChargeFlaw::Number => Ok(!is_next(before, self)),
@@ -63,9 +60,5 @@ impl Row<()> for ChargeRow {
             ChargeFlaw::Calc => Ok(is_none::<Calc>(self.calc)),
             ChargeFlaw::Value => Ok(has_no_value(self)),
         }
-    }
-
-    fn finding(place: usize, flaw: ChargeFlaw) -> Finding {
-        Finding::Charge { place, flaw }
     }
 }

@@ -1,10 +1,9 @@
 //! Rows of clients: what is wrong with them.
 
 ghost use Rattle.mf_store_audit.specs.Offices.{BreaksClient};
-ghost use Rattle.mf_store_audit.specs.declared.finding.Finding.TheVariants as finding;
 
 use crate::charges::is_no_name;
-use crate::finding::{ClientFlaw, Finding};
+use crate::finding::ClientFlaw;
 use crate::keys::{is_after, is_next};
 use crate::offices::is_office;
 use crate::places::Row;
@@ -17,8 +16,6 @@ impl<'a> Row<&'a [OfficeRow]> for ClientRow {
     type Flaw = ClientFlaw;
 
     ghost Breaks = { λ offices flaw before row. BreaksClient offices.now flaw before row };
-
-    ghost finding = { finding.Client };
 
     fn breaks(
         &self,
@@ -33,9 +30,5 @@ impl<'a> Row<&'a [OfficeRow]> for ClientRow {
             ClientFlaw::Limit => Ok(self.number > AccountNo::MAX),
             ClientFlaw::Name => Ok(is_no_name(&self.name)),
         }
-    }
-
-    fn finding(place: usize, flaw: ClientFlaw) -> Finding {
-        Finding::Client { place, flaw }
     }
 }

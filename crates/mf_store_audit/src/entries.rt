@@ -8,10 +8,9 @@ ghost use Rattle.mf_store_schema.specs.declared.loans.LoanRow.{LoanRow};
 ghost use Rattle.mf_store_sound.specs.Held.{Rises};
 ghost use Rattle.mf_store_audit.specs.Entries.{is_own_loan, is_staff_named, AreInOrder, BreaksEntryIn, HasWrongColumns};
 ghost use Rattle.mf_store_audit.specs.Entries.{IsEarly, IsLate, OnLoan};
-ghost use Rattle.mf_store_audit.specs.declared.finding.Finding.TheVariants as finding;
 
 use crate::charges::is_none;
-use crate::finding::{EntryFlaw, Finding};
+use crate::finding::EntryFlaw;
 use crate::keys::{is_after, is_next, row_at};
 use crate::meta::is_day;
 use crate::places::Row;
@@ -135,8 +134,6 @@ impl<'a> Row<&'a EntrySetting<'a>> for EntryRow {
 
     ghost Breaks = { λ setting flaw before row. BreaksEntryIn setting.now flaw before row };
 
-    ghost finding = { finding.Entry };
-
     ghost IsInOrder = { λ setting. AreInOrder setting.now };
 
     fn breaks(
@@ -164,9 +161,5 @@ impl<'a> Row<&'a EntrySetting<'a>> for EntryRow {
             EntryFlaw::Staff => Ok(!is_staff_there(setting.staff, self)),
             EntryFlaw::Unlisted => Ok(!is_listed(setting.receipts, self)),
         }
-    }
-
-    fn finding(place: usize, flaw: EntryFlaw) -> Finding {
-        Finding::Entry { place, flaw }
     }
 }

@@ -1,6 +1,6 @@
 //! The findings: which rows of the tables break which conditions.
 
-ghost use Rattle.std.specs.Prelude.{◌≡◌, ◌≤◌, ◌↔◌, ℕ, ◌∷◌, List, true, false, [], length, OnOk, IfOk, IfErr};
+ghost use Rattle.std.specs.Prelude.{◌≡◌, ◌≤◌, ◌↔◌, ℕ, ◌∷◌, List, IsTrue, true, false, [], length, OnOk, IfOk, IfErr};
 ghost use Rattle.mf_base.specs.DayText.{last_entered_day};
 ghost use Rattle.mf_base.specs.declared.fault.Fault.TheVariants.{F20};
 ghost use Rattle.mf_store_schema.specs.Versions.{number_of};
@@ -72,8 +72,8 @@ fn add_catalogue(
 {
     add_meta_rows(tables, findings)?;
     add_found(version.number(), tables.meta.as_slice(), all, findings)?;
-    add_found((), tables.charges.as_slice(), all, findings)?;
     let charges = tables.charges.as_slice();
+    add_found((), charges, all, findings)?;
     add_found(charges, tables.products.as_slice(), all, findings)
 }
 
@@ -125,8 +125,10 @@ fn add_loans(
     ensures one { OnOk result (all ≡ false → length findings.old.items ≤ 1 → length findings.new.items ≤ 1) }
     ensures gives_up { IfErr result (λ fault. fault ≡ F20) }
 {
+    let loans = tables.loans.as_slice();
     let entries = tables.entries.as_slice();
-    let loans = LoanSetting {
+    let receipts = tables.receipts.as_slice();
+    let lent = LoanSetting {
         today,
         offices: tables.offices.as_slice(),
         clients: tables.clients.as_slice(),
@@ -134,14 +136,14 @@ fn add_loans(
     };
     let entered = EntrySetting {
         today,
-        loans: tables.loans.as_slice(),
+        loans,
         staff: tables.staff.as_slice(),
-        receipts: tables.receipts.as_slice(),
+        receipts,
         entries,
     };
-    add_found(&loans, tables.loans.as_slice(), all, findings)?;
+    add_found(&lent, loans, all, findings)?;
     add_found(&entered, entries, all, findings)?;
-    add_found(entries, tables.receipts.as_slice(), all, findings)
+    add_found(entries, receipts, all, findings)
 }
 
 /// Adds what is found of all tables but those of accounts: of each row that breaks a condition, in order; or of the
@@ -165,6 +167,13 @@ fn add_rows(
     add_loans(today_of(version, tables), tables, all, findings)
 }
 
+/// Whether there are no findings.
+pub(crate) fn are_none(findings: &[Finding]) -> bool
+    ensures { IsTrue result ↔ (findings.now ≡ []) }
+{
+    findings.is_empty()
+}
+
 /// What is wrong with tables that no sound institution has.
 fn findings_of_unsound(
     alloc: Global,
@@ -181,12 +190,14 @@ fn findings_of_unsound(
 {
     let mut findings = Vec::new(alloc);
     add_rows(alloc, version, tables, all, &mut findings)?;
-    if findings.is_empty() {
-        add_accounts(alloc, version, tables, all, &mut findings)?;
-        if findings.is_empty() {
-            findings.push(Finding::Unsound)?;
-        }
+    if !are_none(&findings) {
+        return Ok(findings);
     }
+    add_accounts(alloc, version, tables, all, &mut findings)?;
+    if !are_none(&findings) {
+        return Ok(findings);
+    }
+    findings.push(Finding::Unsound)?;
     Ok(findings)
 }
 

@@ -2,6 +2,7 @@
 
 ghost use Rattle.mf_store_audit.specs.Kinds.{meta_flaws, charge_flaws, product_flaws, office_flaws, staff_flaws};
 ghost use Rattle.mf_store_audit.specs.Kinds.{client_flaws, loan_flaws, entry_flaws, receipt_flaws};
+ghost use Rattle.mf_store_audit.specs.declared.finding.Finding.TheVariants as finding;
 
 use crate::places::Flaws;
 
@@ -19,8 +20,14 @@ pub enum MetaFlaw {
 impl Flaws for MetaFlaw {
     ghost all = { meta_flaws };
 
+    ghost finding = { finding.Meta };
+
     fn all() -> &'static [MetaFlaw] {
         &[MetaFlaw::Key, MetaFlaw::Schema, MetaFlaw::Day]
+    }
+
+    fn finding(self, place: usize) -> Finding {
+        Finding::Meta { place, flaw: self }
     }
 }
 
@@ -43,6 +50,8 @@ pub enum ChargeFlaw {
 impl Flaws for ChargeFlaw {
     ghost all = { charge_flaws };
 
+    ghost finding = { finding.Charge };
+
     fn all() -> &'static [ChargeFlaw] {
         &[
             ChargeFlaw::Number,
@@ -52,6 +61,10 @@ impl Flaws for ChargeFlaw {
             ChargeFlaw::Calc,
             ChargeFlaw::Value,
         ]
+    }
+
+    fn finding(self, place: usize) -> Finding {
+        Finding::Charge { place, flaw: self }
     }
 }
 
@@ -106,6 +119,8 @@ pub enum ProductFlaw {
 impl Flaws for ProductFlaw {
     ghost all = { product_flaws };
 
+    ghost finding = { finding.Product };
+
     fn all() -> &'static [ProductFlaw] {
         &[
             ProductFlaw::Number,
@@ -132,6 +147,10 @@ impl Flaws for ProductFlaw {
             ProductFlaw::OverdueCharge,
         ]
     }
+
+    fn finding(self, place: usize) -> Finding {
+        Finding::Product { place, flaw: self }
+    }
 }
 
 /// What is wrong with a row of an office.
@@ -153,6 +172,8 @@ pub enum OfficeFlaw {
 impl Flaws for OfficeFlaw {
     ghost all = { office_flaws };
 
+    ghost finding = { finding.Office };
+
     fn all() -> &'static [OfficeFlaw] {
         &[
             OfficeFlaw::Order,
@@ -162,6 +183,10 @@ impl Flaws for OfficeFlaw {
             OfficeFlaw::Text,
             OfficeFlaw::Depth,
         ]
+    }
+
+    fn finding(self, place: usize) -> Finding {
+        Finding::Office { place, flaw: self }
     }
 }
 
@@ -184,6 +209,8 @@ pub enum StaffFlaw {
 impl Flaws for StaffFlaw {
     ghost all = { staff_flaws };
 
+    ghost finding = { finding.Staff };
+
     fn all() -> &'static [StaffFlaw] {
         &[
             StaffFlaw::Order,
@@ -193,6 +220,10 @@ impl Flaws for StaffFlaw {
             StaffFlaw::Name,
             StaffFlaw::Role,
         ]
+    }
+
+    fn finding(self, place: usize) -> Finding {
+        Finding::Staff { place, flaw: self }
     }
 }
 
@@ -213,6 +244,8 @@ pub enum ClientFlaw {
 impl Flaws for ClientFlaw {
     ghost all = { client_flaws };
 
+    ghost finding = { finding.Client };
+
     fn all() -> &'static [ClientFlaw] {
         &[
             ClientFlaw::Order,
@@ -221,6 +254,10 @@ impl Flaws for ClientFlaw {
             ClientFlaw::Limit,
             ClientFlaw::Name,
         ]
+    }
+
+    fn finding(self, place: usize) -> Finding {
+        Finding::Client { place, flaw: self }
     }
 }
 
@@ -257,6 +294,8 @@ pub enum LoanFlaw {
 impl Flaws for LoanFlaw {
     ghost all = { loan_flaws };
 
+    ghost finding = { finding.Loan };
+
     fn all() -> &'static [LoanFlaw] {
         &[
             LoanFlaw::Order,
@@ -272,6 +311,10 @@ impl Flaws for LoanFlaw {
             LoanFlaw::Disbursed,
             LoanFlaw::Days,
         ]
+    }
+
+    fn finding(self, place: usize) -> Finding {
+        Finding::Loan { place, flaw: self }
     }
 }
 
@@ -317,6 +360,8 @@ pub enum EntryFlaw {
 impl Flaws for EntryFlaw {
     ghost all = { entry_flaws };
 
+    ghost finding = { finding.Entry };
+
     fn all() -> &'static [EntryFlaw] {
         &[
             EntryFlaw::Order,
@@ -338,6 +383,10 @@ impl Flaws for EntryFlaw {
             EntryFlaw::Unlisted,
         ]
     }
+
+    fn finding(self, place: usize) -> Finding {
+        Finding::Entry { place, flaw: self }
+    }
 }
 
 /// What is wrong with a row of a receipt.
@@ -352,8 +401,14 @@ pub enum ReceiptFlaw {
 impl Flaws for ReceiptFlaw {
     ghost all = { receipt_flaws };
 
+    ghost finding = { finding.Receipt };
+
     fn all() -> &'static [ReceiptFlaw] {
         &[ReceiptFlaw::Order, ReceiptFlaw::Entry]
+    }
+
+    fn finding(self, place: usize) -> Finding {
+        Finding::Receipt { place, flaw: self }
     }
 }
 

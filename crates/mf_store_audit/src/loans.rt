@@ -6,9 +6,8 @@ ghost use Rattle.mf_model.specs.Stages.{stage_number};
 ghost use Rattle.mf_store_values.specs.Flat.{approval_text, disbursal_text};
 ghost use Rattle.mf_store_audit.specs.Catalogue.{IsNoNumber};
 ghost use Rattle.mf_store_audit.specs.Loans.{IsDayIf, IsNoStageText, BreaksLoanIn};
-ghost use Rattle.mf_store_audit.specs.declared.finding.Finding.TheVariants as finding;
 
-use crate::finding::{Finding, LoanFlaw};
+use crate::finding::LoanFlaw;
 use crate::keys::{is_after, is_next, row_at};
 use crate::meta::is_day;
 use crate::offices::is_office;
@@ -87,8 +86,6 @@ impl<'a> Row<&'a LoanSetting<'a>> for LoanRow {
 
     ghost Breaks = { λ setting flaw before row. BreaksLoanIn setting.now flaw before row };
 
-    ghost finding = { finding.Loan };
-
     fn breaks(
         &self,
         setting: &'a LoanSetting<'a>,
@@ -119,9 +116,5 @@ impl<'a> Row<&'a LoanSetting<'a>> for LoanRow {
             LoanFlaw::Disbursed => Ok(is_disbursal_wrong(self)),
             LoanFlaw::Days => Ok(!is_stage(setting.today, self)),
         }
-    }
-
-    fn finding(place: usize, flaw: LoanFlaw) -> Finding {
-        Finding::Loan { place, flaw }
     }
 }

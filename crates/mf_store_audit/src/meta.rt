@@ -3,9 +3,8 @@
 ghost use Rattle.std.specs.Prelude.{◌≡◌, ◌≤◌, ◌↔◌, ℕ, IsTrue};
 ghost use Rattle.mf_base.specs.DayText.{day_text, last_entered_day};
 ghost use Rattle.mf_store_audit.specs.Catalogue.{BreaksMeta};
-ghost use Rattle.mf_store_audit.specs.declared.finding.Finding.TheVariants as finding;
 
-use crate::finding::{Finding, MetaFlaw};
+use crate::finding::MetaFlaw;
 use crate::places::Row;
 use mf_base::{Day, Fault};
 use mf_store_schema::{MetaRow, Text};
@@ -26,17 +25,11 @@ impl Row<u32> for MetaRow {
 
     ghost Breaks = { λ schema flaw before row. BreaksMeta schema flaw row };
 
-    ghost finding = { finding.Meta };
-
     fn breaks(&self, schema: u32, _before: Option<&Self>, flaw: MetaFlaw) -> Result<bool, Fault> {
         match flaw {
             MetaFlaw::Key => Ok(self.one != 1),
             MetaFlaw::Schema => Ok(self.schema != schema),
             MetaFlaw::Day => Ok(!is_day(&self.day)),
         }
-    }
-
-    fn finding(place: usize, flaw: MetaFlaw) -> Finding {
-        Finding::Meta { place, flaw }
     }
 }

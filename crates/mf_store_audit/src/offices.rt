@@ -3,10 +3,9 @@
 ghost use Rattle.std.specs.Prelude.{◌≡◌, ◌↔◌, IsTrue, option_copied};
 ghost use Rattle.mf_store_sound.specs.Offices.{office_row_in, parent_row};
 ghost use Rattle.mf_store_audit.specs.Offices.{BreaksOffice, HasParent, is_office};
-ghost use Rattle.mf_store_audit.specs.declared.finding.Finding.TheVariants as finding;
 
 use crate::charges::is_no_name;
-use crate::finding::{Finding, OfficeFlaw};
+use crate::finding::OfficeFlaw;
 use crate::keys::{is_after, row_at};
 use crate::places::Row;
 use mf_base::Fault;
@@ -60,8 +59,6 @@ impl<'a> Row<&'a OfficeSetting<'a>> for OfficeRow {
 
     ghost Breaks = { λ setting flaw before row. BreaksOffice setting.now.offices.now flaw before row };
 
-    ghost finding = { finding.Office };
-
     fn breaks(
         &self,
         setting: &'a OfficeSetting<'a>,
@@ -80,9 +77,5 @@ impl<'a> Row<&'a OfficeSetting<'a>> for OfficeRow {
             }
             OfficeFlaw::Depth => Ok(!is_within_depth(self)),
         }
-    }
-
-    fn finding(place: usize, flaw: OfficeFlaw) -> Finding {
-        Finding::Office { place, flaw }
     }
 }

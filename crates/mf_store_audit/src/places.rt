@@ -18,6 +18,13 @@ pub(crate) trait Flaws: Copy + 'static {
     fn all() -> &'static [Self]
         ensures listed { result.now ≡ all }
         ensures every { (flaw : Self) → IsOneOf result.now flaw };
+
+    /// What is told of a row at a place that breaks the condition.
+    ghost finding: { ℕ → Self → Finding };
+
+    /// What is told of a row at a place that breaks the condition.
+    fn finding(self, place: usize) -> Finding
+        ensures { result ≡ finding place self };
 }
 
 /// A row of a table, with the conditions that it may break by what it is held against.
@@ -34,9 +41,6 @@ pub(crate) trait Row<Setting>: Sized {
     /// The row, after the one before it, breaks this condition.
     ghost Breaks: { Setting → Self.Flaw → Option Self → Self → Type 0 };
 
-    /// What is told of a row at a place that breaks a condition.
-    ghost finding: { ℕ → Self.Flaw → Finding };
-
     /// Whether the row, after the one before it, breaks this condition. The error is F20, out of memory.
     fn breaks(
         &self,
@@ -49,10 +53,6 @@ pub(crate) trait Row<Setting>: Sized {
         ensures every { IfOk result (λ yes. IsInOrder setting →
             Breaks setting flaw (option_copied before.entry) self.now → IsTrue yes) }
         ensures gives_up { IfErr result (λ fault. fault ≡ F20) };
-
-    /// What is told of a row at a place that breaks a condition.
-    fn finding(place: usize, flaw: Self::Flaw) -> Finding
-        ensures { result ≡ finding place flaw };
 }
 
 /// The row before a place.
@@ -97,8 +97,8 @@ pub(crate) fn add_found<Setting: Copy, R: Row<Setting>>(
 ) -> Result<(), Fault>
     requires { R.IsSetting setting }
     ensures added { OnOk result ((found : List Finding) × (findings.new.items ≡ findings.old.items ++ found)
-        × AreOfRows (R.Breaks setting) R.finding rows.now found
-        × (all ≡ true → R.IsInOrder setting → AreFoundIn R.Flaw.all (R.Breaks setting) R.finding rows.now found)) }
+        × AreOfRows (R.Breaks setting) R.Flaw.finding rows.now found
+        × (all ≡ true → R.IsInOrder setting → AreFoundIn R.Flaw.all (R.Breaks setting) R.Flaw.finding rows.now found)) }
     ensures one { OnOk result (all ≡ false → length findings.old.items ≤ 1 → length findings.new.items ≤ 1) }
     ensures gives_up { IfErr result (λ fault. fault ≡ F20) }
 {
@@ -107,7 +107,7 @@ pub(crate) fn add_found<Setting: Copy, R: Row<Setting>>(
     }
     for place in 0..rows.len() {
         if let Some(flaw) = first_flaw(setting, row_before(rows, place), &rows[place])? {
-            findings.push(R::finding(place, flaw))?;
+            findings.push(flaw.finding(place))?;
             if !all {
                 return Ok(());
             }

@@ -3,10 +3,9 @@
 ghost use Rattle.std.specs.Prelude.{◌↔◌, IsTrue};
 ghost use Rattle.mf_store_values.specs.Flat.{flag_number};
 ghost use Rattle.mf_store_audit.specs.Catalogue.{BreaksProduct, IsNoNumber};
-ghost use Rattle.mf_store_audit.specs.declared.finding.Finding.TheVariants as finding;
 
 use crate::charges::{is_no_name, is_none};
-use crate::finding::{Finding, ProductFlaw};
+use crate::finding::ProductFlaw;
 use crate::keys::is_next;
 use crate::places::Row;
 use mf_base::{Fault, Freq};
@@ -28,8 +27,6 @@ impl<'a> Row<&'a [ChargeRow]> for ProductRow {
     type Flaw = ProductFlaw;
 
     ghost Breaks = { λ charges flaw before row. BreaksProduct charges.now flaw before row };
-
-    ghost finding = { finding.Product };
 
     fn breaks(
         &self,
@@ -67,9 +64,5 @@ impl<'a> Row<&'a [ChargeRow]> for ProductRow {
                 Ok(!is_of_kind(charges, ChargeKind::Overdue, self.overdue_charge))
             }
         }
-    }
-
-    fn finding(place: usize, flaw: ProductFlaw) -> Finding {
-        Finding::Product { place, flaw }
     }
 }

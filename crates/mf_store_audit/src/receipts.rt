@@ -7,9 +7,8 @@ ghost use Rattle.std.specs.Ordering.{nat_cmp, ordering_then};
 ghost use Rattle.mf_store_values.specs.ReceiptRows.{receipt_of};
 ghost use Rattle.mf_store_schema.specs.declared.entries.EntryRow.{EntryRow};
 ghost use Rattle.mf_store_audit.specs.Entries.{AreListed, BreaksReceipt};
-ghost use Rattle.mf_store_audit.specs.declared.finding.Finding.TheVariants as finding;
 
-use crate::finding::{Finding, ReceiptFlaw};
+use crate::finding::ReceiptFlaw;
 use crate::keys::Keyed;
 use crate::places::Row;
 use crate::rows::find_row;
@@ -97,8 +96,6 @@ impl<'a> Row<&'a [EntryRow]> for ReceiptRow {
 
     ghost Breaks = { λ entries flaw before row. BreaksReceipt entries.now flaw before row };
 
-    ghost finding = { finding.Receipt };
-
     fn breaks(
         &self,
         entries: &'a [EntryRow],
@@ -112,9 +109,5 @@ impl<'a> Row<&'a [EntryRow]> for ReceiptRow {
             }),
             ReceiptFlaw::Entry => Ok(!is_carried(entries, self)),
         }
-    }
-
-    fn finding(place: usize, flaw: ReceiptFlaw) -> Finding {
-        Finding::Receipt { place, flaw }
     }
 }

@@ -1,10 +1,9 @@
 //! Rows of staff: what is wrong with them.
 
 ghost use Rattle.mf_store_audit.specs.Offices.{BreaksStaff};
-ghost use Rattle.mf_store_audit.specs.declared.finding.Finding.TheVariants as finding;
 
 use crate::charges::{is_no_name, is_none};
-use crate::finding::{Finding, StaffFlaw};
+use crate::finding::StaffFlaw;
 use crate::keys::{is_after, is_next};
 use crate::offices::is_office;
 use crate::places::Row;
@@ -17,8 +16,6 @@ impl<'a> Row<&'a [OfficeRow]> for StaffRow {
     type Flaw = StaffFlaw;
 
     ghost Breaks = { λ offices flaw before row. BreaksStaff offices.now flaw before row };
-
-    ghost finding = { finding.Staff };
 
     fn breaks(
         &self,
@@ -34,9 +31,5 @@ impl<'a> Row<&'a [OfficeRow]> for StaffRow {
             StaffFlaw::Name => Ok(is_no_name(&self.name)),
             StaffFlaw::Role => Ok(is_none::<Role>(self.role)),
         }
-    }
-
-    fn finding(place: usize, flaw: StaffFlaw) -> Finding {
-        Finding::Staff { place, flaw }
     }
 }

@@ -1,6 +1,5 @@
 use Rattle.std.proofs.Common.{◌+◌, ◌∙◌, ◌++◌, [], ◌∷◌, Vec, Global, sym, ap, subst, true≢false}
 use Rattle.std.specs.Cmp.{IsTotalOrder}
-use Rattle.std.specs.List.{Contains}
 use Rattle.mf_store_sound.specs.Held.{Rises}
 use Rattle.mf_store_audit.specs.declared.finding.RowKey.{RowKey}
 use Rattle.mf_store_audit.proofs.DifferenceLemmas.{AreLacking, none_lacking, one_lacking, one_there_too, all_lacking}
@@ -18,18 +17,18 @@ loop-row-preserved g c =
     let place = c.loop-row.row-index in
     let row = c.row-item.result in
     elim c.if-not-is_among.branch [
-      then-not-is_among+in_ok-push w ↦
-        one_lacking g.T.Keyed.key InOrder c.args.rows.now c.args.others.now c.args.keys.now.items c.loop-row.keys.items
-        c.if-not-is_among.keys.items place row c.loop-row-test.true c.row-item.is
-        (λ order there. true≢false (sym (c.is_among.ensures.every order.0 order.1 there) ∙ w.if-not-is_among.true))
-        (ap (λ (v : Vec RowKey Global). v.items) w.keys-is ∙ (w.in_ok-push.ensures {u = tt}).items
-        ∙ (λ t. c.loop-row.keys.items ++ w.row_key.ensures t ∷ [])) c.loop-row.invariant
-    | else-not-is_among w ↦
-        subst (λ (v : Vec RowKey Global). AreLacking g.T.Keyed.key InOrder c.args.rows.now c.args.others.now
-        c.args.keys.now.items v.items (place + 1)) (sym w.keys-is)
-        (one_there_too g.T.Keyed.key InOrder c.args.rows.now c.args.others.now c.args.keys.now.items
-        c.loop-row.keys.items place row c.row-item.is (c.is_among.ensures.some w.if-not-is_among.false)
-        c.loop-row.invariant)
+      | then-not-is_among+in_ok-push w ↦
+          one_lacking g.T.Keyed.key InOrder c.args.rows.now c.args.others.now c.args.keys.now.items c.loop-row.keys.items
+          c.if-not-is_among.keys.items place row c.loop-row-test.true c.row-item.is
+          (λ order there. true≢false (sym (c.is_among.ensures.every order.0 order.1 there) ∙ w.if-not-is_among.true))
+          (ap (λ (v : Vec RowKey Global). v.items) w.keys-is ∙ (w.in_ok-push.ensures {u = tt}).items
+          ∙ (λ t. c.loop-row.keys.items ++ w.row_key.ensures t ∷ [])) c.loop-row.invariant
+      | else-not-is_among w ↦
+          subst (λ (v : Vec RowKey Global). AreLacking g.T.Keyed.key InOrder c.args.rows.now c.args.others.now
+          c.args.keys.now.items v.items (place + 1)) (sym w.keys-is)
+          (one_there_too g.T.Keyed.key InOrder c.args.rows.now c.args.others.now c.args.keys.now.items
+          c.loop-row.keys.items place row c.row-item.is (c.is_among.ensures.some w.if-not-is_among.false)
+          c.loop-row.invariant)
     ]
 
 pub returns-clause-added : goal.returns-clause-added

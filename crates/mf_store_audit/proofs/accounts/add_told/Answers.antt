@@ -11,13 +11,14 @@ use Rattle.mf_store_audit.proofs.accounts.add_told.Goals.{else-not-all-via-else-
 
 pub loop-key-preserved : goal.loop-key-preserved
 loop-key-preserved c =
-    let none : c.args.all ≡ false → length c.loop-key.findings.items ≡ 0 = λ no_. elim c.else-not-all.branch
-        [ else-not-all-via-then-not-all+else-not-is_empty w ↦
-            let empty = w.if-not-is_empty.ensures {u = tt} in
-            let no_length : vec_len c.loop-key.findings ≡ 0 = grind (arith, nat_tests) in
-            let same : length c.loop-key.findings.items ≡ vec_len c.loop-key.findings = search rules in
-            same ∙ no_length
-        | else-not-all-via-else-not-all w ↦ absurd (true≢false (sym w.if-not-all.false ∙ no_)) ] in
+    let none : c.args.all ≡ false → length c.loop-key.findings.items ≡ 0 = λ no_. elim c.else-not-all.branch [
+      | else-not-all-via-then-not-all+else-not-is_empty w ↦
+          let empty = w.if-not-is_empty.ensures {u = tt} in
+          let no_length : vec_len c.loop-key.findings ≡ 0 = grind (arith, nat_tests) in
+          let same : length c.loop-key.findings.items ≡ vec_len c.loop-key.findings = search rules in
+          same ∙ no_length
+      | else-not-all-via-else-not-all w ↦ absurd (true≢false (sym w.if-not-all.false ∙ no_))
+    ] in
     let keys = c.args.keys.now in
     let blank : RowKey = record { office = 0; loan = 0; number = 0 } in
     let key = get_or keys c.loop-key.key-index blank in

@@ -1,7 +1,4 @@
-use Rattle.std.proofs.Common.{◌≡◌, ◌∙◌, ◌++◌, ◌⊎◌, List, [], sym, ap, subst, inl, inr, rules}
-use Rattle.std.specs.List.{AllByRecursion, Contains, dedup}
-use Rattle.mf_store_audit.specs.Differences.{Differ, Lacks}
-use Rattle.mf_store_audit.specs.declared.finding.RowKey.{RowKey}
+use Rattle.std.proofs.Common.{◌∙◌, ◌++◌}
 use Rattle.mf_store_audit.proofs.DifferenceLemmas.{differ_in, one_key, same_keys, tied_keys}
 use Rattle.mf_store_audit.proofs.accounts.differing_keys.Goals as goal
 

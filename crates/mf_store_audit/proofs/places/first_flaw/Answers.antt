@@ -1,4 +1,4 @@
-use Rattle.std.proofs.Common.{List, Some, None, subst}
+use Rattle.std.proofs.Common.{Some, None, subst}
 use Rattle.std.specs.Prelude.{option_copied}
 use Rattle.mf_store_audit.specs.Places.{IsFirst}
 use Rattle.mf_store_audit.proofs.PlaceLemmas.{first_is, first_none}

@@ -1,5 +1,5 @@
-use Rattle.std.proofs.Common.{rules, is_lt, nat_cmp}
-use Rattle.std.specs.Ordering.{ordering_then, is_le}
+use Rattle.std.proofs.Common.{rules, is_lt}
+use Rattle.std.specs.Ordering.{is_le}
 use Rattle.std.proofs.lemmas.Fn.{always_returns_same}
 use Rattle.mf_store_audit.proofs.AroundLemmas.{by_loan, own_between}
 use Rattle.mf_store_audit.proofs.seals.around.Goals as goal
