@@ -21,7 +21,7 @@ use Rattle.mf_journal.specs.declared.following.Head.{Head}
 use Rattle.mf_store_told.specs.Told.{IsUntoldAt, TellsRequests}
 use Rattle.mf_store_sound.specs.Held.{KeepsJournalAt}
 use Rattle.mf_store_sound.specs.Schemas.{lists_at, tables_at}
-use Rattle.mf_store_audit.specs.Findings.{AllBreak, AreOfNone}
+use Rattle.mf_store_audit.specs.Findings.{AllBreak, AreFindings, AreOfNone}
 use Rattle.mf_store_audit.specs.Sums.{sums_of_office}
 use Rattle.mf_store_audit.specs.declared.totals.OfficeSums.{OfficeSums}
 use Rattle.mf_store_audit.specs.Unread.{IsUnread}
@@ -101,6 +101,15 @@ FindsSound (Sound version sums) = Unit {0}
 FindsSound (Unsound version tables findings) = ⊥
 FindsSound (Unreadable version unread) = ⊥
 FindsSound (audit.BrokenJournal broken) = ⊥
+
+-- of rows that no sound institution has, an audit tells all that is found
+abbrev pub TellsAll : Audit → Type 0
+TellsAll NoTables = Unit {0}
+TellsAll OtherTables = Unit {0}
+TellsAll (Sound version sums) = Unit {0}
+TellsAll (Unsound version tables findings) = AreFindings version tables findings.items
+TellsAll (Unreadable version unread) = Unit {0}
+TellsAll (audit.BrokenJournal broken) = Unit {0}
 
 -- the trees keep a journal that the program can have written, each line of which tells a request
 abbrev pub KeepsSomeJournal : Trees → Type 0

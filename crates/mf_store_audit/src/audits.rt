@@ -1,6 +1,6 @@
 //! An audit of the tables of a connection.
 
-ghost use Rattle.std.specs.Prelude.{◌≡◌, ◌↔◌, IsTrue, [], false, IfOk, IfErr};
+ghost use Rattle.std.specs.Prelude.{◌≡◌, ◌↔◌, IsTrue, [], true, false, IfOk, IfErr};
 ghost use Rattle.mf_base.specs.declared.fault.Fault.TheVariants.{F20};
 ghost use Rattle.sqlite.specs.Held.{state};
 ghost use Rattle.sqlite.specs.State.{HasCleanDisk};
@@ -8,7 +8,7 @@ ghost use Rattle.mf_store_schema.specs.Schemas.{IsUnchangedUnder};
 ghost use Rattle.mf_store_schema.specs.Versions.{IsOfVersion};
 ghost use Rattle.mf_store_schema.specs.Whole.{HaveRowids};
 ghost use Rattle.mf_store_sound.specs.Told.{IsAny, HaveOwnRowids};
-ghost use Rattle.mf_store_audit.specs.Audits.{IsAuditOfRows, IsAuditOf};
+ghost use Rattle.mf_store_audit.specs.Audits.{IsAuditOfRows, IsAuditOf, TellsAll};
 
 use crate::find::{are_none, findings};
 use crate::finding::Finding;
@@ -53,6 +53,7 @@ pub enum Audit {
 /// An audit of rows by the tables of a version: of all that break a condition, or of the first alone.
 fn audit_rows(alloc: Global, version: Version, tables: Tables, all: bool) -> Result<Audit, Fault>
     ensures exact { IfOk result (IsAuditOfRows version tables) }
+    ensures every { all ≡ true → IfOk result TellsAll }
     ensures gives_up { IfErr result (λ fault. fault ≡ F20) }
 {
     let found = findings(alloc, version, &tables, all)?;
@@ -82,6 +83,7 @@ fn audit_known<S: Alter, P: Progress>(
         → IsOfVersion version (state S.Store connection.old).now.schema
         → HaveRowids version (state S.Store connection.old).now.trees
         → IfOk result (IsAuditOf (state S.Store connection.old).now) }
+    ensures every { all ≡ true → IfOk result TellsAll }
     ensures gives_up { IfErr result (λ fault. fault ≡ F20) }
     ensures mode { connection.new.in_transaction ≡ false }
 {
@@ -108,6 +110,7 @@ pub fn audit_tables<S: Alter, P: Progress>(
     ensures kept { IsUnchangedUnder IsAny (state S.Store connection.old) (state S.Store connection.new) }
     ensures exact { HasCleanDisk (state S.Store connection.new) → HaveOwnRowids (state S.Store connection.old).now
         → IfOk result (IsAuditOf (state S.Store connection.old).now) }
+    ensures every { all ≡ true → IfOk result TellsAll }
     ensures gives_up { IfErr result (λ fault. fault ≡ F20) }
     ensures mode { connection.new.in_transaction ≡ false }
 {

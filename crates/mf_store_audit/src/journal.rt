@@ -8,7 +8,7 @@ ghost use Rattle.mf_store_schema.specs.Schemas.{IsUnchangedUnder};
 ghost use Rattle.mf_store_schema.specs.Versions.{IsOfVersion};
 ghost use Rattle.mf_store_schema.specs.Whole.{HaveRowids};
 ghost use Rattle.mf_store_schema.specs.declared.versions.Version.TheVariants.{Third};
-ghost use Rattle.mf_store_audit.specs.Audits.{FindsSound, IsBroken, IsWithJournal, KeepsOnly};
+ghost use Rattle.mf_store_audit.specs.Audits.{FindsSound, IsBroken, IsWithJournal, KeepsOnly, TellsAll};
 
 use crate::audits::Audit;
 use mf_base::Fault;
@@ -79,6 +79,7 @@ fn audit_lines<S: Alter>(
         → IsOfVersion Third (state S.Store connection.old).now.schema
         → KeepsOnly journal (state S.Store connection.old).now.trees
         → IfOk result (IsWithJournal (state S.Store connection.old).now.trees audit) }
+    ensures every { TellsAll audit → IfOk result TellsAll }
     ensures gives_up { IfErr result (λ fault. fault ≡ F20) }
     ensures mode { connection.new.in_transaction ≡ false }
 {
@@ -103,6 +104,7 @@ pub(crate) fn audit_journal<S: Alter>(
         → IsOfVersion Third (state S.Store connection.old).now.schema
         → HaveRowids Third (state S.Store connection.old).now.trees
         → IfOk result (IsWithJournal (state S.Store connection.old).now.trees audit) }
+    ensures every { TellsAll audit → IfOk result TellsAll }
     ensures gives_up { IfErr result (λ fault. fault ≡ F20) }
     ensures mode { connection.new.in_transaction ≡ false }
 {

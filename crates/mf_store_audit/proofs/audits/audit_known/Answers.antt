@@ -69,3 +69,6 @@ returns-in-Third-clause-exact g c clean ours rowids =
     (subst (λ (d : Database). IsWithJournal d.trees c.in_ok-audit.audit whole) same told))
     (c.audit_journal.ensures.exact clean (ours_there v third db now same ours)
     (rowids_there v third db now same rowids))
+
+pub returns-in-Third-clause-every : goal.returns-in-Third-clause-every
+returns-in-Third-clause-every g c whole = c.audit_journal.ensures.every ((c.in_ok-audit.ensures {u = tt}).every whole)

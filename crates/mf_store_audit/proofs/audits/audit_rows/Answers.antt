@@ -1,4 +1,4 @@
-use Rattle.std.proofs.Common.{◌≡◌, [], refl, sym, rules}
+use Rattle.std.proofs.Common.{◌≡◌, ◌∙◌, [], refl, sym, rules, true≢false}
 use Rattle.mf_store_schema.specs.Versions.{number_of}
 use Rattle.mf_store_sound.specs.Sound.{AreOfSoundAt}
 use Rattle.mf_store_sound.proofs.WholeLemmas.{bare_of}
@@ -17,3 +17,8 @@ returns-clause-exact c =
         sums_are = sym (c.in_ok-sums.ensures.sums (number_of c.args.version) one.institution one.sound bare);
       },
     )
+
+pub returns-then-not-are_none-clause-every : goal.returns-then-not-are_none-clause-every
+returns-then-not-are_none-clause-every c whole =
+    (c.in_ok-found.ensures {u = tt}).every whole (λ sound. true≢false (sym (c.are_none.ensures.1 (c.deref.ensures.value
+    ∙ (c.in_ok-found.ensures {u = tt}).none.1 sound)) ∙ c.if-not-are_none.true))
