@@ -11,6 +11,7 @@ from workers import Desk
 OFFICE, LOANS = 9000, 3000  # the office that is asked for, and its active loans
 NEXT_DAY = "2025-01-01"  # the business day
 REPAID = 300  # loans of each office with an entry on each of the two days
+UPGRADE = 600  # seconds that a million clients may take to get a journal
 WANTED, WANTED_OF_FIND = 5000, 15000  # microseconds of a processor
 
 
@@ -72,7 +73,7 @@ def made(first, folder, branches):
     files.copy(first, path)
     grow(path, branches)
     grow(path, 1, CLIENTS, LOANS, OFFICE)
-    files.ended(["upgrade", "--existing", "--file", path, "--journal"])
+    files.ended(["upgrade", "--existing", "--file", path, "--journal"], patience=UPGRADE)
     offices = [*range(2, branches + 2), OFFICE]
     day = [repayment((office, number), 1, LAST_DAY) for number in range(1, REPAID + 1) for office in offices]
     entered(path, day + [f'1/1 PUT /business-day {{"day":"{NEXT_DAY}"}}\n'] + day)

@@ -50,9 +50,9 @@ def room():
     return tempfile.TemporaryDirectory(dir=memory if os.access(memory, os.W_OK) else None)
 
 
-def ended(words, given=b"", **options):
+def ended(words, given=b"", patience=PATIENCE, **options):
     """The program's status, standard output and standard error."""
-    done = subprocess.run([PROGRAM, *words], input=given, capture_output=True, check=False, timeout=PATIENCE, **options)
+    done = subprocess.run([PROGRAM, *words], input=given, capture_output=True, check=False, timeout=patience, **options)
     return done.returncode, done.stdout, done.stderr
 
 
