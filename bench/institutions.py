@@ -160,6 +160,12 @@ def has_sums(path):
         return file.read(21)[20:] == bytes([SUM])
 
 
+def noted_of_sums(path, begin):
+    """The line, begun so, that `why` and `audit` have of a sound institution where its pages have no sums."""
+    said = f"{begin}: its pages have no checksums, so a bit that turned on the disk may go unnoticed\n"
+    return b"" if has_sums(path) else said.encode()
+
+
 def sum_of(page):
     """The sum of a page without its last bytes, as SQLite's checksum VFS has it."""
     first = second = 0

@@ -91,6 +91,22 @@ class Unit(roots.ServedDesk):
                 self.root.run("systemctl reset-failed microloan; systemctl start microloan")
         self.assertEqual(self.ask("GET", "/api/business-day")[0], 200)
 
+    def test_a_file_without_checksums_is_served_where_it_is_meant(self):
+        meant = "/etc/microloan/without-checksums"
+        anew = (
+            "import sqlite3; old = sqlite3.connect('file:/root/with.db?mode=ro', uri=True); "
+            f"new = sqlite3.connect('{FILE}'); new.executescript(''.join(f'{{line}}\n' for line in old.iterdump()))"
+        )
+        self.root.run("systemctl stop microloan; cp -a /var/lib/microloan /root/kept-with")
+        self.root.run(f"cp {FILE} /root/with.db && rm -f {FILE}*")
+        self.root.run(f'python3 -c "{anew}" && chown microloan: {FILE}')
+        self.root.run("systemctl start microloan", wanted=1)
+        self.assertIn("its pages have no checksums", self.root.run("journalctl --no-pager --unit=microloan --lines=8"))
+        self.root.run(f"touch {meant} && systemctl reset-failed microloan; systemctl start microloan")
+        self.assertEqual(self.ask("GET", "/api/business-day")[0], 200)
+        self.root.run(f"systemctl stop microloan; rm -r /var/lib/microloan {meant}")
+        self.root.run("cp -a /root/kept-with /var/lib/microloan; systemctl start microloan")
+
     def test_crashes_again_and_again_end(self):
         """It is started again after each, until the start limit; then it is failed, and the institution is told."""
         crash = "systemctl kill --signal=KILL --kill-who=main microloan; true"

@@ -2,7 +2,10 @@
 damaged.
 
     institution_files.py FILE     what comes before a start: the status is 1, and a line says so, where the log beside
-                                  the file is damaged; a file of an older schema than the program's is copied first
+                                  the file is damaged, or the file's pages have no checksums and root hasn't said that
+                                  such a file is meant; a file of an older schema than the program's is copied first
+    institution_files.py --mean-without-checksums FILE
+                                  says for root that it is meant, where the file's pages have no checksums
 """
 import contextlib
 import fcntl
@@ -24,6 +27,7 @@ import traceback
 
 FILE = "/var/lib/microloan/desk.db"
 PROGRAM = "/usr/bin/microloan"
+MEANT = "/etc/microloan/without-checksums"  # where it is there, a file whose pages have no checksums is served
 DIFFERS = 3  # a child's status where it did what it should, and has told of something that isn't as it should be
 PATIENCE = 10  # seconds that a process may take to stand still
 MAGIC = 0x377F0682  # of a log whose sums are of words with the lowest byte first; with 1 added the other way round
@@ -369,6 +373,28 @@ def schema_of(path):
         return None
 
 
+def lacks_checksums(path):
+    """Whether a file holds an institution, and by its header no page ends in a checksum. The program makes none such."""
+    with open(path, "rb") as file:
+        header = file.read(21)
+    return schema_of(path) is not None and header[20:] != bytes([8])
+
+
+def refuse_without_checksums(path):
+    if lacks_checksums(path) and not os.path.exists(MEANT):
+        raise Failed(
+            f"{path}: its pages have no checksums, so something else than this program made the file, or its release "
+            f"1.0.0 did. Restore a backup. If the file is meant: touch {MEANT}"
+        )
+
+
+def mean_without_checksums(path):
+    """Lets an institution go on whose file an older release made."""
+    if os.path.exists(path) and lacks_checksums(path) and not os.path.exists(MEANT):
+        with open(MEANT, "w", encoding="utf-8"):
+            print(f"microloan: the pages of {path} have no checksums; it is served, since {MEANT} is there now")
+
+
 def keep_older_schema(path, program=PROGRAM):
     """Copies a file that opening brings to a newer schema, from which there is no way back, into a folder beside it."""
     version = subprocess.run([program, "--version"], capture_output=True, text=True, check=False).stdout
@@ -389,7 +415,11 @@ def keep_older_schema(path, program=PROGRAM):
 
 if __name__ == "__main__":
     try:
-        refuse_damaged_log(sys.argv[1])
-        keep_older_schema(sys.argv[1])
+        if sys.argv[1] == "--mean-without-checksums":
+            mean_without_checksums(sys.argv[2])
+        else:
+            refuse_damaged_log(sys.argv[1])
+            refuse_without_checksums(sys.argv[1])
+            keep_older_schema(sys.argv[1])
     except (Failed, OSError) as why:
         sys.exit(f"microloan: {why}")

@@ -113,10 +113,7 @@ module _ {S : Type 0} (store : Ghosts S) where
           | inl heading ↦ unchanged old new heading.same
           | inr cut ↦ ran_rows old new _ _ cut.ran
         ]
-        by Memory h = elim h.1 [
-          | inl never ↦ unchanged old new never.same
-          | inr before ↦ ran_rows old new before.done before.results before.ran
-        ]
+        by Memory h = unchanged old new h.1.same
 
   done_grows : (work : Work) (old new : S) → IsDone store work old new → Grows old new
   done_grows (Run choice told streams result) old new done = run_ended choice told old new streams result done

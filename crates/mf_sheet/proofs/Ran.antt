@@ -17,7 +17,7 @@ use Rattle.mf_sheet_lines.specs.declared.results.SheetResult.{SheetResult}
 use Rattle.mf_sheet_lines.specs.declared.results.SheetResult.TheVariants.{Refused}
 use Rattle.mf_sheet.specs.Lines.{call_by, result_of}
 use Rattle.mf_sheet.specs.Runs.{NoResultIsF20, OnlyF20GivesUp, AnswersFields, RunsRows, AnswersEach}
-use Rattle.mf_sheet.specs.Ends.{SheetStreams, EndsWhole, NeverBegins, EndsBefore, CutsHeading, CutsRecord, EndsBy, Ends}
+use Rattle.mf_sheet.specs.Ends.{SheetStreams, EndsWhole, NeverBegins, CutsHeading, CutsRecord, EndsBy, Ends}
 use Rattle.mf_sheet.proofs.InRange.{row_in_range}
 use Rattle.mf_sheet.proofs.Rows.{Rows}
 
@@ -101,20 +101,6 @@ module _ {S : Type 0} (P Q : S → List (List (List ℕ)) → List SheetResult �
   never : (n : ℕ) → NeverBegins P old new s n → NeverBegins Q old new s n
   never n e = record { none = e.none; same = e.same; unwritten = e.unwritten }
 
-  before : (n : ℕ) → EndsBefore P old new s n → EndsBefore Q old new s n
-  before n e = record {
-    done = e.done;
-    fields = e.fields;
-    rest = e.rest;
-    among = e.among;
-    results = e.results;
-    each = e.each;
-    ran = weaker old e.done e.results new e.ran;
-    without_F20 = e.without_F20;
-    written = e.written;
-    counted = e.counted;
-  }
-
   heading_cut : (n : ℕ) → CutsHeading P old new s n → CutsHeading Q old new s n
   heading_cut n e = record { part = e.part; short = e.short; written = e.written; none = e.none; same = e.same }
 
@@ -138,7 +124,7 @@ module _ {S : Type 0} (P Q : S → List (List (List ℕ)) → List SheetResult �
   by : (cause : Cause) (n : ℕ) → EndsBy P old new s cause n → EndsBy Q old new s cause n
   by Read n e = absurd e
   by Write n e = (e.0, elim e.1 [ inl h ↦ inl (heading_cut n h) | inr r ↦ inr (record_cut n r) ])
-  by Memory n e = (e.0, elim e.1 [ inl h ↦ inl (never n h) | inr r ↦ inr (before n r) ])
+  by Memory n e = (e.0, never n e.1)
 
   pub ends : (r : Result (Unit {0}) StreamFault) → Ends P old new s r → Ends Q old new s r
   ends (Ok done) e = whole e

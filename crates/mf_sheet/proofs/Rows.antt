@@ -8,7 +8,7 @@ use Rattle.mf_sheet_lines.specs.Results.{heading, record_text, records_text}
 use Rattle.mf_sheet_lines.specs.declared.results.SheetResult.{SheetResult}
 use Rattle.mf_sheet_lines.specs.declared.results.SheetResult.TheVariants.{Refused}
 use Rattle.mf_sheet.specs.Runs.{NoResultIsF20, AnswersEach}
-use Rattle.mf_sheet.specs.Ends.{SheetStreams, sheet_text, EndsWhole, EndsBefore, CutsRecord}
+use Rattle.mf_sheet.specs.Ends.{SheetStreams, sheet_text, EndsWhole, CutsRecord}
 
 abbrev pub Rows : Type 0
 Rows = List (List (List ℕ))
@@ -135,24 +135,6 @@ module _ {S : Type 0} (step : S → List (List ℕ) → SheetResult → S → Ty
         written = sheet_written done [] streams.rows going.results streams.sink.before start streams.sink.after all each
             first going.written;
         sink = sound;
-      }
-
-  pub ends_before : (new : S) (f : List (List ℕ)) (rest : Rows) → streams.rows ≡ done ++ f ∷ rest
-      → Going step old new done start streams.sink.after count → EndsBefore (AnswersEach step) old new streams count
-  ends_before new f rest among going =
-      let each = AnswersEach-each step old new done going.results going.ran in
-      record {
-        done = done;
-        fields = f;
-        rest = rest;
-        among = among;
-        results = going.results;
-        each = each;
-        ran = going.ran;
-        without_F20 = going.none;
-        written = sheet_written done (f ∷ rest) streams.rows going.results streams.sink.before start streams.sink.after
-            among each first going.written;
-        counted = going.counted;
       }
 
   module _ (mid new : S) (f : List (List ℕ)) (r : SheetResult) (rest : Rows) (between : Option (List ℕ))

@@ -42,24 +42,11 @@ module _ {S : Type 0} (runs : S → List (List (List ℕ)) → List SheetResult 
     pub written : Appends streams.sink.before streams.sink.after (sheet_text streams.rows results)
     pub sink : streams.sink.faults_after ≡ streams.sink.faults_before
 
-  -- there was no memory to read the sheet: nothing was answered or written
+  -- there was no memory to read the sheet or to begin the records of its results: nothing was answered or written
   pub record NeverBegins (count : ℕ) : Type 0 where
     pub none : count ≡ 0
     pub same : new ≡ old
     pub unwritten : streams.sink.after ≡ streams.sink.before
-
-  -- There was no memory for the record of a line, which was not run. The result of each line before it was written.
-  pub record EndsBefore (count : ℕ) : Type 0 where
-    pub done : List (List (List ℕ))
-    pub fields : List (List ℕ)
-    pub rest : List (List (List ℕ))
-    pub among : streams.rows ≡ done ++ fields ∷ rest
-    pub results : List SheetResult
-    pub each : length results ≡ length done
-    pub ran : runs old done results new
-    pub without_F20 : NoResultIsF20 results
-    pub written : Appends streams.sink.before streams.sink.after (sheet_text streams.rows results)
-    pub counted : count ≡ length results
 
   -- of the heading only a part was written: nothing was answered
   pub record CutsHeading (count : ℕ) : Type 0 where
@@ -90,8 +77,7 @@ module _ {S : Type 0} (runs : S → List (List (List ℕ)) → List SheetResult 
   abbrev pub EndsBy : Cause → ℕ → Type 0
   EndsBy Read count = ⊥
   EndsBy Write count = (streams.sink.faults_after ≢ streams.sink.faults_before) × (CutsHeading count ⊎ CutsRecord count)
-  EndsBy Memory count = (streams.sink.faults_after ≡ streams.sink.faults_before)
-      × (NeverBegins count ⊎ EndsBefore count)
+  EndsBy Memory count = (streams.sink.faults_after ≡ streams.sink.faults_before) × NeverBegins count
 
   -- what a sheet leaves, by what it answers
   abbrev pub Ends : Result (Unit {0}) StreamFault → Type 0

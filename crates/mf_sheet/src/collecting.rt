@@ -2,7 +2,6 @@
 
 ghost use Rattle.std.specs.Prelude.{◌≡◌, ◌≢◌, ◌<◌, ◌≤◌, ℕ, List, Option, IfOk, IfErr, OnOk, length, take, true, false};
 ghost use Rattle.std.specs.Io.KnownBytes.{Appends};
-ghost use Rattle.mf_base.specs.declared.fault.Cause.TheVariants as cause;
 ghost use Rattle.mf_sheet_lines.specs.Results.{heading, record_text};
 ghost use Rattle.mf_sheet_lines.specs.Sheets.{longest, sheet_rows_of};
 ghost use Rattle.mf_sheet.specs.Runs.{AnswersFields, RunsRows, AnswersEach};
@@ -10,44 +9,38 @@ ghost use Rattle.mf_wire_lines.specs.Streams.{stream_of};
 ghost use Rattle.mf_sheet.specs.Ends.{Ends};
 
 use crate::answering::answer_line;
+use crate::begun::{BegunRow, begin_rows};
 use mf_base::{Cause, Fault, StreamFault};
 use mf_model::InstitutionStore;
 use mf_office::Caller;
-use mf_sheet_lines::{BegunRecord, SheetResult, SheetRow, heading, read_sheet};
+use mf_sheet_lines::{SheetResult, heading, read_sheet};
 use mf_wire_lines::{Sink, WriteFault, put};
 use std::alloc::Global;
 
-/// Answers a line and writes the record of its result, whose room is made before the line is answered.
+/// Answers a line and writes the record of its result.
 fn collect_row<S: InstitutionStore, W: Sink>(
     alloc: Global,
     store: &mut S,
     told: &[u8],
     caller: &Caller,
-    row: SheetRow,
+    row: BegunRow,
     sink: &mut W,
-) -> Result<SheetResult, Cause>
+) -> Result<SheetResult, WriteFault>
     ensures answered { IfOk result (λ r. AnswersFields S.InstitutionStore told.now caller.now store.old row r
         store.new) }
     ensures written { IfOk result (λ r. Appends (W.written sink.old) (W.written sink.new) (record_text row r)) }
     ensures sound { OnOk result (W.faults sink.new ≡ W.faults sink.old) }
-    ensures memory { IfErr result (λ c. c ≡ cause.Memory → (store.new ≡ store.old) × (sink.new ≡ sink.old)) }
-    ensures write { IfErr result (λ c. c ≡ cause.Write → (r : SheetResult)
-        × AnswersFields S.InstitutionStore told.now caller.now
-        store.old row r store.new
-        × ((n : ℕ) × (n < length (record_text row r)) × Appends (W.written sink.old) (W.written sink.new)
-        (take n (record_text row r)))) }
-    ensures fault { IfErr result (λ c. c ≡ cause.Write → W.faults sink.new ≢ W.faults sink.old) }
-    ensures read { IfErr result (λ c. c ≢ cause.Read) }
+    ensures write { IfErr result (λ _. (r : SheetResult) × AnswersFields S.InstitutionStore told.now caller.now
+        store.old row r store.new × ((n : ℕ) × (n < length (record_text row r))
+        × Appends (W.written sink.old) (W.written sink.new) (take n (record_text row r)))) }
+    ensures fault { IfErr result (λ _. W.faults sink.new ≢ W.faults sink.old) }
 {
-    let (fields, line) = row.into_parts();
-    let Ok(begun) = BegunRecord::new(alloc, &fields) else {
-        return Err(Cause::Memory);
-    };
+    let (line, begun) = row.into_parts();
     let outcome = answer_line(alloc, store, told, *caller, line);
     let record = begun.end_with(outcome);
     match put(sink, record.as_slice()) {
         Ok(()) => Ok(outcome),
-        Err(WriteFault) => Err(Cause::Write),
+        Err(WriteFault) => Err(WriteFault),
     }
 }
 
@@ -68,7 +61,7 @@ fn collect_rows<S: InstitutionStore, W: Sink>(
     store: &mut S,
     told: &[u8],
     caller: &Caller,
-    rows: Vec<SheetRow>,
+    rows: Vec<BegunRow>,
     sink: &mut W,
 ) -> Result<(), StreamFault>
     ensures ends { (before : Option (List ℕ)) → Appends before (W.written sink.old) heading →
@@ -81,7 +74,12 @@ fn collect_rows<S: InstitutionStore, W: Sink>(
     for row in rows {
         let outcome = match collect_row(alloc, store, told, caller, row, sink) {
             Ok(outcome) => outcome,
-            Err(cause) => return Err(StreamFault { answered, cause }),
+            Err(WriteFault) => {
+                return Err(StreamFault {
+                    answered,
+                    cause: Cause::Write,
+                });
+            }
         };
         if is_end(outcome) {
             return Ok(());
@@ -94,10 +92,10 @@ fn collect_rows<S: InstitutionStore, W: Sink>(
 /// Answers a collection sheet, which somebody sends, line by line as repayments, and writes the sheet of their results.
 /// The first F20 is written and ends the sheet. A journal notes what is told with each repayment.
 ///
-/// A fault says how many results were written whole. `Memory` is reported where the sheet can't be read, and nothing is
-/// answered or written, and where there is no room for the record of a line's result, which is made before the line is
-/// answered: that line is not run. After `Write`, which is reported only where the writer failed in this call, the line
-/// whose result was being written is the last that was run, and none was where the heading was being written.
+/// A fault says how many results were written whole. `Memory` is reported only before the heading is written, where the
+/// sheet can't be read or there is no room for the records of its results: nothing is answered or written. After
+/// `Write`, which is reported only where the writer failed in this call, the line whose result was being written is the
+/// last that was run, and none was where the heading was being written.
 pub fn collect<S: InstitutionStore, W: Sink>(
     alloc: Global,
     store: &mut S,
@@ -118,11 +116,17 @@ pub fn collect<S: InstitutionStore, W: Sink>(
             cause: Cause::Memory,
         });
     };
+    let Ok(rows) = begin_rows(alloc, sheet.into_rows()) else {
+        return Err(StreamFault {
+            answered: 0,
+            cause: Cause::Memory,
+        });
+    };
     let Ok(()) = put(sink, heading()) else {
         return Err(StreamFault {
             answered: 0,
             cause: Cause::Write,
         });
     };
-    collect_rows(alloc, store, told, &caller, sheet.into_rows(), sink)
+    collect_rows(alloc, store, told, &caller, rows, sink)
 }

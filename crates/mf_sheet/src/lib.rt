@@ -2,6 +2,7 @@
 #![tactic(auto)]
 
 mod answering;
+mod begun;
 mod collecting;
 pub mod laws;
 

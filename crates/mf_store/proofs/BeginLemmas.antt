@@ -7,6 +7,7 @@ use Rattle.sqlite_trees.specs.declared.store.Store.{Ghosts}
 use Rattle.mf_base.specs.declared.fault.Fault.{Fault}
 use Rattle.mf_model.specs.Institution.{Institution}
 use Rattle.mf_store_values.specs.Flat.{tables_of}
+use Rattle.mf_store_journal.specs.Index.{index_of}
 use Rattle.mf_store_journal.specs.declared.journal.Journal.{Journal}
 use Rattle.mf_store_noted.specs.Kept.{IsJournalOf, journaled}
 use Rattle.mf_store_noted.specs.Tabled.{IsTabled}
@@ -16,9 +17,9 @@ use Rattle.mf_store.specs.Beginning.{BeginsJournal}
 use Rattle.mf_store.specs.Stands.{StandsFor, IsClean, Stays}
 use Rattle.mf_store.proofs.KeptLemmas.{shuts_alike, tabled}
 
--- what is known doesn't speak of the journal
-true_journaled : (f : Facts) (i : Institution) → AreTrueOf f i → AreTrueOf f (journaled i)
-true_journaled f i t = record {
+-- what is known doesn't speak of a journal that has no line
+true_journaled : (f : Facts) (i : Institution) → i.journal ≡ None → AreTrueOf f i → AreTrueOf f (journaled i)
+true_journaled f i none t = record {
   counts = t.counts;
   catalogue = t.catalogue;
   day = t.day;
@@ -26,6 +27,7 @@ true_journaled f i t = record {
   keys = t.keys;
   products = t.products;
   accounts = t.accounts;
+  index = (t.index.0, sym (ap index_of none) ∙ t.index.1);
 }
 
 never_some : {A P : Type 0} (o : Option A) → o ≡ None → IsSome o → P
@@ -78,7 +80,7 @@ module _ {S : Type 0} (g : Ghosts S) where
             sound = t.kept.sound;
             serves = t.kept.serves;
             journal = t.keeps;
-            knows = true_journaled mid.known i (stays.same good i s).knows;
+            knows = true_journaled mid.known i no (stays.same good i s).knows;
           };
       begins = λ clean i s no. let good = gets.premise clean in
           ap Some (gets.begins clean i (tabled_mid good i s) ∙ ap (λ d. upgrading d (tables_of i)) (today good i s));

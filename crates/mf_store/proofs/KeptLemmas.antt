@@ -33,6 +33,7 @@ use Rattle.mf_store.specs.declared.known.News.TheVariants.{OfficeCounts, Busines
 use Rattle.mf_store.specs.declared.known.News.TheVariants as news
 use Rattle.mf_store_noted.specs.Kept.{begins_of}
 use Rattle.mf_store_noted.specs.Tabled.{IsTabled, HasGoodDisk, LeavesTables}
+use Rattle.mf_store_journal.specs.Index.{index_of}
 use Rattle.mf_store_journal.specs.declared.journal.Journal.{Journal}
 use Rattle.mf_store_noted.proofs.TurnedLemmas.{unchanged_stays}
 use Rattle.mf_store_schema.specs.Calls.{IsAsBefore, OnlyFaultsShut}
@@ -158,6 +159,7 @@ accounts_become f i accounts known so = record {
   keys = known.keys;
   products = known.products;
   accounts = so;
+  index = known.index;
 }
 
 -- the accounts, once one was kept, or could not be
@@ -233,6 +235,7 @@ account_still loan f i j gone k t = record {
   keys = λ x l e. t.keys x l (k.keys x l e);
   products = λ n p e. t.products refl n p (k.products n p e);
   accounts = λ a x e. t.accounts a x (another a x e) (k.accounts a x e);
+  index = (k.index.0, ap index_of t.journal ∙ k.index.1);
 }
   where
     another : (a : Account) (x : KeptAccount) → lookup (same_key (account_key a)) f.accounts ≡ Some x
@@ -252,6 +255,7 @@ told n i counts catalogue day = record {
   keys = λ x k h. h;
   products = λ t n p h. h;
   accounts = λ a x t h. h;
+  journal = refl;
 }
 
 -- a loan's account may be another, though it isn't
@@ -313,6 +317,7 @@ module _ {S : Type 0} (g : Ghosts S) where
       keys = λ x l e. absurd (let k : None ≡ Some l = e in cc);
       products = λ n p e. absurd (let k : None ≡ Some p = e in cc);
       accounts = λ a x e. absurd (let k : None ≡ Some x = e in cc);
+      index = (index_of i.journal, refl);
     });
   }
 

@@ -19,5 +19,5 @@ pub mod MadeLemmas
 pub mod KnownAccountLemmas
 pub mod DayLemmas
 pub mod BeginLemmas
-pub mod JournalPages
 pub mod JournalKept
+pub mod SoughtLemmas

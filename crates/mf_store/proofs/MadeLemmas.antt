@@ -1,6 +1,7 @@
 -- From writes that were made with the line of their request, or not, to the commit.
-use Rattle.std.proofs.Common.{◌≡◌, ◌∙◌, ℕ, List, [], ◌∷◌, Option, None, Some, Result, Ok, Err, IsTrue}
-use Rattle.std.proofs.Common.{inr, sym, ap, subst}
+use Rattle.std.proofs.Common.{◌≡◌, ◌∙◌, ◌++◌, ℕ, List, [], ◌∷◌, Option, None, Some, Result, Ok, Err, IsTrue}
+use Rattle.std.proofs.Common.{refl, inr, sym, ap, subst}
+use Rattle.std.proofs.lemmas.List.{append_assoc, map-append}
 use Rattle.std.specs.Prelude.{is_ok}
 use Rattle.sqlite.specs.Held.{Held}
 use Rattle.sqlite_trees.specs.declared.store.Store.{Ghosts}
@@ -9,14 +10,17 @@ use Rattle.mf_base.specs.declared.fault.Fault.TheVariants.{F20}
 use Rattle.mf_office.specs.declared.account.Account.{Account}
 use Rattle.mf_account.specs.Change.{KeptAccount}
 use Rattle.mf_model.specs.declared.commit.Commit.{Commit}
-use Rattle.mf_model.specs.Institution.{Institution, Noted, noted_line, with_line}
-use Rattle.mf_model.specs.Store.{IsAdmitted, account_at, after_commit}
+use Rattle.mf_model.specs.Institution.{Institution, JournalLine, Noted, after, noted_line, with_line, Change}
+use Rattle.mf_model.specs.Institution.{Catalogue_becomes, Rows_become, Office_added}
+use Rattle.mf_model.specs.Store.{IsAdmitted, account_at, after_commit, change_of}
 use Rattle.mf_store_schema.specs.declared.writes.StoreWrite.{StoreWrite}
 use Rattle.mf_store_commits.specs.Becoming.{Becomes, SpareMeta}
 use Rattle.mf_store_noted.specs.Becoming.{BecomesBeside, BecomesKept}
 use Rattle.mf_store_noted.specs.Kept.{IsJournalOf, IsToday, begins_of, journal_at}
 use Rattle.mf_store_noted.specs.Tabled.{IsTabled, LeavesTables}
 use Rattle.mf_store_noted.specs.Writing.{MakesWrites, day_at, noted_after, with_line_after}
+use Rattle.mf_store_journal.specs.Index.{AreOfFirst, index_entry, index_of}
+use Rattle.mf_store_journal.specs.declared.index.IndexEntry.{IndexEntry}
 use Rattle.mf_store_journal.specs.declared.journal.Journal.{Journal}
 use Rattle.mf_store_noted.specs.declared.journal.Place.{Place}
 use Rattle.mf_store_noted.proofs.BesideLemmas.{becomes_beside, begun_of}
@@ -43,8 +47,25 @@ line_is None noted i j none today =
     ∙ sym (ap (with_line (noted_line i.catalogue.day noted)) none))
 line_is (Some place) noted i j stands today = ap (λ (d : ℕ). with_line_after (noted_line d noted) i j) today
 
-true_noted : (f : Facts) (noted : Noted) (i j : Institution) → AreTrueOf f j → AreTrueOf f (noted_after noted i j)
-true_noted f noted i j t = record {
+-- what holds of the first lines holds of them where there is one more
+first_noted : (line : JournalLine) (entries : List IndexEntry) (kept : Option (List JournalLine))
+    → AreOfFirst entries kept → AreOfFirst entries (with_line line kept)
+first_noted line entries None first = first
+first_noted line entries (Some lines) first = (
+  first.0 ++ index_entry line ∷ [],
+  map-append index_entry lines (line ∷ []) ∙ ap (λ es. es ++ index_entry line ∷ []) first.1
+      ∙ append_assoc entries first.0 (index_entry line ∷ []),
+)
+
+-- a change is none of the journal
+journal_stays : (change : Change) (i : Institution) → (after change i).journal ≡ i.journal
+journal_stays (Catalogue_becomes catalogue) i = refl
+journal_stays (Rows_become x rows) i = refl
+journal_stays (Office_added number parent name) i = refl
+
+true_noted : (f : Facts) (noted : Noted) (i j : Institution) → j.journal ≡ i.journal → AreTrueOf f j
+    → AreTrueOf f (noted_after noted i j)
+true_noted f noted i j same t = record {
   counts = t.counts;
   catalogue = t.catalogue;
   day = t.day;
@@ -52,6 +73,8 @@ true_noted f noted i j t = record {
   keys = t.keys;
   products = t.products;
   accounts = t.accounts;
+  index = first_noted (noted_line i.catalogue.day noted) f.index i.journal
+      (t.index.0, sym (ap index_of same) ∙ t.index.1);
 }
 
 module _ {S : Type 0} (g : Ghosts S) where
@@ -162,7 +185,7 @@ module _ {S : Type 0} (g : Ghosts S) where
         made = λ clean i s admitted. let good = w.premise clean in stands_known now e
             (noted_after noted i (after_commit commit i))
             (w.made clean i (after_commit commit i) (kept.same good i s) (becomes good i s admitted))
-            (true_noted e noted i (after_commit commit i)
+            (true_noted e noted i (after_commit commit i) (journal_stays (change_of commit i) i)
             (learns i (w.known clean i (kept.same good i s)) admitted s good));
         kept = λ clean i s admitted. let good = w.premise clean in
             w.left clean i (after_commit commit i) (kept.same good i s) (becomes good i s admitted);

@@ -138,6 +138,7 @@ rows_tell n x new i counts catalogue day keeps loans = record {
       a.office (λ rows. item_numbered rows.loans a.number ≡ Some l) h (λ same. loans a.number l
       (subst (λ z. account_stays n (record { office = z; number = a.number }) ≡ true) (sym same) t)
       (ap (λ z. item_numbered (rows_at z i).loans a.number) same ∙ h))) account;
+  journal = refl;
 }
 
 -- those of an office that is there become so many
@@ -249,6 +250,7 @@ office_tells x parent name i sound none = record {
   products = λ t n p h. h;
   accounts = λ a account t. account_kept a i at (λ n t h. h) (λ l h. ap (λ (rs : Rows). item_numbered rs.loans a.number)
       (rows a.office) ∙ h) account;
+  journal = refl;
 }
   where
     new : Office
@@ -290,6 +292,7 @@ catalogue_tell n k i counts catalogue day products stand = record {
   keys = λ x l h. h;
   products = products;
   accounts = λ a account t. account_kept a i (after (Catalogue_becomes k) i) stand (λ l h. h) account;
+  journal = refl;
 }
 
 pub charge_tells : (c : ListedCharge) (i : Institution) (k : CatalogueCounts) → IsSound i → k ≡ catalogue_counts i

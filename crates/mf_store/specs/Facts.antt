@@ -18,6 +18,9 @@ use Rattle.mf_model.specs.contracts.store.CatalogueCounts as catalogue_row
 use Rattle.mf_model.specs.Institution.{Institution, product_in}
 use Rattle.mf_model.specs.Store.{counts_at, catalogue_counts, role_of, account_at}
 use Rattle.mf_store_values.specs.Flat.{key_at}
+use Rattle.mf_store_journal.specs.Index.{AreOfFirst}
+use Rattle.mf_store_journal.specs.declared.index.IndexEntry.{IndexEntry}
+use Rattle.mf_store_journal.specs.contracts.index.IndexEntry as index_row
 use Rattle.mf_store_journal.specs.declared.journal.Journal.{Journal}
 use Rattle.mf_store_journal.specs.contracts.journal.Journal as journal_row
 
@@ -34,7 +37,8 @@ abbrev pub same_key : ℕ × ℕ → ℕ × ℕ → Bool
 same_key a b = nat_eq a.0 b.0 && nat_eq a.1 b.1
 
 -- how many rows some of the offices have, by number; how many charges and products there are; the business day; the
--- roles of some callers; the hierarchy texts of some offices; some products, by number; the accounts of some loans
+-- roles of some callers; the hierarchy texts of some offices; some products, by number; the accounts of some loans; of
+-- the first lines of the journal what they name
 pub record Facts : Type 0 where
   pub counts : List (ℕ × Counts)
   pub catalogue : Option CatalogueCounts
@@ -43,6 +47,7 @@ pub record Facts : Type 0 where
   pub keys : List (ℕ × List ℕ)
   pub products : List (ℕ × Product)
   pub accounts : List ((ℕ × ℕ) × KeptAccount)
+  pub index : List IndexEntry
 
 -- no fact is known
 abbrev pub nothing_known : Facts
@@ -54,6 +59,7 @@ nothing_known = record {
   keys = [];
   products = [];
   accounts = [];
+  index = [];
 }
 
 -- the facts, coded
@@ -61,20 +67,22 @@ abbrev pub facts_code : Coded Facts
 facts_code =
     code_by (List (ℕ × Counts)
     × (Option CatalogueCounts × (Option ℕ × (List ((ℕ × ℕ) × Role) × (List (ℕ × List ℕ)
-    × (List (ℕ × Product) × List ((ℕ × ℕ) × KeptAccount)))))))
+    × (List (ℕ × Product) × (List ((ℕ × ℕ) × KeptAccount) × List IndexEntry)))))))
     (coded× (coded_list (coded× coded_ℕ counts_row.the_row.coded)) (coded× (coded_option catalogue_row.the_row.coded)
     (coded× (coded_option coded_ℕ) (coded× (coded_list (coded× (coded× coded_ℕ coded_ℕ) role_row.the_row.coded))
     (coded× (coded_list (coded× coded_ℕ (coded_list coded_ℕ)))
     (coded× (coded_list (coded× coded_ℕ product_row.the_row.coded))
-    (coded_list (coded× (coded× coded_ℕ coded_ℕ) account_row.the_row.coded))))))))
-    (λ f. (f.counts, (f.catalogue, (f.day, (f.roles, (f.keys, (f.products, f.accounts))))))) (λ p. record {
+    (coded× (coded_list (coded× (coded× coded_ℕ coded_ℕ) account_row.the_row.coded))
+    (coded_list index_row.the_row.coded))))))))
+    (λ f. (f.counts, (f.catalogue, (f.day, (f.roles, (f.keys, (f.products, (f.accounts, f.index)))))))) (λ p. record {
       counts = p.0;
       catalogue = p.1.0;
       day = p.1.1.0;
       roles = p.1.1.1.0;
       keys = p.1.1.1.1.0;
       products = p.1.1.1.1.1.0;
-      accounts = p.1.1.1.1.1.1;
+      accounts = p.1.1.1.1.1.1.0;
+      index = p.1.1.1.1.1.1.1;
     }) (λ _. refl)
 
 -- a connection, what is known beside it, and the journal that is kept, if one is
@@ -101,3 +109,4 @@ pub record AreTrueOf (f : Facts) (i : Institution) : Type 0 where
   pub accounts : (a : Account) (x : KeptAccount) → lookup (same_key (account_key a)) f.accounts ≡ Some x
       → account_at a i
       ≡ Some x
+  pub index : AreOfFirst f.index i.journal

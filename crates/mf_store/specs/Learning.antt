@@ -40,8 +40,8 @@ abbrev pub account_stays : News → Account → Bool
 account_stays (known_now.Account loan) a = not (same_key (account_key loan) (account_key a))
 account_stays _ a = true
 
--- Of what may be known, the news alone tells i and j apart. A member of staff keeps their role, and an office its
--- hierarchy text.
+-- Of what may be known, the news alone tells i and j apart. A member of staff keeps their role, an office its hierarchy
+-- text, and a journal its lines.
 pub record Tells (news : News) (i j : Institution) : Type 0 where
   pub counts : (x : ℕ) → counts_at x j ≡ counts_told news x (counts_at x i)
   pub catalogue : catalogue_counts j ≡ catalogue_told news (catalogue_counts i)
@@ -53,3 +53,4 @@ pub record Tells (news : News) (i j : Institution) : Type 0 where
   pub accounts : (a : Account) (x : KeptAccount) → account_stays news a ≡ true → account_at a i ≡ Some x
       → account_at a j
       ≡ Some x
+  pub journal : j.journal ≡ i.journal

@@ -6,7 +6,7 @@ ghost use Rattle.sqlite.specs.Held.{state};
 ghost use Rattle.sqlite.specs.State.{HasCleanDisk};
 ghost use Rattle.mf_journal.specs.declared.following.Head.{Head};
 ghost use Rattle.mf_model.specs.Institution.{Institution, JournalLine};
-ghost use Rattle.mf_store_journal.specs.Reading.{IsKeeping, page_above};
+ghost use Rattle.mf_store_journal.specs.Reading.{IsKeeping, first_above, page_above};
 ghost use Rattle.mf_store_journal.specs.Rows.{journal_rows_in};
 ghost use Rattle.mf_store_noted.specs.Kept.{begins_of};
 ghost use Rattle.mf_store_schema.specs.Calls.{IsAsBefore};
@@ -16,16 +16,20 @@ ghost use Rattle.mf_store.specs.Stands.{StandsFor, IsClean, AsksTables};
 
 use crate::store::Store;
 use mf_base::Fault;
-use mf_store_journal::rows_after;
+use mf_store_journal::first_rows_after;
 use mf_store_schema::{Version, version_of};
 use sqlite::{Alter, Connection, Row};
 use std::alloc::Global;
 
-/// The rows of the journal's table above a number, the lowest first, and no more than 1,000. F20 where the tables keep
-/// no journal.
+/// How many rows are read at a time.
+const PAGE: u32 = 1_000;
+
+/// The first rows of the journal's table above a number, the lowest first, and no more than so many. F20 where the
+/// tables keep no journal.
 fn journal_rows_after<S: Alter>(
     connection: &mut Connection<S>,
     number: u32,
+    most: u32,
 ) -> Result<Vec<Row>, Fault>
     requires alone { connection.old.in_transaction ≡ false }
     ensures kept { IsAsBefore (state S.Store connection.old) (state S.Store connection.new) }
@@ -34,11 +38,11 @@ fn journal_rows_after<S: Alter>(
         → OnOk result (IsTrue (state S.Store connection.new).is_open) }
     ensures rows { HasCleanDisk (state S.Store connection.new) → (lines : List Filed)
         → IsKeeping (state S.Store connection.old) lines
-        → IfOk result (λ rows. rows.items ≡ page_above number lines) }
+        → IfOk result (λ rows. rows.items ≡ first_above most number lines) }
     ensures mode { connection.new.in_transaction ≡ false }
 {
     match version_of(connection.schema()) {
-        Some(Version::Third) => rows_after(connection, number),
+        Some(Version::Third) => first_rows_after(connection, number, most),
         _ => Err(Fault::F20),
     }
 }
@@ -55,14 +59,26 @@ impl<S: Alter> Store<S> {
         self.begin_upgraded(alloc)
     }
 
-    /// The rows of the journal above a number, the lowest first, and no more than 1,000: first where it begins, then
-    /// its lines. F20 where no journal is kept.
+    /// The first rows of the journal above a number, the lowest first, and no more than so many: first where it begins,
+    /// then its lines. F20 where no journal is kept.
+    pub(crate) fn first_journal_rows(&mut self, number: u32, most: u32) -> Result<Vec<Row>, Fault>
+        ensures asks { AsksTables S.Store self.old self.new result }
+        ensures rows { IsClean S.Store self.new → (i : Institution) (begins : Head) (lines : List JournalLine)
+            → StandsFor S.Store self.old i → begins_of self.old.journal ≡ Some begins → i.journal ≡ Some lines
+            → IfOk result (λ rows. rows.items ≡ first_above most number (journal_rows_in begins (Some lines))) }
+        ensures known { self.new.known ≡ self.old.known }
+    {
+        journal_rows_after(&mut self.connection, number, most)
+    }
+
+    /// The rows of the journal above a number, the lowest first, and no more than 1,000.
     pub fn journal_rows(&mut self, number: u32) -> Result<Vec<Row>, Fault>
         ensures asks { AsksTables S.Store self.old self.new result }
         ensures rows { IsClean S.Store self.new → (i : Institution) (begins : Head) (lines : List JournalLine)
             → StandsFor S.Store self.old i → begins_of self.old.journal ≡ Some begins → i.journal ≡ Some lines
             → IfOk result (λ rows. rows.items ≡ page_above number (journal_rows_in begins (Some lines))) }
+        ensures known { self.new.known ≡ self.old.known }
     {
-        journal_rows_after(&mut self.connection, number)
+        self.first_journal_rows(number, PAGE)
     }
 }

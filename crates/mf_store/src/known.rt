@@ -1,15 +1,18 @@
 //! What a store knows beside its tables, so that it need not ask them again. A fact for which there is no memory isn't
 //! kept.
 
-ghost use Rattle.std.specs.Prelude.{◌≡◌, true, false, Some, None, [], IfOk, IfErr, IfSome, IsTrue};
+ghost use Rattle.std.specs.Prelude.{◌≡◌, ◌++◌, ◌∷◌, true, false, Some, None, [], map, IfOk, IfErr, IfSome, IsTrue};
+ghost use Rattle.std.specs.Prelude.{OnOk, OnErr};
 ghost use Rattle.std.specs.Map.{lookup};
 ghost use Rattle.mf_base.specs.declared.fault.Fault.TheVariants.{F20};
+ghost use Rattle.mf_journal.specs.Chain.{line_of_row};
 ghost use Rattle.mf_model.specs.Institution.{Institution, product_in};
 ghost use Rattle.mf_account.specs.Change.{no_change};
 ghost use Rattle.mf_model.specs.Store.{counts_at, catalogue_counts, role_of, account_at};
 ghost use Rattle.mf_model.specs.Tree.{is_there};
 ghost use Rattle.mf_store.specs.Facts.{AreTrueOf, caller_key, account_key, same_key, nothing_known};
 ghost use Rattle.mf_store.specs.declared.known.News.TheVariants as news;
+ghost use Rattle.mf_store_journal.specs.Index.{AreOfFirst, index_entry};
 ghost use Rattle.mf_store_values.specs.Flat.{key_at};
 ghost use Rattle.mf_store.specs.Learning.{Tells};
 
@@ -17,8 +20,10 @@ use lru::LruCache;
 use mf_account::LoanAccount;
 use mf_base::{Day, Fault};
 use mf_catalog::Product;
+use mf_journal::JournalRow;
 use mf_model::{CatalogueCounts, Counts, MOST_IN_CATALOGUE};
 use mf_office::{Account, Caller, Key, Role};
+use mf_store_journal::{IndexEntry, index_entry};
 use std::alloc::Global;
 use std::hash::Hash;
 use std::marker::Model;
@@ -37,7 +42,7 @@ pub(crate) enum News {
     Account(Account),
 }
 
-/// What a store knows of its institution, in bounded memory.
+/// What a store knows of its institution, in bounded memory but for the index of its journal.
 #[derive(Drop)]
 pub struct Known {
     counts: LruCache<u32, Counts>,
@@ -49,6 +54,8 @@ pub struct Known {
     accounts: LruCache<(u32, u32), LoanAccount>,
     /// How many entries and instalments the accounts have together.
     rows: u32,
+    /// What the first lines of the journal name: none until the journal is listed, and then of each line 12 bytes.
+    index: Vec<IndexEntry>,
 }
 
 impl Model for Known {
@@ -66,6 +73,7 @@ impl Model for Known {
       keys = k.keys.entries;
       products = k.products.entries;
       accounts = k.accounts.entries;
+      index = k.index.items;
     } };
 }
 
@@ -160,6 +168,7 @@ impl Known {
             products,
             accounts,
             rows: 0,
+            index: Vec::new(alloc),
         })
     }
 
@@ -312,6 +321,40 @@ impl Known {
             let now = without_change(alloc, account);
             self.learn_account(Account { office, number }, now);
         }
+    }
+
+    /// What the first lines of the journal name.
+    pub(crate) fn index(&self) -> &[IndexEntry]
+        ensures { result.now ≡ self.now.index }
+    {
+        &self.index
+    }
+
+    /// Takes a line into the index, behind those that it has.
+    fn learn_line(&mut self, row: JournalRow<'_>) -> Result<(), Fault>
+        ensures learnt { OnOk result (self.new ≡ record self.old {
+          index = self.old.index ++ index_entry (line_of_row row.entry) ∷ [];
+        }) }
+        ensures same { OnErr result (self.new ≡ self.old) }
+        ensures gives_up { IfErr result (λ fault. fault ≡ F20) }
+    {
+        let Some(entry) = index_entry(row) else {
+            return Err(Fault::F20);
+        };
+        self.index.push(entry)?;
+        Ok(())
+    }
+
+    /// Takes lines into the index, behind those that it has, as far as there is memory for them.
+    pub(crate) fn learn_lines(&mut self, rows: &[JournalRow<'_>]) -> Result<(), Fault>
+        ensures same { (i : Institution) → AreTrueOf self.old i → AreOfFirst (self.old.index
+            ++ map index_entry (map line_of_row rows.now)) i.journal → AreTrueOf self.new i }
+        ensures gives_up { IfErr result (λ fault. fault ≡ F20) }
+    {
+        for at in 0..rows.len() {
+            self.learn_line(rows[at])?;
+        }
+        Ok(())
     }
 
     /// Takes in what is new.

@@ -1,6 +1,6 @@
 //! The store: what it reads of its tables and knows beside them, how it is made and given back.
 
-ghost use Rattle.std.specs.Prelude.{◌≡◌, ◌<◌, ◌≤◌, ◌⊎◌, [], ◌∷◌, Option, length, false, None, Some, IsTrue};
+ghost use Rattle.std.specs.Prelude.{◌≡◌, ◌<◌, ◌≤◌, ◌⊎◌, ◌++◌, [], ◌∷◌, Option, length, false, None, Some, IsTrue};
 ghost use Rattle.std.specs.Prelude.{◌↔◌, IfOk, IfErr, IfSome, IsSome};
 ghost use Rattle.std.specs.Prelude.{map, filter, option_map, take};
 ghost use Rattle.mf_base.specs.declared.fault.Fault.TheVariants.{F20};
@@ -12,12 +12,14 @@ ghost use Rattle.mf_model.specs.Store.{IsAdmitted, after_commit, role_of, use_at
 ghost use Rattle.mf_model.specs.declared.commit.Commit.{Commit};
 ghost use Rattle.mf_model.specs.declared.commit.Commit.TheVariants.{AddEntry, ReverseEntry};
 ghost use Rattle.mf_store_values.specs.Flat.{key_at, tables_of};
+ghost use Rattle.mf_journal.specs.Chain.{line_of_row};
 ghost use Rattle.mf_journal.specs.declared.following.Head.{Head};
 ghost use Rattle.mf_model.specs.Notes.{noted_now};
 ghost use Rattle.mf_store_noted.specs.Becoming.{BecomesBeside};
 ghost use Rattle.mf_journal.specs.Founding.{founding};
 ghost use Rattle.mf_store_noted.specs.Kept.{IsBegun, IsToday, begins_of, journal_at, journaled, number_kept};
 ghost use Rattle.mf_store_noted.specs.Tabled.{IsTabled, HasGoodDisk, IsUnfounded, IsUnfoundedJournaled};
+ghost use Rattle.mf_store_journal.specs.Index.{AreOfFirst, index_entry};
 ghost use Rattle.mf_store_values.specs.ReceiptRows.{receipt_in};
 ghost use Rattle.mf_store_schema.specs.Rows.{loan_row, office_row, is_loan_above, is_between_keys};
 ghost use Rattle.mf_store_schema.specs.Writes.{schema_of, Holds};
@@ -31,10 +33,11 @@ use crate::known::{Known, News};
 use mf_account::LoanAccount;
 use mf_base::{Day, Fault};
 use mf_catalog::Product;
-use mf_journal::Head as JournalHead;
+use mf_journal::{Head as JournalHead, JournalRow};
 use mf_model::{Note, laws};
 use mf_office::{Account, Caller, Key, Role};
 use mf_store_commits::{entry_writes, first_writes, reversal_writes};
+use mf_store_journal::IndexEntry;
 use mf_store_noted::{
     JOURNALED_SCHEMA, Journal, Place, begin_upgraded, found_journaled, founding_head, write_kept,
 };
@@ -290,6 +293,24 @@ impl<S: Alter> Store<S> {
         self.known.learn(news);
     }
 
+    /// What the first lines of the journal name, as far as that is known.
+    pub(crate) fn index(&self) -> &[IndexEntry]
+        ensures { result.now ≡ self.now.known.index }
+    {
+        self.known.index()
+    }
+
+    /// Takes lines of the journal into the index, behind those that it has, as far as there is memory for them.
+    pub(crate) fn learn_lines(&mut self, rows: &[JournalRow<'_>]) -> Result<(), Fault>
+        ensures same { (i : Institution) → StandsFor S.Store self.old i → AreOfFirst (self.old.known.index
+            ++ map index_entry (map line_of_row rows.now)) i.journal → StandsFor S.Store self.new i }
+        ensures tables { self.new.connection ≡ self.old.connection }
+        ensures journal { self.new.journal ≡ self.old.journal }
+        ensures gives_up { IfErr result (λ fault. fault ≡ F20) }
+    {
+        self.known.learn_lines(rows)
+    }
+
     /// The number of the schema, as the row of meta has it.
     pub(crate) fn schema_number(&self) -> u32
         ensures { (i : Institution) → StandsFor S.Store self.now i → (journal : Option Head) → IsBegun journal i
@@ -306,6 +327,13 @@ impl<S: Alter> Store<S> {
         ensures { IsTrue result ↔ IsSome self.now.journal }
     {
         self.journal.is_some()
+    }
+
+    /// Where the journal begins and stands, if one is kept.
+    pub(crate) fn journal(&self) -> Option<Journal>
+        ensures { result ≡ self.now.journal }
+    {
+        self.journal
     }
 
     /// Where the journal begins, if one is kept.

@@ -1,5 +1,5 @@
 -- What is unchanged under the schema that there is stays so over two steps, and under any schema.
-use Rattle.std.proofs.Common.{◌≡◌, ◌⊎◌, inl, inr, true, false, subst}
+use Rattle.std.proofs.Common.{◌≡◌, ◌⊎◌, inl, inr, true, false, subst, sym}
 use Rattle.sqlite.specs.Schema.{Schema}
 use Rattle.sqlite.specs.State.{State}
 use Rattle.mf_store_schema.specs.Schemas.{IsKnown, IsUnchangedUnder}
@@ -9,6 +9,7 @@ use Rattle.mf_store_schema.specs.declared.versions.Version.{Version}
 use Rattle.mf_store_schema.specs.declared.versions.Version.TheVariants.{Second, Third}
 use Rattle.mf_store_schema.proofs.ReadLemmas.{unchanged_then}
 use Rattle.mf_store_sound.proofs.NestedLemmas.{unchanged_fewer}
+use Rattle.mf_store_audit.specs.Unread.{tables_searched}
 
 pub then_under : (P Q : Schema → Type 0) (a b c : State) → ((k : Schema) → P k → Q k) → IsUnchangedUnder P a b
     → IsUnchangedUnder Q b c → IsUnchangedUnder P a c
@@ -35,3 +36,8 @@ under_all k one is = (under_common k one, (is, is))
 pub present_of : (v : Version) → (v ≡ Second) ⊎ (v ≡ Third) → (k : Schema) → IsOfVersion v k → IsPresent k
 present_of v (inl is) k ours = (false, subst (λ w. IsOfVersion w k) is ours)
 present_of v (inr is) k ours = (true, subst (λ w. IsOfVersion w k) is ours)
+
+-- and the tables that today's is searched for
+pub later_tables : (v : Version) → (v ≡ Second) ⊎ (v ≡ Third) → tables_searched Second ≡ tables_searched v
+later_tables v (inl is) = λ t. tables_searched (sym is t)
+later_tables v (inr is) = λ t. tables_searched (sym is t)

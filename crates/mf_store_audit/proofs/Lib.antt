@@ -17,3 +17,4 @@ pub mod AuditLemmas
 pub mod JournalLemmas
 pub mod KeptLemmas
 pub mod UnreadLemmas
+pub mod ToldLemmas

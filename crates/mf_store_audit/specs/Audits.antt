@@ -1,5 +1,5 @@
 -- What an audit says of rows, and of a database.
-use Rattle.std.specs.Prelude.{◌≡◌, ◌≢◌, ◌⊎◌, List, map, Option, IfSome}
+use Rattle.std.specs.Prelude.{◌≡◌, ◌≢◌, ◌⊎◌, List, map, Option}
 use Rattle.sqlite.specs.Effect.{Database}
 use Rattle.sqlite.specs.Tree.{Trees}
 use Rattle.mf_model.specs.Institution.{Institution, JournalLine}
@@ -24,7 +24,7 @@ use Rattle.mf_store_sound.specs.Schemas.{lists_at, tables_at}
 use Rattle.mf_store_audit.specs.Findings.{AllBreak, AreFindings, AreOfNone}
 use Rattle.mf_store_audit.specs.Sums.{sums_of_office}
 use Rattle.mf_store_audit.specs.declared.totals.OfficeSums.{OfficeSums}
-use Rattle.mf_store_audit.specs.Unread.{IsUnread}
+use Rattle.mf_store_audit.specs.Unread.{AreToldOfAll, AreUnread, tables_searched}
 use Rattle.mf_store_audit.specs.declared.audits.Audit.{Audit}
 use Rattle.mf_store_audit.specs.declared.audits.Audit.TheVariants.{NoTables, OtherTables, Sound, Unsound, Unreadable}
 use Rattle.mf_store_audit.specs.declared.audits.Audit.TheVariants as audit
@@ -90,7 +90,7 @@ IsAuditOf db (Sound version sums) = AreSumsOf (HoldsInAt version db) sums.items
 IsAuditOf db (Unsound version tables findings) =
     HoldsNone db × AreAllHeld version db tables × AllBreak version tables findings.items
 IsAuditOf db (Unreadable version unread) =
-    IsOfVersion version db.schema × HoldsNone db × IfSome unread (λ u. IsUnread u.table u.value u.place db.trees)
+    IsOfVersion version db.schema × HoldsNone db × AreUnread version db unread.items
 IsAuditOf db (audit.BrokenJournal broken) = IsOfVersion Third db.schema × HoldsNone db × IsBroken db.trees broken
 
 -- an audit says that it found a sound institution
@@ -102,14 +102,15 @@ FindsSound (Unsound version tables findings) = ⊥
 FindsSound (Unreadable version unread) = ⊥
 FindsSound (audit.BrokenJournal broken) = ⊥
 
--- of rows that no sound institution has, an audit tells all that is found
-abbrev pub TellsAll : Audit → Type 0
-TellsAll NoTables = Unit {0}
-TellsAll OtherTables = Unit {0}
-TellsAll (Sound version sums) = Unit {0}
-TellsAll (Unsound version tables findings) = AreFindings version tables findings.items
-TellsAll (Unreadable version unread) = Unit {0}
-TellsAll (audit.BrokenJournal broken) = Unit {0}
+-- an audit of a database tells all that is found: of rows that no sound institution has, and of such as no record can
+-- hold
+abbrev pub TellsAll : Database → Audit → Type 0
+TellsAll db NoTables = Unit {0}
+TellsAll db OtherTables = Unit {0}
+TellsAll db (Sound version sums) = Unit {0}
+TellsAll db (Unsound version tables findings) = AreFindings version tables findings.items
+TellsAll db (Unreadable version unread) = AreToldOfAll db (tables_searched version) unread.items
+TellsAll db (audit.BrokenJournal broken) = Unit {0}
 
 -- the trees keep a journal that the program can have written, each line of which tells a request
 abbrev pub KeepsSomeJournal : Trees → Type 0

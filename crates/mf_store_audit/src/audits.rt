@@ -2,6 +2,7 @@
 
 ghost use Rattle.std.specs.Prelude.{◌≡◌, ◌↔◌, IsTrue, [], true, false, IfOk, IfErr};
 ghost use Rattle.mf_base.specs.declared.fault.Fault.TheVariants.{F20};
+ghost use Rattle.sqlite.specs.Effect.{Database};
 ghost use Rattle.sqlite.specs.Held.{state};
 ghost use Rattle.sqlite.specs.State.{HasCleanDisk};
 ghost use Rattle.mf_store_schema.specs.Schemas.{IsUnchangedUnder};
@@ -41,10 +42,10 @@ pub enum Audit {
         tables: Tables,
         findings: Vec<Finding>,
     },
-    /// One of them has a row that no record can hold.
+    /// They have these rows that no record can hold.
     Unreadable {
         version: Version,
-        unread: Option<Unread>,
+        unread: Vec<Unread>,
     },
     /// Their other rows are those of a sound institution, and the journal's are not.
     BrokenJournal(BrokenJournal),
@@ -53,7 +54,7 @@ pub enum Audit {
 /// An audit of rows by the tables of a version: of all that break a condition, or of the first alone.
 fn audit_rows(alloc: Global, version: Version, tables: Tables, all: bool) -> Result<Audit, Fault>
     ensures exact { IfOk result (IsAuditOfRows version tables) }
-    ensures every { all ≡ true → IfOk result TellsAll }
+    ensures every { all ≡ true → (db : Database) → IfOk result (TellsAll db) }
     ensures gives_up { IfErr result (λ fault. fault ≡ F20) }
 {
     let found = findings(alloc, version, &tables, all)?;
@@ -83,12 +84,14 @@ fn audit_known<S: Alter, P: Progress>(
         → IsOfVersion version (state S.Store connection.old).now.schema
         → HaveRowids version (state S.Store connection.old).now.trees
         → IfOk result (IsAuditOf (state S.Store connection.old).now) }
-    ensures every { all ≡ true → IfOk result TellsAll }
+    ensures every { all ≡ true → HasCleanDisk (state S.Store connection.new)
+        → IsOfVersion version (state S.Store connection.old).now.schema
+        → IfOk result (TellsAll (state S.Store connection.old).now) }
     ensures gives_up { IfErr result (λ fault. fault ≡ F20) }
     ensures mode { connection.new.in_transaction ≡ false }
 {
     let Some(tables) = read_tables(alloc, connection, version, progress)? else {
-        let unread = unread_at(alloc, connection, version)?;
+        let unread = unread_at(alloc, connection, version, all)?;
         return Ok(Audit::Unreadable { version, unread });
     };
     let audit = audit_rows(alloc, version, tables, all)?;
@@ -99,7 +102,8 @@ fn audit_known<S: Alter, P: Progress>(
 }
 
 /// Audits the tables of a connection, whatever tables and rows stand there: tells each row that breaks a condition, or
-/// the first alone. It changes nothing. The error is F20, out of memory or a failure of the disk.
+/// the first alone; and where there are rows that no record can hold, these in their place. It changes nothing. The
+/// error is F20, out of memory or a failure of the disk.
 pub fn audit_tables<S: Alter, P: Progress>(
     alloc: Global,
     connection: &mut Connection<S>,
@@ -110,7 +114,8 @@ pub fn audit_tables<S: Alter, P: Progress>(
     ensures kept { IsUnchangedUnder IsAny (state S.Store connection.old) (state S.Store connection.new) }
     ensures exact { HasCleanDisk (state S.Store connection.new) → HaveOwnRowids (state S.Store connection.old).now
         → IfOk result (IsAuditOf (state S.Store connection.old).now) }
-    ensures every { all ≡ true → IfOk result TellsAll }
+    ensures every { all ≡ true → HasCleanDisk (state S.Store connection.new)
+        → IfOk result (TellsAll (state S.Store connection.old).now) }
     ensures gives_up { IfErr result (λ fault. fault ≡ F20) }
     ensures mode { connection.new.in_transaction ≡ false }
 {

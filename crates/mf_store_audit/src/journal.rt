@@ -2,6 +2,7 @@
 
 ghost use Rattle.std.specs.Prelude.{◌≡◌, ◌↔◌, IsTrue, false, OnOk, IfOk, IfErr};
 ghost use Rattle.mf_base.specs.declared.fault.Fault.TheVariants.{F20};
+ghost use Rattle.sqlite.specs.Effect.{Database};
 ghost use Rattle.sqlite.specs.Held.{state};
 ghost use Rattle.sqlite.specs.State.{HasCleanDisk};
 ghost use Rattle.mf_store_schema.specs.Schemas.{IsUnchangedUnder};
@@ -79,7 +80,7 @@ fn audit_lines<S: Alter>(
         → IsOfVersion Third (state S.Store connection.old).now.schema
         → KeepsOnly journal (state S.Store connection.old).now.trees
         → IfOk result (IsWithJournal (state S.Store connection.old).now.trees audit) }
-    ensures every { TellsAll audit → IfOk result TellsAll }
+    ensures every { (db : Database) → TellsAll db audit → IfOk result (TellsAll db) }
     ensures gives_up { IfErr result (λ fault. fault ≡ F20) }
     ensures mode { connection.new.in_transaction ≡ false }
 {
@@ -104,7 +105,7 @@ pub(crate) fn audit_journal<S: Alter>(
         → IsOfVersion Third (state S.Store connection.old).now.schema
         → HaveRowids Third (state S.Store connection.old).now.trees
         → IfOk result (IsWithJournal (state S.Store connection.old).now.trees audit) }
-    ensures every { TellsAll audit → IfOk result TellsAll }
+    ensures every { (db : Database) → TellsAll db audit → IfOk result (TellsAll db) }
     ensures gives_up { IfErr result (λ fault. fault ≡ F20) }
     ensures mode { connection.new.in_transaction ≡ false }
 {

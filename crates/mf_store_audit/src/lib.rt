@@ -13,6 +13,7 @@ mod journal;
 mod keys;
 mod loans;
 mod meta;
+mod named;
 mod offices;
 mod places;
 mod products;

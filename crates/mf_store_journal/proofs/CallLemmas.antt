@@ -24,7 +24,7 @@ use Rattle.mf_store_schema.specs.Tables.{schema, journal, third_schema}
 use Rattle.mf_store_journal.specs.Rows.{filed_kept, filed_at, head_with, head_with_all}
 use Rattle.mf_store_journal.specs.Rows.{filed_beginning, journal_rows_in}
 use Rattle.mf_store_journal.specs.Adding.{KeepsJournal, MakesJournal, PutsLine, LeavesJournal, AddsLine}
-use Rattle.mf_store_journal.specs.Reading.{IsThird, IsKeeping, page_above}
+use Rattle.mf_store_journal.specs.Reading.{IsThird, IsKeeping, first_above}
 use Rattle.mf_store_journal.proofs.RowsLemmas.{line_fits, rows_more, head_made}
 use Rattle.mf_store_journal.proofs.TextsLemmas.{is_journal}
 
@@ -103,10 +103,10 @@ pub shown : {V E : Type 0} (r : Result V E) (s : State) (lines : List Filed) (Sh
 shown (Ok v) s lines Shows P law up kept h = law v (kept up) h
 shown (Err e) s lines Shows P law up kept h = tt
 
-pub above_is : (sql : List ℕ) (number : ℕ) (db : Database) (lines : List Filed) (rows : List Row)
-    → sql ≡ above_text journal → KeepsJournal db lines → ShowsAbove sql number 1000 db rows
-    → rows ≡ page_above number lines
-above_is sql number db lines rows is k h =
+pub above_is : (sql : List ℕ) (number most : ℕ) (db : Database) (lines : List Filed) (rows : List Row)
+    → sql ≡ above_text journal → KeepsJournal db lines → ShowsAbove sql number most db rows
+    → rows ≡ first_above most number lines
+above_is sql number most db lines rows is k h =
     h.above third_schema 11 23 journal lines is is_journal.numbered k.schema_is k.keeps
 
 pub last_is : (sql : List ℕ) (db : Database) (lines : List Filed) (row : Option Row) → sql ≡ last_text journal

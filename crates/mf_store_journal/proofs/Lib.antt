@@ -2,7 +2,9 @@ pub mod CallLemmas
 pub mod CheckLemmas
 pub mod FirstLemmas
 pub mod GoingLemmas
+pub mod IndexLemmas
 pub mod NotingLemmas
+pub mod PageLemmas
 pub mod RowsLemmas
 pub mod StandingLemmas
 pub mod StrangerLemmas

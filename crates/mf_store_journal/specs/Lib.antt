@@ -1,5 +1,6 @@
 pub mod Adding
 pub mod Checking
+pub mod Index
 pub mod Noting
 pub mod Reading
 pub mod Rows

@@ -23,9 +23,13 @@ IsKeeping s lines = IsTrue s.is_open → KeepsJournal s.now lines
 abbrev pub page_size : ℕ
 page_size = 1000
 
+-- the first so many rows above a number
+abbrev pub first_above : ℕ → ℕ → List Filed → List Row
+first_above most number lines = map shown_filed (take most (filter (is_above id_of (pos number)) lines))
+
 -- the rows that a page shows: the first above a number
 abbrev pub page_above : ℕ → List Filed → List Row
-page_above number lines = map shown_filed (take page_size (filter (is_above id_of (pos number)) lines))
+page_above number lines = first_above page_size number lines
 
 -- where a journal stands by the last row of these
 abbrev pub IsStanding : List Filed → Standing → Type 0

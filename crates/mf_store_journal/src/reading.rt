@@ -11,7 +11,7 @@ ghost use Rattle.mf_store_schema.specs.Schemas.{IsUnchangedUnder};
 ghost use Rattle.mf_journal.specs.Following.{head_of};
 ghost use Rattle.mf_store_schema.specs.Tables.{journal};
 ghost use Rattle.mf_store_journal.specs.Texts.{first_text};
-ghost use Rattle.mf_store_journal.specs.Reading.{IsThird, IsKeeping, IsStanding, page_above};
+ghost use Rattle.mf_store_journal.specs.Reading.{IsThird, IsKeeping, IsStanding, first_above, page_above};
 
 use crate::rows::kept_row;
 use mf_base::Fault;
@@ -55,6 +55,28 @@ pub enum Standing {
     Unreadable,
 }
 
+/// The first rows above a number, the lowest first, and no more than so many: whatever rows a stranger wrote.
+pub fn first_rows_after<S: Alter>(
+    connection: &mut Connection<S>,
+    number: u32,
+    most: u32,
+) -> Result<Vec<Row>, Fault>
+    requires alone { connection.old.in_transaction ≡ false }
+    ensures kept { IsUnchangedUnder IsThird (state S.Store connection.old) (state S.Store connection.new) }
+    ensures gives_up { IfErr result (λ fault. fault ≡ F20) }
+    ensures open { HasCleanDisk (state S.Store connection.new)
+        → OnOk result (IsTrue (state S.Store connection.new).is_open) }
+    ensures rows { HasCleanDisk (state S.Store connection.new) → (lines : List Filed)
+        → IsKeeping (state S.Store connection.old) lines
+        → IfOk result (λ rows. rows.items ≡ first_above most number lines) }
+    ensures mode { connection.new.in_transaction ≡ false }
+{
+    match rows_above(connection, above_text(), number, most) {
+        Ok(rows) => Ok(rows),
+        Err(_) => Err(Fault::F20),
+    }
+}
+
 /// The rows above a number, the lowest first, and no more than 1,000: whatever rows a stranger wrote.
 pub fn rows_after<S: Alter>(connection: &mut Connection<S>, number: u32) -> Result<Vec<Row>, Fault>
     requires alone { connection.old.in_transaction ≡ false }
@@ -67,10 +89,7 @@ pub fn rows_after<S: Alter>(connection: &mut Connection<S>, number: u32) -> Resu
         → IfOk result (λ rows. rows.items ≡ page_above number lines) }
     ensures mode { connection.new.in_transaction ≡ false }
 {
-    match rows_above(connection, above_text(), number, PAGE_SIZE) {
-        Ok(rows) => Ok(rows),
-        Err(_) => Err(Fault::F20),
-    }
+    first_rows_after(connection, number, PAGE_SIZE)
 }
 
 /// The last row, if there is one.

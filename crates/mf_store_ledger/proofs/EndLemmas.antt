@@ -16,7 +16,7 @@ use Rattle.mf_store_journal.specs.Rows.{filed_after, head_with_all, journal_rows
 use Rattle.mf_store_journal.specs.Written.{KeepsJournalFrom}
 use Rattle.mf_store_journal.proofs.GoingLemmas.{still_unchanged, unchanged_itself, kept_after}
 use Rattle.mf_play.specs.declared.stop.Stop.{Stop}
-use Rattle.mf_store.proofs.JournalPages.{page_is, none_left, size_of_rows}
+use Rattle.mf_store_journal.proofs.PageLemmas.{page_is, none_left, size_of_rows}
 use Rattle.mf_portions_play.specs.Ends.{told_before, EndsLines, PlayBefore, StopsBefore}
 use Rattle.mf_portions_play.proofs.EndsLemmas.{parted, plays_parted, stops_behind}
 use Rattle.mf_store_ledger.specs.Movement.{EndsTable}

@@ -18,7 +18,7 @@ use Rattle.mf_store_journal.proofs.GoingLemmas.{still_unchanged, unchanged_itsel
 use Rattle.mf_play.specs.Play.{PlaysTo, StopsAt}
 use Rattle.mf_play.specs.declared.stop.Stop.{Stop}
 use Rattle.mf_play.proofs.Lines.{joined}
-use Rattle.mf_store.proofs.JournalPages.{page_is, none_left, size_of_rows}
+use Rattle.mf_store_journal.proofs.PageLemmas.{page_is, none_left, size_of_rows}
 use Rattle.mf_store_played.proofs.PlayLemmas.{stops_within}
 use Rattle.mf_ledger_play.specs.Playing.{BooksLines, IsBooked}
 use Rattle.mf_store_ledger.specs.Playing.{BooksTable}

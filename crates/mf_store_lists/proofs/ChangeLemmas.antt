@@ -1,9 +1,10 @@
 -- Lines of a journal that are asked for, found one after another, page by page.
-use Rattle.std.proofs.Common.{◌≡◌, ◌≤◌, ◌<◌, ◌⊎◌, inl, inr, ℕ, zero, suc, ◌+◌, Bool, true, false, cond, List, []}
+use Rattle.std.proofs.Common.{◌≡◌, ◌≤◌, ◌⊎◌, inl, inr, ℕ, suc, ◌+◌, Bool, true, false, cond, List, []}
 use Rattle.std.proofs.Common.{◌∷◌, ◌++◌, map, filter, length, take, drop, nat_lt, slice_get, Option, None, Some, refl}
-use Rattle.std.proofs.Common.{sym, ap, ◌∙◌, subst, arith}
+use Rattle.std.proofs.Common.{sym, ap, ◌∙◌, subst, arith, ◌&&◌, ◌==◌}
 use Rattle.std.specs.List.{enumerate_from}
-use Rattle.std.proofs.lemmas.Bool.{cases_lt, le-ltb, lt-ltb}
+use Rattle.std.proofs.Math.Bool.{and-true}
+use Rattle.std.proofs.lemmas.Bool.{cases_lt, lt-ltb}
 use Rattle.std.proofs.lemmas.List.{append-nil, append_assoc, length-append, map-append, take-append-drop}
 use Rattle.std.proofs.lemmas.List.{take-append-le, take_all}
 use Rattle.std.proofs.lemmas.List.Elements.{filter-append}
@@ -11,18 +12,19 @@ use Rattle.sqlite.specs.Order.{Row}
 use Rattle.mf_journal.specs.Chain.{line_of_row}
 use Rattle.mf_journal.specs.declared.chain.JournalRow.{JournalRow}
 use Rattle.mf_journal.specs.declared.following.Head.{Head}
-use Rattle.mf_lists.specs.Changes.{change_line, change_lines, changes_of_loan, lines_of_loan}
+use Rattle.mf_lists.specs.Changes.{change_line, change_lines, changes_of_loan}
 use Rattle.mf_lists.specs.declared.lines.ChangeLine.{ChangeLine}
 use Rattle.mf_model.specs.Institution.{JournalLine}
-use Rattle.mf_store_journal.specs.Reading.{page_above, page_size}
-use Rattle.mf_store_journal.specs.Rows.{filed_after, head_with_all, journal_rows_in}
+use Rattle.mf_store_journal.specs.Index.{index_entry, is_line_sought, is_sought}
+use Rattle.mf_store_journal.specs.Rows.{filed_after}
 use Rattle.mf_store_journal.specs.Written.{HasLines}
 use Rattle.mf_store_journal.specs.declared.journal.Journal.{Journal}
 use Rattle.mf_store_noted.specs.Kept.{begins_of}
 use Rattle.mf_store_sql.specs.Numbered.{shown_filed}
-use Rattle.mf_store.proofs.JournalPages.{none_left, page_is, size_of_rows, take_next}
+use Rattle.mf_store.specs.Sought.{AreNextRows}
+use Rattle.mf_store_journal.proofs.PageLemmas.{size_of_rows, take_next}
 use Rattle.mf_store_lists.specs.Changed.{AreFew, IsEnough, IsFound, IsFoundUpTo, Told, first_of, is_named, lines_asked}
-use Rattle.mf_store_lists.specs.Changed.{told_of}
+use Rattle.mf_store_lists.specs.Changed.{sought_by, told_of}
 use Rattle.mf_store_lists.specs.declared.changes.Asked.{Asked}
 
 -- numbers go on behind those before
@@ -153,6 +155,35 @@ module _ (a : Asked) where
           (sym late))
           (subst (AreFew a.most) (sym more) (few_more a.most old.lines (change_line (new.place, l)) not_all))
 
+  -- a line is sought just where it is asked for
+  same_named : (l : JournalLine) → is_line_sought (sought_by a) l ≡ is_named a.office a.loan l
+  same_named l = go a.loan
+    where
+      go : (loan : Option ℕ) → is_sought (record { office = a.office; loan = loan; day = None }) (index_entry l)
+          ≡ is_named a.office loan l
+      go None = and-true (l.named_office == a.office)
+      go (Some loan) = ap (λ b. (l.named_office == a.office) && b) (and-true (l.named_loan == loan))
+
+  same_asked : (ls : List JournalLine) → filter (is_line_sought (sought_by a)) ls ≡ lines_asked a ls
+  same_asked [] = refl
+  same_asked (l ∷ ls) =
+      ap (λ b. cond b (l ∷ filter (is_line_sought (sought_by a)) ls) (filter (is_line_sought (sought_by a)) ls))
+      (same_named l)
+      ∙ ap (λ xs. cond (is_named a.office a.loan l) (l ∷ xs) xs) (same_asked ls)
+
+  -- nothing is found of lines that aren't sought
+  pub found_skipped : (lines skipped : List JournalLine) (t : Told) → IsFound a lines t
+      → filter (is_line_sought (sought_by a)) skipped ≡ [] → IsFound a (lines ++ skipped) t
+  found_skipped lines skipped t found none =
+      let same : lines_asked a (lines ++ skipped) ≡ lines_asked a lines =
+      lines_more lines skipped ∙ ap (λ ls. lines_asked a lines ++ ls) (sym (same_asked skipped) ∙ none)
+      ∙ append-nil (lines_asked a lines) in
+      record {
+        place = found.place ∙ sym (ap length same);
+        told = found.told ∙ sym (ap (told_from 1) same);
+        few = found.few;
+      }
+
   -- what was found of all lines is what is told
   pub few_are : (lines : List JournalLine) (t : Told) → IsFound a lines t
       → t.lines ≡ first_of a.most (told_of a lines)
@@ -255,34 +286,14 @@ module _ (a : Asked) (begins : Head) (lines : List JournalLine) where
     ends = inl refl;
   }
 
-  module _ (number : ℕ) (t : Told) (looked : Looked a begins lines number t) (page : List Row)
-      (shown : page ≡ page_above number (journal_rows_in begins (Some lines))) where
-    abbrev turn : List JournalLine
-    turn = take page_size looked.rest
-
-    -- the lines of its rows
-    pub page_told : page ≡ map shown_filed (filed_after (head_with_all begins looked.done) turn)
-    page_told = shown ∙ ap (λ ls. page_above number (journal_rows_in begins (Some ls))) looked.are
-        ∙ page_is begins looked.done looked.rest number looked.count
-
-    -- where there is none, no line is left
-    pub looked_all : page ≡ [] → t.lines ≡ first_of a.most (told_of a lines)
-    looked_all none = elim looked.ends [
-      | inl last ↦ few_are a lines t (subst (λ ls. IsFound a ls t) (sym (whole last)) looked.found)
-      | inr all ↦ all_are a looked.first (looked.later ++ looked.rest) t looked.found all
-          ∙ ap (λ ls. first_of a.most (told_of a ls)) (sym parts)
-    ]
-      where
-        over : looked.rest ≡ []
-        over = none_left (head_with_all begins looked.done) looked.rest (sym page_told ∙ none)
-
-        whole : looked.later ≡ [] → lines ≡ looked.first
-        whole last = looked.are ∙ ap (λ ls. looked.done ++ ls) over ∙ append-nil looked.done ∙ looked.done_is
-            ∙ ap (λ ls. looked.first ++ ls) last ∙ append-nil looked.first
-
-        parts : lines ≡ looked.first ++ (looked.later ++ looked.rest)
-        parts = looked.are ∙ ap (λ ls. ls ++ looked.rest) looked.done_is
-            ∙ append_assoc looked.first looked.later looked.rest
+  module _ (number : ℕ) (t : Told) (looked : Looked a begins lines number t) (later : ℕ) (page : List Row)
+      (next : AreNextRows (sought_by a) looked.rest number later page) where
+    -- where all that may be told isn't told yet, all lines up to the page are looked at
+    found_before : looked.later ≡ [] → IsFound a (looked.done ++ next.skipped) t
+    found_before last =
+        let before : looked.done ≡ looked.first =
+        looked.done_is ∙ ap (λ ls. looked.first ++ ls) last ∙ append-nil looked.first in
+        found_skipped a looked.done next.skipped t (subst (λ ls. IsFound a ls t) (sym before) looked.found) next.none
 
     -- where no more may be told, what is told is found
     pub looked_enough : IsEnough a.most (length t.lines) → t.lines ≡ first_of a.most (told_of a lines)
@@ -291,28 +302,43 @@ module _ (a : Asked) (begins : Head) (lines : List JournalLine) where
         ∙ ap (λ ls. first_of a.most (told_of a ls)) (sym (looked.are
         ∙ ap (λ ls. ls ++ looked.rest) looked.done_is ∙ append_assoc looked.first looked.later looked.rest))
 
+    -- where there is no row, no line is left
+    pub looked_all : page ≡ [] → t.lines ≡ first_of a.most (told_of a lines)
+    looked_all none = elim looked.ends [
+      | inl last ↦ few_are a lines t (subst (λ ls. IsFound a ls t) (sym whole) (found_before last))
+      | inr all ↦ looked_enough all
+    ]
+      where
+        over : (next.turn ≡ []) × (next.left ≡ [])
+        over = next.last none
+
+        whole : lines ≡ looked.done ++ next.skipped
+        whole = looked.are ∙ ap (λ ls. looked.done ++ ls) (next.are
+            ∙ (λ t. next.skipped ++ (over.0 t ++ over.1 t)) ∙ append-nil next.skipped)
+
     -- the lines of the page are looked at, too
     pub looked_on : (IsEnough a.most (length t.lines) → ⊥) → (u : Told) → ((before more : List JournalLine)
-        → page ≡ map shown_filed (filed_after (head_with_all begins looked.done) more) → IsFound a before t
-        → IsFoundUpTo a before more u) → (next : ℕ) → next ≡ number + length page → Looked a begins lines next u
-    looked_on not_all u puts next is =
+        → page ≡ map shown_filed (filed_after next.before more) → IsFound a before t
+        → IsFoundUpTo a before more u) → (behind : ℕ) → behind ≡ later + length page → Looked a begins lines behind u
+    looked_on not_all u puts behind is =
         let last : looked.later ≡ [] = elim looked.ends [ inl l ↦ l | inr all ↦ absurd (not_all all) ] in
-        let before : looked.done ≡ looked.first =
-        looked.done_is ∙ ap (λ ls. looked.first ++ ls) last ∙ append-nil looked.first in
-        let up_to = puts looked.done turn page_told (subst (λ ls. IsFound a ls t) (sym before) looked.found) in
-        let size = size_of_rows (head_with_all begins looked.done) turn page page_told in
-        let both = length-append looked.done turn in
+        let done = looked.done ++ next.skipped in
+        let up_to = puts done next.turn next.told (found_before last) in
+        let size = size_of_rows next.before next.turn page next.told in
+        let both = length-append done next.turn in
+        let first = length-append looked.done next.skipped in
         let count = looked.count in
+        let skips = next.count in
         record {
-          done = looked.done ++ turn;
-          rest = drop page_size looked.rest;
-          are = looked.are ∙ ap (λ ls. looked.done ++ ls) (sym (take-append-drop page_size looked.rest))
-              ∙ sym (append_assoc looked.done turn (drop page_size looked.rest));
-          count = omega (arith, size, both, count, is);
-          first = looked.done ++ up_to.first;
+          done = done ++ next.turn;
+          rest = next.left;
+          are = looked.are ∙ ap (λ ls. looked.done ++ ls) next.are
+              ∙ sym (append_assoc looked.done next.skipped (next.turn ++ next.left))
+              ∙ sym (append_assoc done next.turn next.left);
+          count = omega (arith, size, both, first, count, skips, is);
+          first = done ++ up_to.first;
           later = up_to.rest;
-          done_is = ap (λ ls. looked.done ++ ls) up_to.are
-              ∙ sym (append_assoc looked.done up_to.first up_to.rest);
+          done_is = ap (λ ls. done ++ ls) up_to.are ∙ sym (append_assoc done up_to.first up_to.rest);
           found = up_to.found;
           ends = up_to.ends;
         }

@@ -4,6 +4,7 @@ use Rattle.std.specs.Prelude.{Option, Some, None}
 use Rattle.mf_lists.specs.Changes.{change_lines}
 use Rattle.mf_lists.specs.declared.lines.ChangeLine.{ChangeLine}
 use Rattle.mf_model.specs.Institution.{JournalLine}
+use Rattle.mf_store_journal.specs.declared.index.Sought.{Sought}
 use Rattle.mf_store_lists.specs.declared.changes.Asked.{Asked}
 
 -- what was found: how many lines that are asked for, and those of them that are told
@@ -15,6 +16,10 @@ pub record Told : Type 0 where
 abbrev pub is_named : ℕ → Option ℕ → JournalLine → Bool
 is_named office None l = l.named_office == office
 is_named office (Some loan) l = (l.named_office == office) && (l.named_loan == loan)
+
+-- what is sought of the journal for them
+abbrev pub sought_by : Asked → Sought
+sought_by a = record { office = a.office; loan = a.loan; day = None }
 
 -- the lines that are asked for
 abbrev pub lines_asked : Asked → List JournalLine → List JournalLine

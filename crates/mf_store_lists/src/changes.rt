@@ -12,14 +12,15 @@ ghost use Rattle.mf_store.specs.Stands.{StandsFor, IsClean, AsksTables, MayAskTa
 ghost use Rattle.mf_store_journal.specs.Rows.{filed_after, filed_at};
 ghost use Rattle.mf_store_noted.specs.Kept.{begins_of};
 ghost use Rattle.mf_store_sql.specs.Numbered.{shown_filed};
-ghost use Rattle.mf_store_lists.specs.Changed.{IsEnough, IsFound, IsFoundUpTo, first_of, is_named, told_of};
+ghost use Rattle.mf_store_lists.specs.Changed.{IsEnough, IsFound, IsFoundUpTo, first_of, is_named, sought_by, told_of};
 
 use mf_base::{Day, Fault};
 use mf_journal::{Head, JournalRow};
 use mf_lists::ChangeLine;
 use mf_office::{Account, AccountNo, Caller, OfficeNo, StaffNo};
 use mf_statement::Listing;
-use mf_store::{Store, day_of_number, lines_told, number_after};
+use mf_store::{Store, day_of_number};
+use mf_store_journal::{Sought, lines_told, number_after};
 use sqlite::{Alter, Row};
 use std::alloc::Global;
 
@@ -112,6 +113,21 @@ fn line_told(alloc: Global, place: u32, row: JournalRow<'_>) -> Result<ChangeLin
 }
 
 impl Asked {
+    /// What is sought of the journal for the lines that are asked for.
+    fn sought(&self) -> Sought
+        ensures { result ≡ sought_by self.now }
+    {
+        let loan = match self.loan {
+            None => None,
+            Some(loan) => Some(loan.get()),
+        };
+        Sought {
+            office: self.office.get(),
+            loan,
+            day: None,
+        }
+    }
+
     /// Whether a line is asked for.
     fn names(&self, row: JournalRow<'_>) -> bool
         ensures { result ≡ is_named self.now.office self.now.loan (line_of_row row.entry) }
@@ -219,7 +235,7 @@ fn put_page(
     put_lines(alloc, asked, &rows, place, lines)
 }
 
-/// What a journal tells that begins here, of what is asked for. It reads 1,000 lines at a time.
+/// What a journal tells that begins here, of what is asked for. It reads the lines that the index finds.
 fn told_from<S: Alter>(
     alloc: Global,
     store: &mut Store<S>,
@@ -231,25 +247,25 @@ fn told_from<S: Alter>(
         → StandsFor S.Store store.old i → begins_of store.old.journal ≡ Some begins → i.journal ≡ Some lines
         → IfOk result (λ list. list ≡ first_of asked.now.most (told_of asked.now lines)) }
 {
+    let sought = asked.sought();
     let mut number = narrow(begins.number)?;
     let mut place = 0;
     let mut lines = Vec::new(alloc);
     'pages: for _ in 0..u64::MAX {
-        let page = store.journal_rows(number)?;
-        if page.is_empty() {
+        let next = store.next_rows(alloc, &sought, number)?;
+        if next.rows.is_empty() {
             return Ok(Listing::new(lines));
         }
         if asked.has_all(lines.len()) {
             return Ok(Listing::new(lines));
         }
-        place = put_page(alloc, asked, &page, place, &mut lines)?;
-        number = number_after(number, page.len())?;
+        place = put_page(alloc, asked, &next.rows, place, &mut lines)?;
+        number = number_after(next.after, next.rows.len())?;
     }
     Err(Fault::F20)
 }
 
-/// What the journal tells of a loan, in the order in which it was accepted, or None where no journal is kept. It reads
-/// all lines of the journal.
+/// What the journal tells of a loan, in the order in which it was accepted, or None where no journal is kept.
 pub fn changes_of_loan<S: Alter>(
     alloc: Global,
     store: &mut Store<S>,
@@ -273,7 +289,7 @@ pub fn changes_of_loan<S: Alter>(
 }
 
 /// The first 200 changes that the journal tells of an office and whose place among them is above one, or None where no
-/// journal is kept. It reads the journal up to the last of them.
+/// journal is kept. It reads the office's lines up to the last of them.
 pub fn changes_after<S: Alter>(
     alloc: Global,
     store: &mut Store<S>,

@@ -1,11 +1,10 @@
 //! What was paid in and paid out at an office on a business day, by the journal.
 
-ghost use Rattle.std.specs.Prelude.{◌≡◌, ◌≤◌, ◌<◌, ◌++◌, ◌∷◌, [], true, List, map, length, slice_get, Some};
+ghost use Rattle.std.specs.Prelude.{◌≡◌, ◌<◌, ◌++◌, ◌∷◌, [], List, map, length, slice_get, Some};
 ghost use Rattle.std.specs.Prelude.{IfOk, IfErr, option_map};
 ghost use Rattle.mf_account.specs.declared.entry.Entry.{Entry};
 ghost use Rattle.mf_base.specs.declared.fault.Fault.TheVariants.{F20};
 ghost use Rattle.mf_journal.specs.Chain.{line_of_row};
-ghost use Rattle.mf_journal.specs.declared.following.Head.{Head as JournalHead};
 ghost use Rattle.mf_lists.specs.Takings.{handed_over, is_of_day, movement_asked, movement_on, movements_on, refund_of};
 ghost use Rattle.mf_lists.specs.Takings.{takings_of, takings_on};
 ghost use Rattle.mf_lists_desk.specs.Readings.{takings_at};
@@ -13,10 +12,8 @@ ghost use Rattle.mf_model.specs.declared.request.LoanRequest.TheVariants.{Revers
 ghost use Rattle.mf_model.specs.Institution.{Institution, JournalLine, item_numbered};
 ghost use Rattle.mf_model.specs.Store.{ledger_at, rows_at, statement_at};
 ghost use Rattle.mf_store.specs.Stands.{StandsFor, IsClean, AsksTables, MayAskTables};
-ghost use Rattle.mf_store_journal.specs.Rows.{filed_after};
 ghost use Rattle.mf_store_noted.specs.Kept.{begins_of};
-ghost use Rattle.mf_store_sql.specs.Numbered.{shown_filed};
-ghost use Rattle.mf_store_lists.specs.DayTold.{IsBefore, asked_in, begins_earlier, first_day, is_past};
+ghost use Rattle.mf_store_lists.specs.DayTold.{asked_in, sought_on};
 
 use crate::changes::{caller_of, narrow};
 use crate::loans::sum_of;
@@ -27,14 +24,11 @@ use mf_lists::{Movement, Taking, Way, with_movement};
 use mf_model::{LoanRequest, LoanStep, Posting, Request, Statement};
 use mf_office::{Account, Caller, OfficeNo};
 use mf_statement::Listing;
-use mf_store::{Store, lines_told, number_after};
-use mf_store_journal::kept_row;
+use mf_store::Store;
+use mf_store_journal::{Sought, lines_told, number_after};
 use mf_wire_requests::{Routes, read_request};
-use sqlite::{Alter, Row};
+use sqlite::Alter;
 use std::alloc::Global;
-
-/// How many rows of the journal are read at a time.
-const PAGE: u32 = 1000;
 
 /// What a loan's disbursement moves.
 fn handed_over(told: &Statement) -> Movement
@@ -266,115 +260,19 @@ fn put_lines<S: Alter>(
     Ok(takings)
 }
 
-/// The day of the first of the lines that have these rows, by its number, or None where there is no row. F20 where the
-/// row is no line's.
-fn first_day(page: &[Row]) -> Result<Option<u64>, Fault>
-    ensures day { (h : JournalHead) (lines : List JournalLine) → page.now ≡ map shown_filed (filed_after h lines)
-        → IfOk result (λ day. day ≡ first_day lines) }
-    ensures gives_up { IfErr result (λ fault. fault ≡ F20) }
+/// What is sought of the journal for the takings of an office on a day.
+fn sought_on(office: OfficeNo, day: Day) -> Sought
+    ensures { result ≡ sought_on office day }
 {
-    let Some(row) = page.first() else {
-        return Ok(None);
-    };
-    match kept_row(row) {
-        Some(kept) => Ok(Some(kept.row.day)),
-        None => Err(Fault::F20),
+    Sought {
+        office: office.get(),
+        loan: None,
+        day: Some(day.number()),
     }
 }
 
-/// Whether the first of the lines that have these rows is of an earlier day than one.
-fn begins_earlier(page: &[Row], day: Day) -> Result<bool, Fault>
-    ensures earlier { (h : JournalHead) (lines : List JournalLine) → page.now ≡ map shown_filed (filed_after h lines)
-        → IfOk result (λ is. is ≡ begins_earlier day lines) }
-    ensures gives_up { IfErr result (λ fault. fault ≡ F20) }
-{
-    match first_day(page)? {
-        Some(first) => Ok(first < u64::from(day.number())),
-        None => Ok(false),
-    }
-}
-
-/// Whether the first of the lines that have these rows is of a later day than one, or there is none.
-fn is_past(page: &[Row], day: Day) -> Result<bool, Fault>
-    ensures past { (h : JournalHead) (lines : List JournalLine) → page.now ≡ map shown_filed (filed_after h lines)
-        → IfOk result (λ is. is ≡ is_past day lines) }
-    ensures gives_up { IfErr result (λ fault. fault ≡ F20) }
-{
-    match first_day(page)? {
-        Some(first) => Ok(first > u64::from(day.number())),
-        None => Ok(true),
-    }
-}
-
-/// Whether the first line behind a number of the journal is of an earlier day than one, so that all lines up to the
-/// number are.
-fn goes_on_earlier<S: Alter>(store: &mut Store<S>, number: u32, day: Day) -> Result<bool, Fault>
-    ensures asks { MayAskTables S.Store store.old store.new result }
-    ensures earlier { IsClean S.Store store.new → (i : Institution) (begins : JournalHead) (lines : List JournalLine)
-        → StandsFor S.Store store.old i → begins_of store.old.journal ≡ Some begins → i.journal ≡ Some lines
-        → begins.number ≤ number → IfOk result (λ is. is ≡ true → IsBefore begins lines day number) }
-{
-    let page = store.journal_rows(number)?;
-    let earlier = begins_earlier(&page, day)?;
-    Ok(earlier)
-}
-
-/// The number of a line of a journal that begins here, or of where it begins, up to which all lines are of earlier days
-/// than one. It is found by halving, since days never go back, and lies no more than 1,000 numbers before the first
-/// line that isn't of an earlier day.
-fn number_before<S: Alter>(store: &mut Store<S>, begins: Head, day: Day) -> Result<u32, Fault>
-    ensures asks { MayAskTables S.Store store.old store.new result }
-    ensures before { IsClean S.Store store.new → (i : Institution) (lines : List JournalLine)
-        → StandsFor S.Store store.old i → begins_of store.old.journal ≡ Some begins → i.journal ≡ Some lines
-        → IfOk result (λ number. IsBefore begins lines day number) }
-{
-    let mut low = narrow(begins.number)?;
-    let mut high = u32::MAX;
-    while high - low > PAGE {
-        let middle = low + (high - low) / 2;
-        let earlier = goes_on_earlier(store, middle, day)?;
-        if earlier {
-            low = middle;
-        } else {
-            high = middle;
-        }
-    }
-    Ok(low)
-}
-
-/// The takings of an office on a day, by the lines of a journal that begins here and behind a number up to which all
-/// lines are of earlier days. It reads up to 1,000 lines behind those of the day.
-fn taken_behind<S: Alter>(
-    alloc: Global,
-    routes: &Routes,
-    store: &mut Store<S>,
-    begins: Head,
-    number: u32,
-    office: OfficeNo,
-    day: Day,
-) -> Result<Listing<Taking>, Fault>
-    ensures asks { AsksTables S.Store store.old store.new result }
-    ensures value { IsClean S.Store store.new → (i : Institution) (lines : List JournalLine)
-        → StandsFor S.Store store.old i → begins_of store.old.journal ≡ Some begins → i.journal ≡ Some lines
-        → IsBefore begins lines day number
-        → IfOk result (λ list. list ≡ takings_on office day i.catalogue (rows_at office i) lines) }
-{
-    let mut number = number;
-    let mut takings = Vec::new(alloc);
-    'pages: for _ in 0..u64::MAX {
-        let page = store.journal_rows(number)?;
-        let past = is_past(&page, day)?;
-        if past {
-            return Ok(Listing::new(takings));
-        }
-        let rows = lines_told(alloc, &page)?;
-        takings = put_lines(alloc, routes, store, office, day, &rows, takings)?;
-        number = number_after(number, page.len())?;
-    }
-    Err(Fault::F20)
-}
-
-/// The takings of an office on a day, by the lines of a journal that begins here.
+/// The takings of an office on a day, by the lines of a journal that begins here. It reads the lines that the index
+/// finds.
 fn taken_from<S: Alter>(
     alloc: Global,
     routes: &Routes,
@@ -388,8 +286,19 @@ fn taken_from<S: Alter>(
         → StandsFor S.Store store.old i → begins_of store.old.journal ≡ Some begins → i.journal ≡ Some lines
         → IfOk result (λ list. list ≡ takings_on office day i.catalogue (rows_at office i) lines) }
 {
-    let number = number_before(store, begins, day)?;
-    taken_behind(alloc, routes, store, begins, number, office, day)
+    let sought = sought_on(office, day);
+    let mut number = narrow(begins.number)?;
+    let mut takings = Vec::new(alloc);
+    'pages: for _ in 0..u64::MAX {
+        let next = store.next_rows(alloc, &sought, number)?;
+        if next.rows.is_empty() {
+            return Ok(Listing::new(takings));
+        }
+        let rows = lines_told(alloc, &next.rows)?;
+        takings = put_lines(alloc, routes, store, office, day, &rows, takings)?;
+        number = number_after(next.after, next.rows.len())?;
+    }
+    Err(Fault::F20)
 }
 
 /// The routes of the desk. The error is F20.
@@ -403,7 +312,7 @@ fn desk_routes(alloc: Global) -> Result<Routes, Fault>
 }
 
 /// What was paid in and paid out at an office on a business day, by who sent the requests, or None where no journal is
-/// kept. It reads the journal's lines of that day, and some 1,000 rows at each of up to 22 numbers.
+/// kept. It reads the office's lines of that day.
 pub fn takings_on<S: Alter>(
     alloc: Global,
     store: &mut Store<S>,

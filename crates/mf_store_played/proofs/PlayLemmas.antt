@@ -20,7 +20,7 @@ use Rattle.mf_play.specs.Playing.{PlaysLines}
 use Rattle.mf_play.specs.declared.stop.Stop.{Stop}
 use Rattle.mf_play.proofs.Lines.{StopsOn, stops_on, stops_at, joined}
 use Rattle.mf_store_played.specs.Played.{PlaysTable}
-use Rattle.mf_store.proofs.JournalPages.{page_is, none_left, size_of_rows}
+use Rattle.mf_store_journal.proofs.PageLemmas.{page_is, none_left, size_of_rows}
 
 -- ---- where lines stop
 

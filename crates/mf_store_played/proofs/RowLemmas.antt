@@ -2,7 +2,7 @@
 use Rattle.std.proofs.Common.{◌≡◌, ◌≢◌, ◌≤◌, ◌<◌, ℕ, zero, suc, ◌+◌, List, [], ◌∷◌, ◌++◌, take, length, slice_get}
 use Rattle.std.proofs.Common.{Some, None, refl, sym, ap, ◌∙◌, subst, arith}
 use Rattle.std.proofs.lemmas.List.{take_all}
-use Rattle.mf_store.proofs.JournalPages.{take_next}
+use Rattle.mf_store_journal.proofs.PageLemmas.{take_next}
 use Rattle.mf_store_played.specs.Played.{DiffersAt}
 
 module _ {A : Type 0} where

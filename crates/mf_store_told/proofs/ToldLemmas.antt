@@ -14,7 +14,7 @@ use Rattle.mf_store_journal.specs.Rows.{filed_after, head_with_all, journal_rows
 use Rattle.mf_store_journal.specs.Written.{KeepsJournalFrom}
 use Rattle.mf_store_journal.proofs.GoingLemmas.{still_unchanged, unchanged_itself, kept_after}
 use Rattle.mf_play.specs.Play.{TellsRequest, AllTellRequests, IsFirstUntold, call_told}
-use Rattle.mf_store.proofs.JournalPages.{page_is, none_left, size_of_rows}
+use Rattle.mf_store_journal.proofs.PageLemmas.{page_is, none_left, size_of_rows}
 use Rattle.mf_store_told.specs.Told.{IsUntold}
 
 -- ---- lines one behind the other

@@ -1,6 +1,6 @@
 //! The audit of the tables of a connection, with the play of their journal.
 
-ghost use Rattle.std.specs.Prelude.{◌≡◌, ◌↔◌, IsTrue, false, None, Some, IfOk, IfErr};
+ghost use Rattle.std.specs.Prelude.{◌≡◌, ◌↔◌, IsTrue, true, false, None, Some, IfOk, IfErr};
 ghost use Rattle.mf_base.specs.declared.fault.Fault.TheVariants.{F20};
 ghost use Rattle.sqlite.specs.Effect.{Database};
 ghost use Rattle.sqlite.specs.Files.{over_files};
@@ -9,7 +9,7 @@ ghost use Rattle.sqlite.specs.State.{HasCleanDisk};
 ghost use Rattle.mf_model.specs.Institution.{Institution};
 ghost use Rattle.mf_store_schema.specs.Schemas.{IsUnchangedUnder};
 ghost use Rattle.mf_store_sound.specs.Told.{IsAny, HaveOwnRowids};
-ghost use Rattle.mf_store_audit.specs.Audits.{FindsSound, IsAuditOf};
+ghost use Rattle.mf_store_audit.specs.Audits.{FindsSound, IsAuditOf, TellsAll};
 ghost use Rattle.mf_store.specs.Stands.{StandsFor};
 ghost use Rattle.mf_store_verdict.specs.Verdict.{FindsJournal, IsPassed, IsRightBy, Passes, Shows};
 ghost use Rattle.mf_store_verdict.specs.Verdict.{IsVerdictBy, IsVerdictFrom, IsVerdictOf, IsVerdictOver};
@@ -85,6 +85,7 @@ fn play_found<S: Alter>(
     ensures exact { HasCleanDisk (state S.Store connection.new) → (db : Database)
         → Shows (state S.Store connection.old) db → IsAuditOf db audit
         → IfOk result (IsVerdictBy (IsRightBy beginning.entry) db) }
+    ensures audit { IfOk result (λ verdict. verdict.audit ≡ audit) }
     ensures gives_up { IfErr result (λ fault. fault ≡ F20) }
     ensures mode { connection.new.in_transaction ≡ false }
 {
@@ -109,6 +110,7 @@ fn verdict_of<S: Alter>(
     ensures exact { HasCleanDisk (state S.Store connection.new) → (db : Database)
         → Shows (state S.Store connection.old) db → IsAuditOf db audit
         → IfOk result (IsVerdictBy (IsRightBy beginning.entry) db) }
+    ensures audit { IfOk result (λ verdict. verdict.audit ≡ audit) }
     ensures gives_up { IfErr result (λ fault. fault ≡ F20) }
     ensures mode { connection.new.in_transaction ≡ false }
 {
@@ -133,6 +135,8 @@ fn audit_with<S: Alter, P: Progress>(
     ensures kept { IsUnchangedUnder IsAny (state S.Store connection.old) (state S.Store connection.new) }
     ensures exact { HasCleanDisk (state S.Store connection.new) → HaveOwnRowids (state S.Store connection.old).now
         → IfOk result (IsVerdictBy (IsRightBy beginning.entry) (state S.Store connection.old).now) }
+    ensures every { all ≡ true → HasCleanDisk (state S.Store connection.new)
+        → IfOk result (λ verdict. TellsAll (state S.Store connection.old).now verdict.audit) }
     ensures gives_up { IfErr result (λ fault. fault ≡ F20) }
     ensures mode { connection.new.in_transaction ≡ false }
 {
@@ -142,9 +146,9 @@ fn audit_with<S: Alter, P: Progress>(
     }
 }
 
-/// Audits the tables of a connection, whatever tables and rows stand there, as `audit_tables` does. Where it finds a
-/// sound institution with a journal, it plays that from its founding, in memory. It changes nothing. The error is F20,
-/// out of memory or a failure of the disk.
+/// Audits the tables of a connection, whatever tables and rows stand there, as `audit_tables` does: it tells all that
+/// is found, or the first alone. Where it finds a sound institution with a journal, it plays that from its founding, in
+/// memory. It changes nothing. The error is F20, out of memory or a failure of the disk.
 pub fn audit_and_play<S: Alter, P: Progress>(
     alloc: Global,
     connection: &mut Connection<S>,
@@ -155,6 +159,8 @@ pub fn audit_and_play<S: Alter, P: Progress>(
     ensures kept { IsUnchangedUnder IsAny (state S.Store connection.old) (state S.Store connection.new) }
     ensures exact { HasCleanDisk (state S.Store connection.new) → HaveOwnRowids (state S.Store connection.old).now
         → IfOk result (IsVerdictOf (state S.Store connection.old).now) }
+    ensures every { all ≡ true → HasCleanDisk (state S.Store connection.new)
+        → IfOk result (λ verdict. TellsAll (state S.Store connection.old).now verdict.audit) }
     ensures gives_up { IfErr result (λ fault. fault ≡ F20) }
     ensures mode { connection.new.in_transaction ≡ false }
 {
@@ -175,6 +181,8 @@ pub fn audit_and_play_from<S: Alter, P: Progress>(
     ensures exact { HasCleanDisk (state S.Store connection.new) → HaveOwnRowids (state S.Store connection.old).now
         → (copied : Institution) → StandsFor over_files copy copied
         → IfOk result (IsVerdictFrom copied (state S.Store connection.old).now) }
+    ensures every { all ≡ true → HasCleanDisk (state S.Store connection.new)
+        → IfOk result (λ verdict. TellsAll (state S.Store connection.old).now verdict.audit) }
     ensures gives_up { IfErr result (λ fault. fault ≡ F20) }
     ensures mode { connection.new.in_transaction ≡ false }
 {
@@ -195,6 +203,8 @@ pub fn audit_and_play_over<S: Alter, P: Progress>(
     ensures exact { HasCleanDisk (state S.Store connection.new) → HaveOwnRowids (state S.Store connection.old).now
         → AreArchives archives.now
         → IfOk result (IsVerdictOver archives.now (state S.Store connection.old).now) }
+    ensures every { all ≡ true → HasCleanDisk (state S.Store connection.new)
+        → IfOk result (λ verdict. TellsAll (state S.Store connection.old).now verdict.audit) }
     ensures gives_up { IfErr result (λ fault. fault ≡ F20) }
     ensures mode { connection.new.in_transaction ≡ false }
 {

@@ -6,11 +6,11 @@ ghost use Rattle.microloan.specs.Status.{IsPrintStatus};
 
 use crate::copies::{read_copy, words_of_copy};
 use crate::following::Following;
-use crate::places::{Place, place_at};
+use crate::places::{Place, has_checksums, place_at};
 use crate::telling::{
     FAULT, print_line, print_made, tell_no_institution, tell_no_journal, tell_refusal,
 };
-use crate::why::{words_of, words_of_place};
+use crate::why::{WITHOUT_CHECKSUMS, words_of, words_of_place};
 use mf_base::Fault;
 use mf_store_archived::Unread;
 use mf_store_audit::Audit;
@@ -47,7 +47,7 @@ fn say_rows(rt: &HostRuntime, file: &str, all: bool) -> u8
     ensures { IsPrintStatus result }
 {
     match audit_file(rt, file, all, &mut Following::new(rt, file)) {
-        Ok(verdict) => say(rt, &verdict),
+        Ok(verdict) => say(rt, file, &verdict),
         Err(finding) => refuse(rt, words_of(finding)),
     }
 }
@@ -80,7 +80,7 @@ fn say_rows_from(rt: &HostRuntime, file: &str, copy: &str, all: bool) -> u8
         &mut Following::new(rt, file),
     ) {
         Ok(verdict) if is_unplayed(&verdict) => tell_no_journal(rt),
-        Ok(verdict) => say(rt, &verdict),
+        Ok(verdict) => say(rt, file, &verdict),
         Err(Unaudited::Copy(refused)) => refuse(rt, words_of_copy(refused)),
         Err(Unaudited::File(finding)) => refuse(rt, words_of(finding)),
     }
@@ -108,7 +108,7 @@ fn say_rows_over(rt: &HostRuntime, file: &str, folder: &str, all: bool) -> u8
     };
     match audit_over_archives(rt, file, &archives, all, &mut Following::new(rt, file)) {
         Ok(verdict) if is_unplayed(&verdict) => tell_no_journal(rt),
-        Ok(verdict) => say(rt, &verdict),
+        Ok(verdict) => say(rt, file, &verdict),
         Err(finding) => refuse(rt, words_of(finding)),
     }
 }
@@ -151,14 +151,29 @@ fn is_unplayed(verdict: &Verdict) -> bool {
     matches!(verdict.audit, Audit::Sound { .. }) && verdict.played.is_none()
 }
 
-/// Prints a verdict, and gives the program's status.
-fn say(rt: &HostRuntime, verdict: &Verdict) -> u8
+/// Prints a verdict on a file, and before it if the pages of a sound one have no checksums. Gives the program's status.
+fn say(rt: &HostRuntime, file: &str, verdict: &Verdict) -> u8
     ensures status { IsPrintStatus result }
     ensures fails { ¬ Passes verdict.now → result ≡ 1 }
 {
     if matches!(verdict.audit, Audit::NoTables) {
         return tell_no_institution(rt);
     }
+    let noted = note_checksums(rt, file, verdict);
     let said = print_made(rt, verdict_text(rt.alloc(), verdict));
-    if passes(verdict) { said } else { FAULT }
+    if passes(verdict) && noted == 0 {
+        said
+    } else {
+        FAULT
+    }
+}
+
+/// Says if the pages of a file with a sound institution have no checksums, and gives the status of printing it.
+fn note_checksums(rt: &HostRuntime, file: &str, verdict: &Verdict) -> u8
+    ensures { IsPrintStatus result }
+{
+    if !passes(verdict) || has_checksums(rt, file) {
+        return 0;
+    }
+    print_line(rt, format_args!("audit: {WITHOUT_CHECKSUMS}"))
 }

@@ -1,4 +1,4 @@
-//! What stands at the path of an institution's file, told by the system and by the file's first byte, before anything
+//! What stands at the path of an institution's file, told by the system and by the file's first bytes, before anything
 //! is opened.
 
 use mf_store_schema::has_log;
@@ -49,6 +49,27 @@ pub fn place_at(rt: &HostRuntime, path: &str) -> Place {
         Ok(place) => place,
         Err(error) if error.kind() == ErrorKind::PermissionDenied => Place::Forbidden,
         Err(_) => Place::Untold,
+    }
+}
+
+/// Where a database's header says how many bytes of each page are left for its checksum, and how many a checksum takes.
+const LEFT_AT: usize = 20;
+
+const CHECKSUM: u8 = 8;
+
+/// Whether a file's pages end in checksums, by its header.
+pub fn has_checksums(rt: &HostRuntime, path: &str) -> bool {
+    matches!(bytes_left(rt, path), Ok(Some(CHECKSUM)))
+}
+
+/// How many bytes of each page a database leaves, by its header, if it has one.
+fn bytes_left(rt: &HostRuntime, path: &str) -> io::Result<Option<u8>> {
+    let mut header = [0u8; LEFT_AT + 1];
+    let read = File::open(rt, path)?.read(&mut header)?;
+    if read == header.len() {
+        Ok(Some(header[LEFT_AT]))
+    } else {
+        Ok(None)
     }
 }
 

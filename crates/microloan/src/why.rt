@@ -2,7 +2,7 @@
 
 ghost use Rattle.microloan.specs.Status.{IsPrintStatus};
 
-use crate::places::{Place, place_at};
+use crate::places::{Place, has_checksums, place_at};
 use crate::telling::{FAULT, print_line};
 use mf_store_schema::{Version, has_log};
 use mf_store_sound::{Finding, look};
@@ -13,6 +13,9 @@ use microloan_audit::head_text;
 pub const WITHOUT_JOURNAL: &str = "a sound institution, schema 2";
 /// What is said of a file with an institution that keeps a journal.
 pub const WITH_JOURNAL: &str = "a sound institution with a journal, schema 3";
+/// What is said of a sound institution in a file whose pages don't end in checksums.
+pub const WITHOUT_CHECKSUMS: &str =
+    "its pages have no checksums, so a bit that turned on the disk may go unnoticed";
 
 /// Says in a line what opening a file would find, and gives the program's status: 0 where it is opened as the
 /// institution that it holds. Nothing is made and nothing is changed.
@@ -20,7 +23,7 @@ pub fn say_why(rt: &HostRuntime, file: &str) -> u8
     ensures { IsPrintStatus result }
 {
     match place_at(rt, file) {
-        Place::Database => say_found(rt, file, look(rt, file)),
+        Place::Database => say_database(rt, file, look(rt, file)),
         place => {
             let _said = say(rt, file, words_of_place(place), "");
             FAULT
@@ -62,6 +65,21 @@ fn is_journaled(found: Finding) -> bool {
             sound: true,
         }
     )
+}
+
+/// Says what was found in a database and, where it is a sound institution, if its pages have no checksums. Gives the
+/// program's status.
+fn say_database(rt: &HostRuntime, file: &str, found: Finding) -> u8
+    ensures { IsPrintStatus result }
+{
+    let said = say_found(rt, file, found);
+    if !is_opened(found) || has_checksums(rt, file) {
+        return said;
+    }
+    match said {
+        0 => say(rt, file, WITHOUT_CHECKSUMS, ""),
+        _ => FAULT,
+    }
 }
 
 /// Says what was found in a database, and gives the program's status.

@@ -1,5 +1,5 @@
 -- The text of an audit, and of a verdict.
-use Rattle.std.specs.Prelude.{ℕ, List, ◌++◌, codes, Option, Some, None}
+use Rattle.std.specs.Prelude.{ℕ, List, [], ◌∷◌, ◌++◌, codes, Option, Some, None}
 use Rattle.std.specs.List.{flat_map}
 use Rattle.mf_store_schema.specs.Rows.{Lists}
 use Rattle.mf_store_schema.specs.Versions.{number_of}
@@ -28,10 +28,14 @@ audit_line words = codes "audit: " ++ (words ++ codes "\n")
 abbrev pub findings_text : Lists → List Finding → List ℕ
 findings_text lists findings = flat_map (λ (f : Finding). audit_line (finding_line lists f)) findings
 
--- the line of a row that no record can hold, if it is known which
-abbrev pub unread_text : Option Unread → List ℕ
-unread_text None = audit_line (codes "a row that can't be read")
-unread_text (Some u) = audit_line (unread_line u)
+-- a line for each row that no record can hold
+abbrev pub unread_lines : List Unread → List ℕ
+unread_lines unread = flat_map (λ (u : Unread). audit_line (unread_line u)) unread
+
+-- the same; or that there is one, where none is named
+abbrev pub unread_text : List Unread → List ℕ
+unread_text [] = audit_line (codes "a row that can't be read")
+unread_text (first ∷ later) = unread_lines (first ∷ later)
 
 -- the line of a journal that the program cannot have written
 abbrev pub journal_text : BrokenJournal → List ℕ
@@ -44,7 +48,7 @@ text_ending last NoTables = audit_line (codes "the database has no tables")
 text_ending last OtherTables = audit_line (codes "the database has other tables than this program makes")
 text_ending last (Sound version sums) = sums_text (number_of version) sums.items last
 text_ending last (Unsound version tables findings) = findings_text tables findings.items
-text_ending last (Unreadable version unread) = unread_text unread
+text_ending last (Unreadable version unread) = unread_text unread.items
 text_ending last (audit.BrokenJournal broken) = journal_text broken
 
 -- what an audit prints where no journal was played: of a sound institution its sums and the word `sound`

@@ -3,6 +3,7 @@
 ghost use Rattle.std.specs.Prelude.{◌≡◌, ◌++◌, Some, string_bytes, IfOk, OnOk, IsOkUnless};
 ghost use Rattle.microloan_audit.specs.Lines.{finding_line};
 ghost use Rattle.microloan_audit.specs.Text as spec;
+ghost use Rattle.microloan_audit.specs.Unread.{unread_line};
 
 use crate::archives::gap_line;
 use crate::journal::journal_line;
@@ -102,15 +103,38 @@ fn audit_line(alloc: Global, words: &str) -> Result<String, Fault>
     Ok(format!(in alloc; "audit: {words}\n")?)
 }
 
-/// The line of a row that no record can hold.
-fn unread_text(alloc: Global, unread: &Option<Unread>) -> Result<String, Fault>
+/// A line for each row that no record can hold; or that there is one, where none is named.
+fn unread_text(alloc: Global, unread: &[Unread]) -> Result<String, Fault>
     ensures text { IfOk result (λ text. string_bytes text ≡ spec.unread_text unread.now) }
     ensures only { IsOkUnless result Fault.F20 }
 {
-    match unread {
-        None => audit_line(alloc, "a row that can't be read"),
-        Some(unread) => audit_line(alloc, unread_line(alloc, unread)?.as_str()),
+    if unread.is_empty() {
+        return audit_line(alloc, "a row that can't be read");
     }
+    unread_lines(alloc, unread)
+}
+
+/// A line for each row that no record can hold.
+fn unread_lines(alloc: Global, unread: &[Unread]) -> Result<String, Fault>
+    ensures text { IfOk result (λ text. string_bytes text ≡ spec.unread_lines unread.now) }
+    ensures only { IsOkUnless result Fault.F20 }
+{
+    let mut text = String::new(alloc);
+    for row in unread {
+        push_unread(alloc, &mut text, row)?;
+    }
+    Ok(text)
+}
+
+/// Writes the line of a row that no record can hold.
+fn push_unread(alloc: Global, text: &mut String, row: &Unread) -> Result<(), Fault>
+    ensures text { OnOk result (string_bytes text.new
+        ≡ string_bytes text.old ++ spec.audit_line (unread_line row.now)) }
+    ensures only { IsOkUnless result Fault.F20 }
+{
+    let line = unread_line(alloc, row)?;
+    text.push_str(audit_line(alloc, line.as_str())?.as_str())?;
+    Ok(())
 }
 
 /// The line of a journal that the program cannot have written.

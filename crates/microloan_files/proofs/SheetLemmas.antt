@@ -12,7 +12,7 @@ use Rattle.mf_store.specs.Facts.{KnownStore}
 use Rattle.mf_store.specs.Stands.{StandsFor, Leaves}
 use Rattle.mf_store.specs.Stands as stores
 use Rattle.mf_store_noted.specs.Tabled.{HasGoodDisk}
-use Rattle.mf_sheet.specs.Ends.{SheetStreams, EndsWhole, NeverBegins, EndsBefore, CutsHeading, CutsRecord, EndsBy, Ends}
+use Rattle.mf_sheet.specs.Ends.{SheetStreams, EndsWhole, NeverBegins, CutsHeading, CutsRecord, EndsBy, Ends}
 use Rattle.mf_sheet.specs.Runs.{RunsRows}
 use Rattle.mf_wire_lines.specs.Streams.{Streams}
 use Rattle.mf_sheet_lines.specs.declared.results.SheetResult.{SheetResult}
@@ -34,7 +34,7 @@ module _ {S : Type 0} (P : S → Rows → List SheetResult → S → Type 0) (ol
   at Read n e = absurd e
   at Write n e =
       elim e.1 [ inl h ↦ of_none h.same | inr r ↦ of_run (r.done ++ r.fields ∷ []) (r.results ++ r.result ∷ []) r.ran ]
-  at Memory n e = elim e.1 [ inl h ↦ of_none h.same | inr r ↦ of_run r.done r.results r.ran ]
+  at Memory n e = of_none e.1.same
 
   pub sheet_either_way : (r : Result (Unit {0}) StreamFault) → Ends P old new streams r → X
   sheet_either_way (Ok u) e = of_run e.done e.results e.ran
@@ -110,28 +110,8 @@ module _ {S : Type 0} (P : S → Rows → List SheetResult → S → Type 0) (Q 
       )
 
   remembered : (n : ℕ) → streams.sink.faults_after ≡ streams.sink.faults_before → NeverBegins P old new streams n
-      ⊎ EndsBefore P old new streams n → TellsBy Memory n
-  remembered n f (inl e) = ([], (f, inl (record { none = e.none; same = refl; unwritten = e.unwritten })), none e.same)
-  remembered n f (inr e) =
-      let t = told e.done e.results e.ran in (
-        t.0,
-        (
-          f,
-          inr (record {
-            done = e.done;
-            fields = e.fields;
-            rest = e.rest;
-            among = e.among;
-            results = e.results;
-            each = e.each;
-            ran = t.1;
-            without_F20 = e.without_F20;
-            written = e.written;
-            counted = e.counted;
-          }),
-        ),
-        t.2,
-      )
+      → TellsBy Memory n
+  remembered n f e = ([], (f, record { none = e.none; same = refl; unwritten = e.unwritten }), none e.same)
 
   by : (cause : Cause) (n : ℕ) → EndsBy P old new streams cause n → TellsBy cause n
   by Read n e = absurd e

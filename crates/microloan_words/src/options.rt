@@ -12,7 +12,7 @@ use clap::{Arg, ArgAction, Command};
 use std::alloc::{AllocError, Global};
 
 /// This release, and the schema of the files that it writes.
-const VERSION: &str = "1.12.0 (schema 2)";
+const VERSION: &str = "1.13.0 (schema 2)";
 
 /// Whether an option must be given, has a text that stands where it isn't, or is a flag.
 pub(crate) enum Need {

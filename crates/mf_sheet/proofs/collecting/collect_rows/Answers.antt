@@ -1,15 +1,14 @@
 use Rattle.std.proofs.Common.{◌≡◌, ◌≢◌, ℕ, List, ◌∷◌, ◌++◌, length, Option, inr, refl, sym, ap, ◌∙◌, subst, arith}
 use Rattle.std.specs.Io.KnownBytes.{Appends}
 use Rattle.std.specs.Vec.Iter.{into_iter_items}
-use Rattle.mf_base.specs.declared.fault.Cause.{Cause}
-use Rattle.mf_base.specs.declared.fault.Cause.TheVariants.{Read, Write, Memory}
+use Rattle.mf_base.specs.declared.fault.Cause.TheVariants.{Write}
 use Rattle.mf_sheet_lines.specs.Results.{heading}
 use Rattle.mf_sheet_lines.specs.declared.results.SheetResult.{SheetResult}
 use Rattle.mf_sheet.specs.Runs.{AnswersFields, AnswersEach}
 use Rattle.mf_wire_lines.specs.Streams.{stream_of}
 use Rattle.mf_sheet.specs.Ends.{SheetStreams, EndsBy}
 use Rattle.mf_sheet.proofs.Rows.{Going-start, Going-more, one_taken, one_done, all_done, count_below, ends_whole}
-use Rattle.mf_sheet.proofs.Rows.{ends_before, ends_in_F20, cuts_record}
+use Rattle.mf_sheet.proofs.Rows.{ends_in_F20, cuts_record}
 use Rattle.mf_sheet.proofs.collecting.collect_rows.Goals as goal
 
 pub loop-row-init : goal.loop-row-init
@@ -59,7 +58,7 @@ returns g c = record {
 }
 
 pub returns-in-Err : goal.returns-in-Err
-returns-in-Err g c = record { ends = λ before first. at before first c.in-Err.cause refl }
+returns-in-Err g c = record { ends = λ before first. at before first }
   where
     step : g.row.S.Denot → List (List ℕ) → SheetResult → g.row.S.Denot → Type 0
     step = AnswersFields g.S.InstitutionStore c.args.told.now c.args.caller.now
@@ -74,30 +73,15 @@ returns-in-Err g c = record { ends = λ before first. at before first c.in-Err.c
           { before = before };
     }
 
-    at : (before : Option (List ℕ)) → Appends before (g.W.Sink.written c.args.sink.now) heading → (cause : Cause)
-        → c.in-Err.cause ≡ cause
-        → EndsBy (AnswersEach step) c.args.store.now c.collect_row.new.store (streams before) cause
-        c.loop-row.answered
-    at before first Read e = absurd (c.in-Err.ensures.read e)
-    at before first Write e =
-        let w = c.in-Err.ensures.write e in (
-          subst (λ n. g.W.Sink.faults c.collect_row.new.sink ≢ n) c.loop-row.invariant.sound (c.in-Err.ensures.fault e),
+    at : (before : Option (List ℕ)) → Appends before (g.W.Sink.written c.args.sink.now) heading
+        → EndsBy (AnswersEach step) c.args.store.now c.collect_row.new.store (streams before) Write c.loop-row.answered
+    at before first =
+        let w = c.in-Err.ensures.write in (
+          subst (λ n. g.W.Sink.faults c.collect_row.new.sink ≢ n) c.loop-row.invariant.sound c.in-Err.ensures.fault,
           inr (
               cuts_record step c.args.store.now (streams before) c.loop-row.yielded (g.W.Sink.written c.args.sink.now)
               c.loop-row.answered first
               c.loop-row.store c.collect_row.new.store c.in-Some.row w.0 _ (g.W.Sink.written c.loop-row.sink) among w.1
               w.2.0 w.2.1 w.2.2 c.loop-row.invariant.going
-              ),
-        )
-    at before first Memory e =
-        let m = c.in-Err.ensures.memory e in (
-          ap (λ s. g.W.Sink.faults s) m.1 ∙ c.loop-row.invariant.sound,
-          inr (
-              rw (m.0, m.1) (ends_before step c.args.store.now (record {
-                rows = c.args.rows.items;
-                sink = record (stream_of g.W.Sink.written g.W.Sink.faults c.args.sink.now c.loop-row.sink)
-                    { before = before };
-              }) c.loop-row.yielded (g.W.Sink.written c.args.sink.now) c.loop-row.answered first c.loop-row.store
-              c.in-Some.row _ among c.loop-row.invariant.going)
               ),
         )

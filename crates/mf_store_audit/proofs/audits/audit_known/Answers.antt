@@ -1,12 +1,11 @@
 use Rattle.std.proofs.Common.{None, sym, subst}
-use Rattle.std.specs.Option.{IfSome}
 use Rattle.std.proofs.lemmas.Result.{IfOk-weaker}
 use Rattle.sqlite.specs.Effect.{Database}
 use Rattle.sqlite.specs.Held.{state}
 use Rattle.mf_store_schema.specs.Versions.{IsOfVersion}
 use Rattle.mf_store_schema.proofs.ReadLemmas.{at_none, at_some}
 use Rattle.mf_store_audit.specs.Audits.{IsAuditOf, IsWithJournal}
-use Rattle.mf_store_audit.specs.Unread.{IsUnread}
+use Rattle.mf_store_audit.specs.Unread.{AreToldOfAll, AreUnread, tables_searched}
 use Rattle.mf_store_audit.proofs.AuditLemmas.{of_rows, of_rows_with_journal, unread_none}
 use Rattle.mf_store_sound.proofs.JudgedLemmas.{none_kept, ours_there, rowids_there, unchanged_twice}
 use Rattle.mf_store_audit.proofs.KeptLemmas.{then_under}
@@ -34,9 +33,16 @@ returns-in_default-clause-exact g c clean ours rowids =
     let found = c.in_ok-unread.ensures.found clean its in (
       ours,
       unread_none db c.args.version ours none,
-      subst (λ (d : Database). IfSome c.in_ok-unread.unread
-          (λ u. IsUnread u.table u.value u.place d.trees)) same found,
+      subst (λ (d : Database). AreUnread c.args.version d c.in_ok-unread.unread.items) same found,
     )
+
+pub returns-in_default-clause-every : goal.returns-in_default-clause-every
+returns-in_default-clause-every g c whole clean ours =
+    let early = c.unread_at.ensures.kept.premise clean in
+    let same = c.read_tables.ensures.kept.same early (c.in_ok-tables.ensures.open early) ours in
+    let its = subst (λ (d : Database). IsOfVersion c.args.version d.schema) (sym same) ours in
+    subst (λ (d : Database). AreToldOfAll d (tables_searched c.args.version) c.in_ok-unread.unread.items) same
+    (c.in_ok-unread.ensures.every clean its whole)
 
 pub returns-in-First-clause-exact : goal.returns-in-First-clause-exact
 returns-in-First-clause-exact g c clean ours rowids =
@@ -47,6 +53,10 @@ returns-in-First-clause-exact g c clean ours rowids =
     let keeps = at_some c.in_ok-tables.field-0 _ tables c.in-Some.is (c.in_ok-tables.ensures.keeps clean ours rowids) in
     of_rows db v ours tables only keeps c.in_ok-audit.audit (λ _. (None, none_kept v c.in-First.is db.trees, tt))
     c.in_ok-audit.ensures.exact
+
+pub returns-in-First-clause-every : goal.returns-in-First-clause-every
+returns-in-First-clause-every g c whole clean ours =
+    (c.in_ok-audit.ensures {u = tt}).every whole (state g.S.Store c.args.connection.now).now
 
 pub returns-in-Third-clause-kept : goal.returns-in-Third-clause-kept
 returns-in-Third-clause-kept g c = unchanged_twice c.args.version c.in-Third.is
@@ -71,4 +81,6 @@ returns-in-Third-clause-exact g c clean ours rowids =
     (rowids_there v third db now same rowids))
 
 pub returns-in-Third-clause-every : goal.returns-in-Third-clause-every
-returns-in-Third-clause-every g c whole = c.audit_journal.ensures.every ((c.in_ok-audit.ensures {u = tt}).every whole)
+returns-in-Third-clause-every g c whole clean ours =
+    let db = (state g.S.Store c.args.connection.now).now in
+    c.audit_journal.ensures.every db ((c.in_ok-audit.ensures {u = tt}).every whole db)

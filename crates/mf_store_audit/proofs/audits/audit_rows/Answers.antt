@@ -19,6 +19,6 @@ returns-clause-exact c =
     )
 
 pub returns-then-not-are_none-clause-every : goal.returns-then-not-are_none-clause-every
-returns-then-not-are_none-clause-every c whole =
+returns-then-not-are_none-clause-every c whole db =
     (c.in_ok-found.ensures {u = tt}).every whole (λ sound. true≢false (sym (c.are_none.ensures.1 (c.deref.ensures.value
     ∙ (c.in_ok-found.ensures {u = tt}).none.1 sound)) ∙ c.if-not-are_none.true))

@@ -13,7 +13,8 @@ returns-then-not-is_listed-clause-counted g c clean i s day office l are at loan
     let found = c.in_ok-account.ensures.loan office l.0 l.1.loan are in
     let client = c.get-client.ensures.value ∙ (λ t. (found.1 t).client) in
     let listed = c.is_listed.ensures (subst
-    (AllByRecursion (λ (line : ClientLine). IsBetween c.args.bounds line.number)) (sym lines) (all_map (λ (line : ClientLine). IsBetween c.args.bounds line.number) (counted_by i.catalogue loans)
+    (AllByRecursion (λ (line : ClientLine). IsBetween c.args.bounds line.number)) (sym lines)
+    (all_map (λ (line : ClientLine). IsBetween c.args.bounds line.number) (counted_by i.catalogue loans)
     clients between)) in
     let out = ap₂ (λ n (all : List ClientLine). list_any (λ (line : ClientLine). n == line.number) all) (sym client)
     (sym lines) ∙ sym listed ∙ c.if-not-is_listed.true in

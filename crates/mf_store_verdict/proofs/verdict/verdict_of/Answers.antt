@@ -12,6 +12,9 @@ returns-then-finds_journal-clause-kept g c = c.play_found.ensures.kept
 pub returns-then-finds_journal-clause-exact : goal.returns-then-finds_journal-clause-exact
 returns-then-finds_journal-clause-exact g c = c.play_found.ensures.exact
 
+pub returns-then-finds_journal-clause-audit : goal.returns-then-finds_journal-clause-audit
+returns-then-finds_journal-clause-audit g c = c.play_found.ensures.audit
+
 pub returns-then-finds_journal-clause-gives_up : goal.returns-then-finds_journal-clause-gives_up
 returns-then-finds_journal-clause-gives_up g c = c.play_found.ensures.gives_up
 

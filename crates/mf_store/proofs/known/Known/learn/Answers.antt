@@ -1,4 +1,5 @@
-use Rattle.std.proofs.Common.{nat_eq, refl, sym, subst, ◌∙◌}
+use Rattle.std.proofs.Common.{nat_eq, refl, sym, ap, subst, ◌∙◌}
+use Rattle.mf_store_journal.specs.Index.{index_of}
 use Rattle.mf_store.specs.Learning.{Tells}
 use Rattle.mf_store.proofs.KeptLemmas.{account_still, counts_learnt, forgotten}
 use Rattle.mf_store.proofs.CatalogueLemmas.{some_is}
@@ -17,6 +18,7 @@ returns-in-OfficeCounts c =
       keys = λ x k h. t.keys x k (known.keys x k h);
       products = λ n p h. t.products refl n p (known.products n p h);
       accounts = λ a x h. t.accounts a x refl (known.accounts a x h);
+      index = (known.index.0, ap index_of t.journal ∙ known.index.1);
     })
 
 pub returns-in-Catalogue : goal.returns-in-Catalogue
@@ -30,6 +32,7 @@ returns-in-Catalogue c =
       keys = λ x k h. t.keys x k (known.keys x k h);
       products = λ n p h. t.products refl n p (known.products n p h);
       accounts = λ a x h. t.accounts a x refl (known.accounts a x h);
+      index = (known.index.0, ap index_of t.journal ∙ known.index.1);
     })
 
 pub returns-in-BusinessDay : goal.returns-in-BusinessDay
@@ -43,6 +46,7 @@ returns-in-BusinessDay c =
       keys = λ x k h. t.keys x k (known.keys x k h);
       products = λ n p h. t.products refl n p (known.products n p h);
       accounts = λ a x h. t.accounts a x refl (known.accounts a x h);
+      index = (known.index.0, ap index_of t.journal ∙ known.index.1);
     })
 
 pub returns-in-Retirement : goal.returns-in-Retirement
@@ -57,6 +61,7 @@ returns-in-Retirement c =
       products = λ n p h. forgotten (nat_eq n) c.clear.new.self c.self-in-Retirement.inside.products.cap p _
           c.clear.ensures h;
       accounts = λ a x h. t.accounts a x refl (known.accounts a x h);
+      index = (known.index.0, ap index_of t.journal ∙ known.index.1);
     })
 
 pub returns-in-Account : goal.returns-in-Account

@@ -15,4 +15,5 @@ returns c = rw (← c.self.view_is) (λ i known so. record {
       (so ∙ ap Some (sym c.in-Some.ensures)) (λ y w other. known.keys y w);
   products = known.products;
   accounts = known.accounts;
+  index = known.index;
 })

@@ -16,4 +16,5 @@ returns c = rw (← c.self.view_is) (λ i known so. record {
       c.put-kept.ensures.entries c.put-kept.ensures.err (so ∙ ap Some (sym c.in-Some.ensures)) (λ n p other.
       known.products n p);
   accounts = known.accounts;
+  index = known.index;
 })

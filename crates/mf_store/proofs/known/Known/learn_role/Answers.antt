@@ -16,4 +16,5 @@ returns c = rw (← c.self.view_is) (λ i known so. record {
   keys = known.keys;
   products = known.products;
   accounts = known.accounts;
+  index = known.index;
 })

@@ -15,3 +15,6 @@ returns-clause-value g c clean i s =
     let before = clean_before g.S.Store _ _ c.learn.ensures.tables clean in
     c.in_ok-day.ensures.day _ i.catalogue.day (let bound = s.sound.catalogue.day in omega arith)
     (c.in_ok-found.ensures.value before i s)
+
+pub returns-in-Some-clause-value : goal.returns-in-Some-clause-value
+returns-in-Some-clause-value g c clean i s = c.in-Some.ensures i (c.known.ensures i s)

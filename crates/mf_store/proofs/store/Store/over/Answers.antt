@@ -2,7 +2,11 @@ use Rattle.std.proofs.Common.{sym, ap, ◌∙◌, not}
 use Rattle.mf_store_noted.specs.Kept.{begins_of}
 use Rattle.mf_store_noted.proofs.BesideLemmas.{begun_of}
 use Rattle.mf_store_noted.proofs.TurnedLemmas.{settled_leaves}
+use Rattle.mf_store.proofs.KeptLemmas.{first_known}
 use Rattle.mf_store.proofs.store.Store.over.Goals as goal
+
+pub returns-clause-stands : goal.returns-clause-stands
+returns-clause-stands g c i tabled = first_known g.S.Store _ _ _ i c.requires.nothing tabled
 
 pub returns-clause-leaves : goal.returns-clause-leaves
 returns-clause-leaves g c live i tabled =
