@@ -64,22 +64,12 @@ pub(crate) fn is_loan_within_limits(terms: &Terms, principal: u64, periods: u32)
         && terms.interest_grace < periods
 }
 
-/// The last day that can be entered.
-fn last_day() -> Option<Day>
-    ensures { result ≡ Some last_entered_day }
-{
-    Day::parse(b"2099-12-31")
-}
-
 /// Whether a day can be entered: one up to 2099-12-31.
 pub(crate) fn can_be_entered(day: Day) -> bool
     ensures within { IsTrue result → day ≤ last_entered_day }
     ensures exact { day ≤ last_entered_day → IsTrue result }
 {
-    match last_day() {
-        Some(last) => day <= last,
-        None => false,
-    }
+    day <= Day::last_entered()
 }
 
 /// Whether an amount was entered: 1 to 10^12 cents.

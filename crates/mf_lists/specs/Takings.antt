@@ -1,7 +1,7 @@
 -- What was paid in and paid out at an office on a business day, by member of staff, as the journal tells it. A request
 -- counts on the day on which it was accepted.
-use Rattle.std.specs.Prelude.{ℕ, ◌+◌, ◌-◌, Bool, cond, ◌&&◌, ◌==◌, nat_lt, List, [], ◌∷◌, ◌++◌, map, filter, fold, length}
-use Rattle.std.specs.Prelude.{sum_by, Option, Some, None, option_map, option_and_then}
+use Rattle.std.specs.Prelude.{ℕ, ◌+◌, ◌-◌, Bool, cond, ◌&&◌, ◌==◌, nat_lt, List, [], ◌∷◌, ◌++◌, map, filter, fold}
+use Rattle.std.specs.Prelude.{length, sum_by, Option, Some, None, option_map, option_and_then}
 use Rattle.std.specs.List.{filter_map, list_any}
 use Rattle.mf_office.specs.declared.caller.Caller.{Caller}
 use Rattle.mf_account.specs.declared.entry.Entry.{Entry}

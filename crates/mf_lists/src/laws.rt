@@ -1,8 +1,8 @@
 //! What holds of lists and of rates. Each function does nothing: its contract is the law that the sentence above it
 //! tells.
 
-ghost use Rattle.std.specs.Prelude.{◌≡◌, ◌≤◌, ◌-◌, ◌*◌, ◌++◌, ◌∷◌, ℕ, Bool, List, [], map, filter, true, false, codes, length};
-ghost use Rattle.std.specs.Prelude.{sum, sum_by, Some, None, MatchOption, IfSome, Ok, Err};
+ghost use Rattle.std.specs.Prelude.{◌≡◌, ◌≤◌, ◌-◌, ◌*◌, ◌++◌, ◌∷◌, ℕ, Bool, List, [], map, filter, true, false, codes};
+ghost use Rattle.std.specs.Prelude.{length, sum, sum_by, Some, None, MatchOption, IfSome, Ok, Err};
 ghost use Rattle.std.specs.List.{AllByRecursion, count_by};
 ghost use Rattle.mf_base.specs.declared.fault.Fault.{Fault};
 ghost use Rattle.mf_base.specs.declared.fault.Fault.TheVariants.{F2, F4, F7, F8};
@@ -267,10 +267,10 @@ pub fn worked_changes()
     ensures no_journal { list_seen (λ text. text) (Changes 0) 2 2 small ≡ Err F4 }
 {}
 
-/// Takings, worked out by hand: which lines of the small institution's journal are of office 2 and of a day; what a line's
-/// text asks; what requests on its loans move, and what nothing moves; a fee above the principal, which comes in, and a
-/// refund; and what is told of movements by who sent them, in the order of their first. F4 to somebody beside, and where
-/// no journal is kept.
+/// Takings, worked out by hand: which lines of the small institution's journal are of office 2 and of a day; what a
+/// line's text asks; what requests on its loans move, and what nothing moves; a fee above the principal, which comes
+/// in, and a refund; and what is told of movements by who sent them, in the order of their first. F4 to somebody
+/// beside, and where no journal is kept.
 pub fn worked_takings()
     ensures of_day { filter (is_of_day 2 worked_day) lines_taken ≡ lines_of_the_day }
     ensures asked { request_of (codes "POST") (repaying worked_day).path (repaying worked_day).body

@@ -9,7 +9,7 @@ use Rattle.mf_store_schema.specs.declared.versions.Version.TheVariants.{First, S
 use Rattle.mf_store_sound.specs.Held.{Rises}
 use Rattle.mf_store_audit.specs.Differences.{AreDifferences, Differ}
 use Rattle.mf_store_audit.specs.Findings.{AreDiffering, AreOfAccounts, AreOfRest, Breaks, OfReplay, or_unsound}
-use Rattle.mf_store_audit.specs.Findings.{told_of}
+use Rattle.mf_store_audit.specs.Findings.{account_told}
 use Rattle.mf_store_audit.specs.Keys.{instalment_key, share_key}
 use Rattle.mf_store_audit.specs.declared.accounts.AccountTable.{AccountTable}
 use Rattle.mf_store_audit.specs.declared.accounts.AccountTable.TheVariants.{Instalments, Shares}
@@ -31,10 +31,10 @@ differences_given {R} by key made stored given theirs keys total made_is stored_
 module _ (v : Version) (today : ℕ) (lists : Lists) where
   -- what is told of a table of accounts
   abbrev pub Told : AccountTable → List RowKey → List Finding → Type 0
-  Told table keys found = AllByRecursion (λ f. (key : RowKey) × Contains keys key × (f ≡ told_of table key)) found
+  Told table keys found = AllByRecursion (λ f. (key : RowKey) × Contains keys key × (f ≡ account_told table key)) found
 
   each_told : (table : AccountTable) (keys : List RowKey) → ((key : RowKey) → Contains keys key
-      → Breaks v today lists (told_of table key)) → (found : List Finding) → Told table keys found
+      → Breaks v today lists (account_told table key)) → (found : List Finding) → Told table keys found
       → AllByRecursion (Breaks v today lists) found
   each_told table keys is [] told = tt
   each_told table keys is (f ∷ fs) ((key, there, f_is), later) =

@@ -203,8 +203,8 @@ module _ {R : Type 0} (key : R → ℕ × ℕ × ℕ) (made stored : List R) whe
 
     back : (at : RowKey) → Contains last at → Differ key made stored at
     back at there = elim (Contains-append_cases first second at (subst (λ l. Contains l at) all_is
-        (Contains-permutation ordered more at (IsPermutation-sym more ordered moved) (Contains-from_dedup same ordered at
-        (subst (λ l. Contains l at) last_is there))))) [
+        (Contains-permutation ordered more at (IsPermutation-sym more ordered moved)
+        (Contains-from_dedup same ordered at (subst (λ l. Contains l at) last_is there))))) [
           | inl a ↦ inl (of_all (Lacks key made stored) first at each_first a)
           | inr b ↦ inr (of_all (Lacks key stored made) second at each_second b)
         ]

@@ -106,16 +106,16 @@ abbrev pub found_in_rows : Version → ℕ → Lists → List (List Finding → 
 found_in_rows v today lists = found_in_catalogue v lists ++ (found_in_offices lists ++ found_in_loans today lists)
 
 -- what is told of a row of accounts, by its key
-abbrev pub told_of : AccountTable → RowKey → Finding
-told_of Instalments key = finding.Instalment key
-told_of Shares key = finding.Share key
+abbrev pub account_told : AccountTable → RowKey → Finding
+account_told Instalments key = finding.Instalment key
+account_told Shares key = finding.Share key
 
 -- what is found of the rows of accounts: each instalment, and the shares of each entry, that are not what replaying
 -- gives
 pub record AreDiffering (v : Version) (lists : Lists) (found : List Finding) : Type 0 where
   pub instalments : List RowKey
   pub shares : List RowKey
-  pub found_are : found ≡ map (told_of Instalments) instalments ++ map (told_of Shares) shares
+  pub found_are : found ≡ map (account_told Instalments) instalments ++ map (account_told Shares) shares
   pub instalments_are :
       OfReplay v lists (λ made. AreDifferences instalment_key made.instalments lists.instalments instalments)
   pub shares_are : OfReplay v lists (λ made. AreDifferences share_key made.shares lists.shares shares)

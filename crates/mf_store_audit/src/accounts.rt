@@ -8,7 +8,7 @@ ghost use Rattle.mf_base.specs.declared.fault.Fault.TheVariants.{F20};
 ghost use Rattle.mf_store_schema.specs.Rows.{by_instalment, by_share};
 ghost use Rattle.mf_store_sound.specs.Held.{Rises};
 ghost use Rattle.mf_store_audit.specs.Differences.{AreDifferences, Lacks, row_key};
-ghost use Rattle.mf_store_audit.specs.Findings.{AreOfAccounts, Breaks, told_of};
+ghost use Rattle.mf_store_audit.specs.Findings.{AreOfAccounts, Breaks, account_told};
 ghost use Rattle.mf_store_audit.specs.declared.finding.Finding.{Finding};
 ghost use Rattle.mf_store_audit.specs.declared.finding.RowKey.{RowKey};
 
@@ -122,7 +122,7 @@ enum AccountTable {
 impl AccountTable {
     /// What is told of a row of the table, by its key.
     fn told(self, key: RowKey) -> Finding
-        ensures { result ≡ told_of self key }
+        ensures { result ≡ account_told self key }
     {
         match self {
             AccountTable::Instalments => Finding::Instalment { key },
@@ -140,9 +140,9 @@ fn add_told(
     findings: &mut Vec<Finding>,
 ) -> Result<(), Fault>
     ensures all { OnOk result (all ≡ true
-        → findings.new.items ≡ findings.old.items ++ map (told_of table) keys.now) }
+        → findings.new.items ≡ findings.old.items ++ map (account_told table) keys.now) }
     ensures each { OnOk result ((found : List Finding) × (findings.new.items ≡ findings.old.items ++ found)
-        × AllByRecursion (λ f. (key : RowKey) × Contains keys.now key × (f ≡ told_of table key)) found) }
+        × AllByRecursion (λ f. (key : RowKey) × Contains keys.now key × (f ≡ account_told table key)) found) }
     ensures one { OnOk result (all ≡ false → length findings.old.items ≤ 1 → length findings.new.items ≤ 1) }
     ensures gives_up { IfErr result (λ fault. fault ≡ F20) }
 {

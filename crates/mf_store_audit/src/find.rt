@@ -25,13 +25,6 @@ use std::alloc::Global;
 /// The number of the head office.
 const HEAD: u32 = 1;
 
-/// The last day that can be entered.
-fn last_day() -> Day
-    ensures { result ≡ last_entered_day }
-{
-    Day::parse(b"2099-12-31").unwrap()
-}
-
 /// The business day that the tables tell; where they tell none, the last that can be entered, so that no day is after
 /// it.
 fn today_of(version: Version, tables: &Tables) -> Day
@@ -41,7 +34,7 @@ fn today_of(version: Version, tables: &Tables) -> Day
 {
     match business_day(version.number(), &tables.meta) {
         Some(today) => today,
-        None => last_day(),
+        None => Day::last_entered(),
     }
 }
 

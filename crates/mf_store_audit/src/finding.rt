@@ -412,8 +412,8 @@ impl Flaws for ReceiptFlaw {
     }
 }
 
-/// The loan of a row of an account, and the number of its instalment or of its entry. Their order is by office, loan and
-/// number.
+/// The loan of a row of an account, and the number of its instalment or of its entry. Their order is by office, loan
+/// and number.
 #[derive(Clone, Copy, Debug, PartialEq, Eq, PartialOrd, Ord)]
 pub struct RowKey {
     pub office: u32,

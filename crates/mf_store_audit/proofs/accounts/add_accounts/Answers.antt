@@ -7,7 +7,7 @@ use Rattle.mf_store_schema.specs.declared.versions.Version.TheVariants.{First}
 use Rattle.mf_store_sound.proofs.RiseLemmas.{instalments_rise, shares_rise}
 use Rattle.mf_store_values.specs.Flat.{tables_of}
 use Rattle.mf_store_audit.specs.Differences.{AreDifferences}
-use Rattle.mf_store_audit.specs.Findings.{OfReplay, told_of}
+use Rattle.mf_store_audit.specs.Findings.{OfReplay, account_told}
 use Rattle.mf_store_audit.specs.Keys.{instalment_key, share_key}
 use Rattle.mf_store_audit.specs.declared.accounts.AccountTable.TheVariants.{Instalments, Shares}
 use Rattle.mf_store_audit.specs.declared.finding.RowKey.{RowKey}
@@ -51,9 +51,10 @@ returns-clause-every c = on_ok_weaker c.add_told-2.result (λ told whole.
     of_accounts c.args.version c.args.tables.now c.add_told-2.new.findings.items apart (record {
       instalments = c.in_ok-keys.keys.items;
       shares = c.in_ok-keys-2.keys.items;
-      found_are = told whole ∙ (λ t. first t ++ map (told_of Shares) c.deref-6.result.now)
-          ∙ (λ t. (c.requires t ++ map (told_of Instalments) c.deref-3.result.now) ++ map (told_of Shares)
-          c.deref-6.result.now) ∙ (λ t. map (told_of Instalments) (c.deref-3.ensures.value t) ++ map (told_of Shares)
+      found_are = told whole ∙ (λ t. first t ++ map (account_told Shares) c.deref-6.result.now)
+          ∙ (λ t. (c.requires t ++ map (account_told Instalments) c.deref-3.result.now) ++ map (account_told Shares)
+          c.deref-6.result.now) ∙ (λ t. map (account_told Instalments) (c.deref-3.ensures.value t)
+          ++ map (account_told Shares)
           (c.deref-6.ensures.value t));
       instalments_are = instalments_are c;
       shares_are = shares_are c;

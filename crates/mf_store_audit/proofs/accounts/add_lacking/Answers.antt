@@ -18,8 +18,8 @@ loop-row-preserved g c =
     let row = c.row-item.result in
     elim c.if-not-is_among.branch [
       | then-not-is_among+in_ok-push w ↦
-          one_lacking g.T.Keyed.key InOrder c.args.rows.now c.args.others.now c.args.keys.now.items c.loop-row.keys.items
-          c.if-not-is_among.keys.items place row c.loop-row-test.true c.row-item.is
+          one_lacking g.T.Keyed.key InOrder c.args.rows.now c.args.others.now c.args.keys.now.items
+          c.loop-row.keys.items c.if-not-is_among.keys.items place row c.loop-row-test.true c.row-item.is
           (λ order there. true≢false (sym (c.is_among.ensures.every order.0 order.1 there) ∙ w.if-not-is_among.true))
           (ap (λ (v : Vec RowKey Global). v.items) w.keys-is ∙ (w.in_ok-push.ensures {u = tt}).items
           ∙ (λ t. c.loop-row.keys.items ++ w.row_key.ensures t ∷ [])) c.loop-row.invariant

@@ -2,7 +2,7 @@ use Rattle.std.proofs.Common.{◌≡◌, ◌∙◌, ◌++◌, [], ◌∷◌, fal
 use Rattle.std.specs.Vec.{vec_len}
 use Rattle.std.proofs.lemmas.Bool.Decides.{nat_tests}
 use Rattle.std.proofs.lemmas.List.{get_or_default}
-use Rattle.mf_store_audit.specs.Findings.{told_of}
+use Rattle.mf_store_audit.specs.Findings.{account_told}
 use Rattle.mf_store_audit.specs.declared.finding.RowKey.{RowKey}
 use Rattle.mf_store_audit.proofs.DifferenceLemmas.{one_told}
 use Rattle.mf_store_audit.proofs.accounts.add_told.Goals as goal
@@ -22,7 +22,7 @@ loop-key-preserved c =
     let keys = c.args.keys.now in
     let blank : RowKey = record { office = 0; loan = 0; number = 0 } in
     let key = get_or keys c.loop-key.key-index blank in
-    one_told (told_of c.args.table) c.args.all keys c.args.findings.now.items c.loop-key.findings.items
+    one_told (account_told c.args.table) c.args.all keys c.args.findings.now.items c.loop-key.findings.items
     c.push.new.self.items c.loop-key.key-index key c.loop-key-test.true
     (get_or_default keys c.loop-key.key-index blank key c.loop-key-test.true)
     ((c.in_ok-push.ensures {u = tt}).items ∙ (λ t. c.loop-key.findings.items ++ c.told.ensures t ∷ [])) none

@@ -41,8 +41,8 @@ returns-clause-added c = on_ok_weaker c.add_found-3.result (λ last today.
     (λ place flaw at. subst (λ (n : ℕ). IsAt (λ before. BreaksMeta n flaw) place meta) number at) (λ up. tt)) in
     let of_charges = adds_found Is All InOrder charge_flaws BreaksCharge finding.Charge charges (Unit {0}) first second
     (c.in_ok-add_found-2.ensures {u = tt}).added (λ place flaw at. at) (λ up. tt) in
-    let of_products = adds_found Is All InOrder product_flaws (BreaksProduct charges) finding.Product products (Unit {0})
-    second third last (λ place flaw at. at) (λ up. tt) in
+    let of_products = adds_found Is All InOrder product_flaws (BreaksProduct charges) finding.Product products
+    (Unit {0}) second third last (λ place flaw at. at) (λ up. tt) in
     let metas : Parts =
     AreFoundIn meta_flaws (λ flaw before. BreaksMeta (number_of v) flaw) finding.Meta meta ∷ [] in
     let charged : Parts = AreFoundIn charge_flaws BreaksCharge finding.Charge charges ∷ [] in

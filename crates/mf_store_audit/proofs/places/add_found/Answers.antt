@@ -27,5 +27,6 @@ loop-place-preserved g c =
       | in_default w ↦
           more (λ one. w.in_default.is)
           (ap (λ (v : Vec Finding Global). v.items) w.findings-is ∙ sym (append-nil items)
-          ∙ (λ t. items ++ told_at g.R.Flaw.Flaws.finding c.loop-place.place (sym w.in_default.is t))) c.loop-place.invariant
+          ∙ (λ t. items ++ told_at g.R.Flaw.Flaws.finding c.loop-place.place (sym w.in_default.is t)))
+          c.loop-place.invariant
     ]

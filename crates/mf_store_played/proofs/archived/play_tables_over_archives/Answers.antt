@@ -24,5 +24,6 @@ returns-in-Ok-Some-clause-answer g c clean its archives =
     let same = (c.read_journal.ensures.kept).same early (c.in-Ok-Some.ensures.open early) its in
     archived_answer_of_one c.args.archives.now old.now.trees c.in-Ok-Some.journal
     (at_some c.in-Ok-Some.field-0 _ c.in-Ok-Some.journal c.in-Ok-Some.field-0-is (c.in-Ok-Some.ensures.only early its))
-    c.play_archived.result (archived_answer_before c.args.archives.now old.now mid.now same c.in-Ok-Some.journal c.play_archived.result
-    (c.play_archived.ensures.answer clean (subst (λ (d : Database). IsThird d.schema) (sym same) its) archives))
+    c.play_archived.result (archived_answer_before c.args.archives.now old.now mid.now same c.in-Ok-Some.journal
+    c.play_archived.result (c.play_archived.ensures.answer clean
+    (subst (λ (d : Database). IsThird d.schema) (sym same) its) archives))

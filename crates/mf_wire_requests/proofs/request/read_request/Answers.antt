@@ -51,7 +51,8 @@ request_at-requires-2 c = parts_text c.in-Some.found c.args.path.now (sym c.is_a
 
 pub returns-clause-ok : goal.returns-clause-ok
 returns-clause-ok c =
-    gives_ok c.args.body.now (request_at c.in-Some-endpoint_of.endpoint (parts_of_params c.in-Some.found.params) c.args.body.now)
+    gives_ok c.args.body.now
+    (request_at c.in-Some-endpoint_of.endpoint (parts_of_params c.in-Some.found.params) c.args.body.now)
     c.request_at-2.result _
     (on_endpoint c.args.method.now c.args.path.now c.args.body.now (matched_route c.in-Some.found) c.method_of.result
     c.in-Some-endpoint_of.endpoint (parts_of_params c.in-Some.found.params) c.in-Some.ensures.route
@@ -61,7 +62,8 @@ returns-clause-ok c =
 
 pub returns-clause-err : goal.returns-clause-err
 returns-clause-err c =
-    gives_err c.args.body.now (request_at c.in-Some-endpoint_of.endpoint (parts_of_params c.in-Some.found.params) c.args.body.now)
+    gives_err c.args.body.now
+    (request_at c.in-Some-endpoint_of.endpoint (parts_of_params c.in-Some.found.params) c.args.body.now)
     c.request_at-2.result _
     (on_endpoint c.args.method.now c.args.path.now c.args.body.now (matched_route c.in-Some.found) c.method_of.result
     c.in-Some-endpoint_of.endpoint (parts_of_params c.in-Some.found.params) c.in-Some.ensures.route
