@@ -13,7 +13,7 @@ use Rattle.mf_store_told.specs.Told.{TellsRequests}
 use Rattle.mf_store_sound.specs.Held.{CanBeHeld, DoRise, KeepsJournalAt}
 use Rattle.mf_store_sound.proofs.JudgedLemmas.{can_be_held, holds_sound, rows_are}
 use Rattle.mf_store_sound.proofs.SchemaLemmas.{one_version}
-use Rattle.mf_store_audit.specs.Audits.{FindsSound, IsAuditOfRows, IsAuditOf, IsWithJournal, HoldsInAt, HoldsNone}
+use Rattle.mf_store_audit.specs.Audits.{AreSuspectsOf, FindsSound, IsAuditOfRows, IsAuditOf, IsWithJournal, HoldsInAt, HoldsNone}
 use Rattle.mf_store_audit.specs.declared.audits.Audit.{Audit}
 use Rattle.mf_store_audit.specs.declared.audits.Audit.TheVariants.{NoTables, OtherTables, Sound, Unsound, Unreadable}
 use Rattle.mf_store_audit.specs.declared.audits.Audit.TheVariants as audit
@@ -42,7 +42,7 @@ module _ (db : Database) (v : Version) (ours : IsOfVersion v db.schema) where
         → IsAuditOfRows v tables a → IsAuditOf db a
     of_rows keeps NoTables kept told = absurd told
     of_rows keeps OtherTables kept told = absurd told
-    of_rows keeps (Sound w sums) kept told =
+    of_rows keeps (Sound w rows sums suspects) kept told =
         let its = told.1 in
         let journal = kept tt in
         let found = holds_sound v db.trees tables keeps (record {
@@ -53,12 +53,18 @@ module _ (db : Database) (v : Version) (ours : IsOfVersion v db.schema) where
         let whole : Institution = record its.institution { journal = journal.0 } in
         let holds = subst (HoldsAt v db.trees) (rows_are v db.trees tables only found.institution found.holds
         ∙ sym its.has ∙ sym (other_tables v its.institution journal.0)) found.holds in
-        record {
-          institution = whole;
-          sound = record { catalogue = its.sound.catalogue; tree = its.sound.tree; each = its.sound.each };
-          has = subst (λ (x : Version). HoldsInAt x db whole) (sym told.0) (ours, holds, journal.1, journal.2);
-          sums_are = its.sums_are;
-        }
+        let all : (lists : Lists) → HoldsAt v db.trees lists → rows ≡ lists_at v lists =
+        λ lists held. told.2 ∙ only lists held in (
+          record {
+            institution = whole;
+            sound = record { catalogue = its.sound.catalogue; tree = its.sound.tree; each = its.sound.each };
+            has = subst (λ (x : Version). HoldsInAt x db whole) (sym told.0) (ours, holds, journal.1, journal.2);
+            sums_are = its.sums_are;
+          },
+          subst (λ (x : Version). IsOfVersion x db.schema × ((lists : Lists) → HoldsAt x db.trees lists
+              → rows ≡ lists_at x lists)) (sym told.0) (ours, all),
+          subst (λ (l : Lists). AreSuspectsOf l suspects.items) (sym told.2) told.3,
+        )
     of_rows keeps (Unsound w rows findings) kept told =
         let all : (lists : Lists) → HoldsAt v db.trees lists → rows ≡ lists_at v lists =
         λ lists held. told.1 ∙ only lists held in

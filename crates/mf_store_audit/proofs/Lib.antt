@@ -3,6 +3,7 @@ pub mod LoanFlawLemmas
 pub mod PlaceLemmas
 pub mod DifferenceLemmas
 pub mod EntryFlawLemmas
+mod SuspectLemmas
 pub mod AddLemmas
 pub mod AccountLemmas
 pub mod AddedLemmas

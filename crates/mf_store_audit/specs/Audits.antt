@@ -1,5 +1,5 @@
 -- What an audit says of rows, and of a database.
-use Rattle.std.specs.Prelude.{◌≡◌, ◌≢◌, ◌⊎◌, List, map, Option}
+use Rattle.std.specs.Prelude.{◌≡◌, ◌≢◌, ◌⊎◌, Bool, List, [], map, Option}
 use Rattle.sqlite.specs.Effect.{Database}
 use Rattle.sqlite.specs.Tree.{Trees}
 use Rattle.mf_model.specs.Institution.{Institution, JournalLine}
@@ -23,8 +23,10 @@ use Rattle.mf_store_sound.specs.Held.{KeepsJournalAt}
 use Rattle.mf_store_sound.specs.Schemas.{lists_at, tables_at}
 use Rattle.mf_store_audit.specs.Findings.{AllBreak, AreFindings, AreOfNone}
 use Rattle.mf_store_audit.specs.Sums.{sums_of_office}
+use Rattle.mf_store_audit.specs.Suspects.{AreSuspects, wanted_of}
 use Rattle.mf_store_audit.specs.declared.totals.OfficeSums.{OfficeSums}
 use Rattle.mf_store_audit.specs.Unread.{AreToldOfAll, AreUnread, tables_searched}
+use Rattle.mf_store_audit.specs.declared.finding.Finding.{Finding}
 use Rattle.mf_store_audit.specs.declared.audits.Audit.{Audit}
 use Rattle.mf_store_audit.specs.declared.audits.Audit.TheVariants.{NoTables, OtherTables, Sound, Unsound, Unreadable}
 use Rattle.mf_store_audit.specs.declared.audits.Audit.TheVariants as audit
@@ -38,11 +40,18 @@ pub record AreSumsOf (Has : Institution → Type 0) (sums : List OfficeSums) : T
   pub has : Has institution
   pub sums_are : map (sums_of_office institution.catalogue) institution.offices ≡ sums
 
+-- these are all suspect entries of the rows, or the first alone
+abbrev pub AreSuspectsOf : Lists → List Finding → Type 0
+AreSuspectsOf lists suspects =
+    (all : Bool) × (found : List Finding) × AreSuspects lists found × (suspects ≡ wanted_of all found)
+
 -- what is said of rows by the tables of a version
 abbrev pub IsAuditOfRows : Version → Lists → Audit → Type 0
 IsAuditOfRows v lists NoTables = ⊥
 IsAuditOfRows v lists OtherTables = ⊥
-IsAuditOfRows v lists (Sound version sums) = (version ≡ v) × AreSumsOf (λ i. tables_at v i ≡ lists) sums.items
+IsAuditOfRows v lists (Sound version tables sums suspects) =
+    (version ≡ v) × AreSumsOf (λ i. tables_at v i ≡ lists) sums.items × (tables ≡ lists)
+    × AreSuspectsOf lists suspects.items
 IsAuditOfRows v lists (Unsound version tables findings) =
     (version ≡ v) × (tables ≡ lists) × AreOfNone v lists × AllBreak v lists findings.items
 IsAuditOfRows v lists (Unreadable version unread) = ⊥
@@ -86,7 +95,8 @@ pub record KeepsOnly (found : Journal) (trees : Trees) : Type 0 where
 abbrev pub IsAuditOf : Database → Audit → Type 0
 IsAuditOf db NoTables = db.schema ≡ no_schema
 IsAuditOf db OtherTables = (db.schema ≢ no_schema) × (¬ IsKnown db.schema)
-IsAuditOf db (Sound version sums) = AreSumsOf (HoldsInAt version db) sums.items
+IsAuditOf db (Sound version tables sums suspects) =
+    AreSumsOf (HoldsInAt version db) sums.items × AreAllHeld version db tables × AreSuspectsOf tables suspects.items
 IsAuditOf db (Unsound version tables findings) =
     HoldsNone db × AreAllHeld version db tables × AllBreak version tables findings.items
 IsAuditOf db (Unreadable version unread) =
@@ -97,17 +107,26 @@ IsAuditOf db (audit.BrokenJournal broken) = IsOfVersion Third db.schema × Holds
 abbrev pub FindsSound : Audit → Type 0
 FindsSound NoTables = ⊥
 FindsSound OtherTables = ⊥
-FindsSound (Sound version sums) = Unit {0}
+FindsSound (Sound version tables sums suspects) = Unit {0}
 FindsSound (Unsound version tables findings) = ⊥
 FindsSound (Unreadable version unread) = ⊥
 FindsSound (audit.BrokenJournal broken) = ⊥
 
+-- an audit says that it found a sound institution without a suspect entry
+abbrev pub FindsNoSuspect : Audit → Type 0
+FindsNoSuspect NoTables = ⊥
+FindsNoSuspect OtherTables = ⊥
+FindsNoSuspect (Sound version tables sums suspects) = suspects.items ≡ []
+FindsNoSuspect (Unsound version tables findings) = ⊥
+FindsNoSuspect (Unreadable version unread) = ⊥
+FindsNoSuspect (audit.BrokenJournal broken) = ⊥
+
 -- an audit of a database tells all that is found: of rows that no sound institution has, and of such as no record can
--- hold
+-- hold; and which entries of sound ones are suspect
 abbrev pub TellsAll : Database → Audit → Type 0
 TellsAll db NoTables = Unit {0}
 TellsAll db OtherTables = Unit {0}
-TellsAll db (Sound version sums) = Unit {0}
+TellsAll db (Sound version tables sums suspects) = AreSuspects tables suspects.items
 TellsAll db (Unsound version tables findings) = AreFindings version tables findings.items
 TellsAll db (Unreadable version unread) = AreToldOfAll db (tables_searched version) unread.items
 TellsAll db (audit.BrokenJournal broken) = Unit {0}

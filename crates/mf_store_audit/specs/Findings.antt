@@ -23,6 +23,7 @@ use Rattle.mf_store_audit.specs.Kinds.{product_flaws, receipt_flaws, staff_flaws
 use Rattle.mf_store_audit.specs.Loans.{BreaksLoan}
 use Rattle.mf_store_audit.specs.Offices.{is_office, BreaksOffice, BreaksStaff, BreaksClient}
 use Rattle.mf_store_audit.specs.Places.{AreFoundIn, AreInTurn, IsAt}
+use Rattle.mf_store_audit.specs.Suspects.{IsSuspect}
 use Rattle.mf_store_audit.specs.declared.accounts.AccountTable.{AccountTable}
 use Rattle.mf_store_audit.specs.declared.accounts.AccountTable.TheVariants.{Instalments, Shares}
 use Rattle.mf_store_audit.specs.declared.finding.Finding.{Finding}
@@ -44,7 +45,7 @@ abbrev pub OfReplay : Version → Lists → (Lists → Type 0) → Type 0
 OfReplay v lists Holds = (i : Institution) → IsSound i → tables_under (number_of v) i ≡ without_accounts lists
     → DoRise lists → Holds (tables_of i)
 
--- the row at the finding's place breaks its condition, on a business day and by the tables of a version
+-- the row at the finding's place breaks its condition, or is suspect, on a business day and by the tables of a version
 abbrev pub Breaks : Version → ℕ → Lists → Finding → Type 0
 Breaks v today lists finding.MetaRows = length lists.meta ≢ 1
 Breaks v today lists (finding.Meta place flaw) = IsAt (λ before. BreaksMeta (number_of v) flaw) place lists.meta
@@ -62,6 +63,8 @@ Breaks v today lists (finding.Receipt place flaw) = IsAt (BreaksReceipt lists.en
 Breaks v today lists (finding.Instalment key) =
     OfReplay v lists (λ made. Differ instalment_key made.instalments lists.instalments key)
 Breaks v today lists (finding.Share key) = OfReplay v lists (λ made. Differ share_key made.shares lists.shares key)
+Breaks v today lists (finding.Suspect place doubt) =
+    IsAt (λ before. IsSuspect lists.offices lists.staff doubt) place lists.entries
 Breaks v today lists finding.Unsound = AreOfNone v lists
 
 -- each finding is one, on the business day of the tables

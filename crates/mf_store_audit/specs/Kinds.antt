@@ -14,6 +14,8 @@ use Rattle.mf_store_audit.specs.declared.finding.ClientFlaw.{ClientFlaw}
 use Rattle.mf_store_audit.specs.declared.finding.ClientFlaw.TheVariants as client
 use Rattle.mf_store_audit.specs.declared.finding.LoanFlaw.{LoanFlaw}
 use Rattle.mf_store_audit.specs.declared.finding.LoanFlaw.TheVariants as loan
+use Rattle.mf_store_audit.specs.declared.finding.Doubt.{Doubt}
+use Rattle.mf_store_audit.specs.declared.finding.Doubt.TheVariants as doubt
 use Rattle.mf_store_audit.specs.declared.finding.EntryFlaw.{EntryFlaw}
 use Rattle.mf_store_audit.specs.declared.finding.EntryFlaw.TheVariants as entry
 use Rattle.mf_store_audit.specs.declared.finding.ReceiptFlaw.{ReceiptFlaw}
@@ -64,3 +66,7 @@ entry_flaws =
 -- the conditions of a row of a receipt
 abbrev pub receipt_flaws : List ReceiptFlaw
 receipt_flaws = receipt.Order ∷ receipt.Entry ∷ []
+
+-- what makes an entry of sound rows suspect
+abbrev pub doubts : List Doubt
+doubts = doubt.Office ∷ doubt.Role ∷ []

@@ -6,6 +6,7 @@ pub mod Catalogue
 pub mod Offices
 pub mod Loans
 pub mod Entries
+pub mod Suspects
 pub mod Findings
 pub mod Sums
 pub mod OfficeSums

@@ -16,6 +16,7 @@ use crate::finding::Finding;
 use crate::journal::{BrokenJournal, audit_journal};
 use crate::searched::unread_at;
 use crate::sums_by_office::office_sums;
+use crate::suspects::suspects;
 use crate::totals::OfficeSums;
 use crate::unread::Unread;
 use mf_base::Fault;
@@ -31,10 +32,13 @@ pub enum Audit {
     NoTables,
     /// They are others than this program makes.
     OtherTables,
-    /// They hold a sound institution, by the tables of this version: what the rows of its offices come to.
+    /// They hold a sound institution, by the tables of this version: the rows, what those of its offices come to, and
+    /// which entries are suspect.
     Sound {
         version: Version,
+        tables: Tables,
         sums: Vec<OfficeSums>,
+        suspects: Vec<Finding>,
     },
     /// They hold the rows of no sound institution: the rows, and those of them that break a condition.
     Unsound {
@@ -51,7 +55,7 @@ pub enum Audit {
     BrokenJournal(BrokenJournal),
 }
 
-/// An audit of rows by the tables of a version: of all that break a condition, or of the first alone.
+/// An audit of rows by the tables of a version: of all that break a condition or are suspect, or of the first alone.
 fn audit_rows(alloc: Global, version: Version, tables: Tables, all: bool) -> Result<Audit, Fault>
     ensures exact { IfOk result (IsAuditOfRows version tables) }
     ensures every { all ≡ true → (db : Database) → IfOk result (TellsAll db) }
@@ -66,7 +70,16 @@ fn audit_rows(alloc: Global, version: Version, tables: Tables, all: bool) -> Res
         });
     }
     let sums = office_sums(alloc, &tables)?;
-    Ok(Audit::Sound { version, sums })
+    let mut suspects = suspects(alloc, &tables)?;
+    if !all {
+        suspects.truncate(1);
+    }
+    Ok(Audit::Sound {
+        version,
+        tables,
+        sums,
+        suspects,
+    })
 }
 
 /// An audit of the tables of a connection that has those of a version, whatever rows stand there.
@@ -102,7 +115,7 @@ fn audit_known<S: Alter, P: Progress>(
 }
 
 /// Audits the tables of a connection, whatever tables and rows stand there: tells each row that breaks a condition, or
-/// the first alone; and where there are rows that no record can hold, these in their place. It changes nothing. The
+/// is suspect where none does, or the first alone; and where there are rows that no record can hold, these in their place. It changes nothing. The
 /// error is F20, out of memory or a failure of the disk.
 pub fn audit_tables<S: Alter, P: Progress>(
     alloc: Global,

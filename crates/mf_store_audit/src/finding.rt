@@ -1,7 +1,7 @@
 //! The conditions of a sound institution, one kind each, by the row that breaks it.
 
 ghost use Rattle.mf_store_audit.specs.Kinds.{meta_flaws, charge_flaws, product_flaws, office_flaws, staff_flaws};
-ghost use Rattle.mf_store_audit.specs.Kinds.{client_flaws, loan_flaws, entry_flaws, receipt_flaws};
+ghost use Rattle.mf_store_audit.specs.Kinds.{client_flaws, doubts, loan_flaws, entry_flaws, receipt_flaws};
 ghost use Rattle.mf_store_audit.specs.declared.finding.Finding.TheVariants as finding;
 
 use crate::places::Flaws;
@@ -412,6 +412,29 @@ impl Flaws for ReceiptFlaw {
     }
 }
 
+/// What makes an entry of sound rows suspect. Nobody's office or role changes, so the program didn't write it.
+#[derive(Clone, Copy, Debug, PartialEq, Eq)]
+pub enum Doubt {
+    /// Whoever entered it can't see the loan: its office isn't theirs, nor below it.
+    Office,
+    /// The role of whoever entered it may not enter its kind.
+    Role,
+}
+
+impl Flaws for Doubt {
+    ghost all = { doubts };
+
+    ghost finding = { finding.Suspect };
+
+    fn all() -> &'static [Doubt] {
+        &[Doubt::Office, Doubt::Role]
+    }
+
+    fn finding(self, place: usize) -> Finding {
+        Finding::Suspect { place, doubt: self }
+    }
+}
+
 /// The loan of a row of an account, and the number of its instalment or of its entry. Their order is by office, loan
 /// and number.
 #[derive(Clone, Copy, Debug, PartialEq, Eq, PartialOrd, Ord)]
@@ -423,8 +446,8 @@ pub struct RowKey {
     pub number: u32,
 }
 
-/// A row that breaks a condition: by its table, its place there in the order of the key, counted from 0, and what is
-/// wrong.
+/// A row that breaks a condition, or is suspect: by its table, its place there in the order of the key, counted from 0,
+/// and what is wrong.
 #[derive(Clone, Copy, Debug, PartialEq, Eq)]
 pub enum Finding {
     /// The table `meta` has no row, or several.
@@ -445,6 +468,8 @@ pub enum Finding {
     Instalment { key: RowKey },
     /// The shares of the entry with this key are not those that replaying the loan's entries gives.
     Share { key: RowKey },
+    /// The entry at this place is suspect, though the rows are sound.
+    Suspect { place: usize, doubt: Doubt },
     /// No sound institution has these rows, although no row by itself breaks a condition.
     Unsound,
 }

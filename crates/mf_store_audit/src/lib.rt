@@ -24,13 +24,14 @@ mod searched;
 mod staff;
 mod sums_by_loan;
 mod sums_by_office;
+mod suspects;
 mod totals;
 mod unread;
 
 pub use audits::{Audit, audit_tables};
 pub use find::findings;
 pub use finding::{
-    ChargeFlaw, ClientFlaw, EntryFlaw, Finding, LoanFlaw, MetaFlaw, OfficeFlaw, ProductFlaw,
+    ChargeFlaw, ClientFlaw, Doubt, EntryFlaw, Finding, LoanFlaw, MetaFlaw, OfficeFlaw, ProductFlaw,
     ReceiptFlaw, RowKey, StaffFlaw,
 };
 pub use journal::BrokenJournal;

@@ -33,7 +33,7 @@ fn has_no_parent(offices: &[OfficeRow], office: &OfficeRow) -> bool
 }
 
 /// The first row of an office of this number.
-fn first_of(offices: &[OfficeRow], number: u32) -> Option<&OfficeRow>
+pub(crate) fn first_of(offices: &[OfficeRow], number: u32) -> Option<&OfficeRow>
     ensures { option_copied result ≡ office_row_in number offices.now }
 {
     offices.iter().find(|office| office.number == number)

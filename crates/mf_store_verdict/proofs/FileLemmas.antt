@@ -19,7 +19,7 @@ use Rattle.mf_store_journal.specs.Written.{KeepsJournalFrom}
 use Rattle.mf_store_sound.specs.Files.{ShowsFile}
 use Rattle.mf_store_sound.proofs.FileLemmas.{under, seen}
 use Rattle.mf_store_sound.proofs.SchemaLemmas.{no_views}
-use Rattle.mf_store_audit.specs.Audits.{IsAuditOf}
+use Rattle.mf_store_audit.specs.Audits.{IsAuditOf, TellsAll}
 use Rattle.mf_store_audit.specs.declared.audits.Audit.{Audit}
 use Rattle.mf_store_audit.specs.declared.audits.Audit.TheVariants.{NoTables, OtherTables, Sound, Unsound, Unreadable}
 use Rattle.mf_store_audit.specs.declared.audits.Audit.TheVariants as audit
@@ -32,7 +32,7 @@ use Rattle.mf_store_archived.specs.declared.archive.Archive.{Archive}
 use Rattle.mf_store_journal.specs.Rows.{journal_rows_in}
 use Rattle.mf_store_verdict.specs.Archives.{HoldsPart}
 use Rattle.mf_store_verdict.specs.Heads.{StandsSo, IsHeadOf, IsHeadOfFile}
-use Rattle.mf_store_verdict.specs.Verdict.{IsPlayOf, IsVerdictBy, IsFileVerdictBy}
+use Rattle.mf_store_verdict.specs.Verdict.{IsPlayOf, IsVerdictBy, IsFileVerdictBy, TellsAllOfFile}
 use Rattle.mf_store_verdict.specs.declared.verdict.Verdict.{Verdict}
 use Rattle.mf_store_verdict.proofs.PlayLemmas.{third_there}
 
@@ -60,12 +60,23 @@ module _ (image : Image) (s : State) (shows : ShowsFile image s) (trees : Trees)
   told_of : (audit : Audit) → IsAuditOf s.now audit → IsAuditOf held audit
   told_of NoTables told = subst (λ db. IsAuditOf db NoTables) (is_held no_schema refl told) told
   told_of OtherTables told = (λ none. told.0 (was_seen no_schema refl none), λ known. told.1 (as_known known))
-  told_of (Sound v sums) told = subst (λ db. IsAuditOf db (Sound v sums)) (known_is_held v told.has.0) told
+  told_of (Sound v rows sums suspects) told = subst (λ db. IsAuditOf db (Sound v rows sums suspects))
+      (known_is_held v told.0.has.0) told
   told_of (Unsound v rows findings) told = subst (λ db. IsAuditOf db (Unsound v rows findings))
       (known_is_held v told.1.0) told
   told_of (audit.BrokenJournal broken) told = subst (λ db. IsAuditOf db (audit.BrokenJournal broken))
       (known_is_held Third told.0) told
   told_of (Unreadable v unread) told = subst (λ db. IsAuditOf db (Unreadable v unread)) (known_is_held v told.0) told
+
+  -- all that is found of the tables is found of those that the file held
+  all_told_of : (audit : Audit) → IsAuditOf s.now audit → TellsAll s.now audit → TellsAll held audit
+  all_told_of NoTables is told = told
+  all_told_of OtherTables is told = told
+  all_told_of (Sound v rows sums suspects) is told = told
+  all_told_of (Unsound v rows findings) is told = told
+  all_told_of (audit.BrokenJournal broken) is told = told
+  all_told_of (Unreadable v unread) is told = subst (λ db. TellsAll db (Unreadable v unread)) (known_is_held v is.0)
+      told
 
   -- the play is of the tables that the file held
   play_of : (IsRight : Trees → Played → Type 0) (found : Audit) (played : Option Played) → IsAuditOf s.now found
@@ -103,6 +114,12 @@ module _ (image : Image) (s : State) (shows : ShowsFile image s) where
       audited = told_of image s shows trees k holds sound v.audit is.audited;
       played = play_of image s shows trees k holds sound IsRight v.audit v.played is.audited is.played;
     };
+  }
+
+module _ (image : Image) (s : State) (shows : ShowsFile image s) where
+  pub all_of_file : (v : Verdict) → IsAuditOf s.now v.audit → TellsAll s.now v.audit → TellsAllOfFile image v
+  all_of_file v is told = record {
+    tables = λ trees k holds sound. all_told_of image s shows trees k holds sound v.audit is told;
   }
 
 -- an archive that bytes hold is one that their connection shows

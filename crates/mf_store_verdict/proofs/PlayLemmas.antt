@@ -22,7 +22,8 @@ use Rattle.mf_store_verdict.specs.declared.verdict.Verdict.{Verdict}
 pub third_there : (db : Database) (found : Audit) → FindsJournal found → IsAuditOf db found → IsThird db.schema
 third_there db NoTables finds told = absurd finds
 third_there db OtherTables finds told = absurd finds
-third_there db (Sound version sums) finds told = subst (λ (v : Version). IsOfVersion v db.schema) finds told.has.0
+third_there db (Sound version tables sums suspects) finds told =
+    subst (λ (v : Version). IsOfVersion v db.schema) finds told.0.has.0
 third_there db (Unsound version tables findings) finds told = absurd finds
 third_there db (Unreadable version unread) finds told = absurd finds
 third_there db (audit.BrokenJournal broken) finds told = absurd finds

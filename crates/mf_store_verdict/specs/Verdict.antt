@@ -10,7 +10,7 @@ use Rattle.sqlite_wal.specs.Recovery.{Image}
 use Rattle.mf_model.specs.Institution.{Institution}
 use Rattle.mf_store.specs.Stands.{StandsFor}
 use Rattle.mf_store_schema.specs.declared.versions.Version.TheVariants.{Third}
-use Rattle.mf_store_audit.specs.Audits.{FindsSound, IsAuditOf}
+use Rattle.mf_store_audit.specs.Audits.{FindsNoSuspect, IsAuditOf, TellsAll}
 use Rattle.mf_store_audit.specs.declared.audits.Audit.{Audit}
 use Rattle.mf_store_audit.specs.declared.audits.Audit.TheVariants.{NoTables, OtherTables, Sound, Unsound, Unreadable}
 use Rattle.mf_store_audit.specs.declared.audits.Audit.TheVariants as audit
@@ -29,7 +29,7 @@ use Rattle.mf_store_verdict.specs.declared.verdict.Verdict.{Verdict}
 abbrev pub FindsJournal : Audit → Type 0
 FindsJournal NoTables = ⊥
 FindsJournal OtherTables = ⊥
-FindsJournal (Sound version sums) = version ≡ Third
+FindsJournal (Sound version tables sums suspects) = version ≡ Third
 FindsJournal (Unsound version tables findings) = ⊥
 FindsJournal (Unreadable version unread) = ⊥
 FindsJournal (audit.BrokenJournal broken) = ⊥
@@ -78,9 +78,9 @@ IsPassed (Some (Differs difference)) = ⊥
 IsPassed (Some (OtherCopy head)) = ⊥
 IsPassed (Some (Lacks gap)) = ⊥
 
--- the tables hold a sound institution, and its journal leads there, where it is played
+-- the tables hold a sound institution without a suspect entry, and its journal leads there, where it is played
 abbrev pub Passes : Verdict → Type 0
-Passes v = FindsSound v.audit × IsPassed v.played
+Passes v = FindsNoSuspect v.audit × IsPassed v.played
 
 -- the verdict is that of the database that a file held
 pub record IsFileVerdictBy (IsRight : Trees → Played → Type 0) (image : Image) (v : Verdict) : Type 0 where
@@ -98,3 +98,8 @@ IsFileVerdictFrom copied = IsFileVerdictBy (IsCopyAnswerOf copied)
 -- and where the lines of archives are played before its own
 abbrev pub IsFileVerdictOver : List Archive → Image → Verdict → Type 0
 IsFileVerdictOver archives = IsFileVerdictBy (IsArchivedAnswerOf archives)
+
+-- the verdict tells all that is found in the database that a file held
+pub record TellsAllOfFile (image : Image) (v : Verdict) : Type 0 where
+  pub tables : (trees : Trees) (k : Schema) → HoldsDatabase image trees → IsSound k trees
+      → TellsAll (record { schema = k; trees = trees }) v.audit

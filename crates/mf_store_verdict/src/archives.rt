@@ -1,6 +1,6 @@
 //! Archives that are read from bytes, and the verdict on a file whose journal's first lines they have.
 
-ghost use Rattle.std.specs.Prelude.{◌≡◌, List, IfOk, IfErr};
+ghost use Rattle.std.specs.Prelude.{◌≡◌, true, List, IfOk, IfErr};
 ghost use Rattle.mf_base.specs.declared.fault.Fault.TheVariants.{F20};
 ghost use Rattle.sqlite.specs.Files.{file_state, HoldsDatabase};
 ghost use Rattle.sqlite.specs.State.{HasCleanDisk};
@@ -11,7 +11,7 @@ ghost use Rattle.mf_model.specs.Institution.{JournalLine};
 ghost use Rattle.mf_store_archived.specs.Archives.{IsPart};
 ghost use Rattle.mf_store_archived.specs.Joining.{AreArchives};
 ghost use Rattle.mf_store_verdict.specs.Archives.{HoldsPart};
-ghost use Rattle.mf_store_verdict.specs.Verdict.{IsFileVerdictOver};
+ghost use Rattle.mf_store_verdict.specs.Verdict.{IsFileVerdictOver, TellsAllOfFile};
 
 use crate::verdict::{Verdict, audit_and_play_over};
 use mf_base::Fault;
@@ -55,6 +55,8 @@ pub fn audit_over_archives_with<S: Start, P: Progress>(
 ) -> Result<(Verdict, Connection<FileStore<FileFrom<S>>>), FileFinding>
     ensures exact { IfOk result (λ seen. HasCleanDisk (file_state seen.1) → AreArchives archives.now
         → IsFileVerdictOver archives.now (image_at S.Start) seen.0) }
+    ensures every { all ≡ true → IfOk result (λ seen. HasCleanDisk (file_state seen.1) → AreArchives archives.now
+        → TellsAllOfFile (image_at S.Start) seen.0) }
     ensures leaves { IfOk result (λ seen. HasCleanDisk (file_state seen.1) → (trees : Trees)
         → HoldsDatabase (image_at S.Start) trees
         → (left : Trees) → (file_state seen.1).may_leave left → left ≡ trees) }

@@ -1,6 +1,6 @@
 //! The verdict on a file, which holds after it what it held.
 
-ghost use Rattle.std.specs.Prelude.{◌≡◌, None, IfOk, IfErr};
+ghost use Rattle.std.specs.Prelude.{◌≡◌, None, true, IfOk, IfErr};
 ghost use Rattle.sqlite.specs.Files.{file_state, over_files, HoldsDatabase};
 ghost use Rattle.sqlite.specs.State.{HasCleanDisk};
 ghost use Rattle.sqlite.specs.Tree.{Trees};
@@ -12,7 +12,7 @@ ghost use Rattle.mf_store_files.specs.Opened.{HoldsNoneSound};
 ghost use Rattle.mf_store_schema.specs.Writes.{Holds};
 ghost use Rattle.mf_store_schema.specs.declared.versions.Version.{Version};
 ghost use Rattle.mf_store_sound.specs.Held.{HoldsSoundAt};
-ghost use Rattle.mf_store_verdict.specs.Verdict.{IsVerdictOfFile, IsFileVerdictFrom};
+ghost use Rattle.mf_store_verdict.specs.Verdict.{IsVerdictOfFile, IsFileVerdictFrom, TellsAllOfFile};
 
 use crate::verdict::{Verdict, audit_and_play, audit_and_play_from};
 use mf_copied_files::copy_in_memory;
@@ -35,6 +35,8 @@ pub fn audit_file_with<S: Start, P: Progress>(
     progress: &mut P,
 ) -> Result<(Verdict, Connection<FileStore<FileFrom<S>>>), FileFinding>
     ensures exact { IfOk result (λ seen. HasCleanDisk (file_state seen.1) → IsVerdictOfFile (image_at S.Start) seen.0) }
+    ensures every { all ≡ true → IfOk result (λ seen. HasCleanDisk (file_state seen.1)
+        → TellsAllOfFile (image_at S.Start) seen.0) }
     ensures leaves { IfOk result (λ seen. HasCleanDisk (file_state seen.1) → (trees : Trees)
         → HoldsDatabase (image_at S.Start) trees
         → (left : Trees) → (file_state seen.1).may_leave left → left ≡ trees) }
@@ -71,6 +73,8 @@ fn audit_over_with<S: Start, P: Progress>(
 ) -> Result<(Verdict, Connection<FileStore<FileFrom<S>>>), FileFinding>
     ensures exact { IfOk result (λ seen. HasCleanDisk (file_state seen.1) → (copied : Institution)
         → StandsFor over_files copy copied → IsFileVerdictFrom copied (image_at S.Start) seen.0) }
+    ensures every { all ≡ true → IfOk result (λ seen. HasCleanDisk (file_state seen.1) → (copied : Institution)
+        → StandsFor over_files copy copied → TellsAllOfFile (image_at S.Start) seen.0) }
     ensures leaves { IfOk result (λ seen. HasCleanDisk (file_state seen.1) → (trees : Trees)
         → HoldsDatabase (image_at S.Start) trees
         → (left : Trees) → (file_state seen.1).may_leave left → left ≡ trees) }
@@ -105,6 +109,9 @@ pub fn audit_from_copy_with<S: Start, P: Progress>(
     ensures exact { IfOk result (λ seen. HasCleanDisk (file_state seen.1) → (v : Version) (trees : Trees)
         → HoldsDatabase (record { log = log.now; db = db.now }) trees → (held : HoldsSoundAt v trees)
         → IsFileVerdictFrom held.institution (image_at S.Start) seen.0) }
+    ensures every { all ≡ true → IfOk result (λ seen. HasCleanDisk (file_state seen.1) → (v : Version) (trees : Trees)
+        → HoldsDatabase (record { log = log.now; db = db.now }) trees → HoldsSoundAt v trees
+        → TellsAllOfFile (image_at S.Start) seen.0) }
     ensures leaves { IfOk result (λ seen. HasCleanDisk (file_state seen.1) → (trees : Trees)
         → HoldsDatabase (image_at S.Start) trees
         → (left : Trees) → (file_state seen.1).may_leave left → left ≡ trees) }

@@ -9,7 +9,7 @@ ghost use Rattle.sqlite.specs.State.{HasCleanDisk};
 ghost use Rattle.mf_model.specs.Institution.{Institution};
 ghost use Rattle.mf_store_schema.specs.Schemas.{IsUnchangedUnder};
 ghost use Rattle.mf_store_sound.specs.Told.{IsAny, HaveOwnRowids};
-ghost use Rattle.mf_store_audit.specs.Audits.{FindsSound, IsAuditOf, TellsAll};
+ghost use Rattle.mf_store_audit.specs.Audits.{FindsNoSuspect, IsAuditOf, TellsAll};
 ghost use Rattle.mf_store.specs.Stands.{StandsFor};
 ghost use Rattle.mf_store_verdict.specs.Verdict.{FindsJournal, IsPassed, IsRightBy, Passes, Shows};
 ghost use Rattle.mf_store_verdict.specs.Verdict.{IsVerdictBy, IsVerdictFrom, IsVerdictOf, IsVerdictOver};
@@ -33,12 +33,12 @@ pub struct Verdict {
     pub played: Option<Played>,
 }
 
-/// Whether an audit found a sound institution.
-fn finds_sound(audit: &Audit) -> bool
-    ensures { IsTrue result ↔ FindsSound audit.now }
+/// Whether an audit found a sound institution without a suspect entry.
+fn finds_no_suspect(audit: &Audit) -> bool
+    ensures { IsTrue result ↔ FindsNoSuspect audit.now }
 {
     match audit {
-        Audit::Sound { .. } => true,
+        Audit::Sound { suspects, .. } => suspects.is_empty(),
         _ => false,
     }
 }
@@ -65,11 +65,12 @@ fn is_passed(played: &Option<Played>) -> bool
     }
 }
 
-/// Whether the tables pass: they hold a sound institution, and its journal leads there, where it is played.
+/// Whether the tables pass: they hold a sound institution without a suspect entry, and its journal leads there, where it
+/// is played.
 pub fn passes(verdict: &Verdict) -> bool
     ensures { IsTrue result ↔ Passes verdict.now }
 {
-    finds_sound(&verdict.audit) && is_passed(&verdict.played)
+    finds_no_suspect(&verdict.audit) && is_passed(&verdict.played)
 }
 
 /// The verdict by an audit that found a journal, and by what its play says.

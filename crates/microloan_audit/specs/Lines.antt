@@ -14,8 +14,8 @@ use Rattle.mf_store_audit.specs.declared.finding.Finding.{Finding}
 use Rattle.mf_store_audit.specs.declared.finding.Finding.TheVariants as finding
 use Rattle.mf_store_audit.specs.declared.finding.RowKey.{RowKey}
 use Rattle.microloan_audit.specs.Quoted.{quoted}
-use Rattle.microloan_audit.specs.Words.{charge_words, client_words, entry_words, loan_words, meta_words, not_replayed}
-use Rattle.microloan_audit.specs.Words.{office_words, product_words, receipt_words, staff_words}
+use Rattle.microloan_audit.specs.Words.{charge_words, client_words, doubt_words, entry_words, loan_words, meta_words}
+use Rattle.microloan_audit.specs.Words.{not_replayed, office_words, product_words, receipt_words, staff_words}
 
 -- a table, the key of its row, and what is said of it
 abbrev pub said_of : List ℕ → List ℕ → List ℕ → List ℕ
@@ -98,4 +98,5 @@ finding_line lists (finding.Receipt place flaw) =
     receipt_line (λ row. receipt_words flaw) place (slice_get lists.receipts place)
 finding_line lists (finding.Instalment key) = instalment_line key
 finding_line lists (finding.Share key) = share_line key
+finding_line lists (finding.Suspect place doubt) = entry_line (doubt_words doubt) place (slice_get lists.entries place)
 finding_line lists finding.Unsound = codes "no sound institution has these rows"

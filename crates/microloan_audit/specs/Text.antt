@@ -28,6 +28,14 @@ audit_line words = codes "audit: " ++ (words ++ codes "\n")
 abbrev pub findings_text : Lists → List Finding → List ℕ
 findings_text lists findings = flat_map (λ (f : Finding). audit_line (finding_line lists f)) findings
 
+-- a line of a suspect entry
+unfoldable pub suspect_line : List ℕ → List ℕ
+suspect_line words = codes "suspect: " ++ (words ++ codes "\n")
+
+-- a line for each suspect entry
+abbrev pub suspects_text : Lists → List Finding → List ℕ
+suspects_text lists suspects = flat_map (λ (f : Finding). suspect_line (finding_line lists f)) suspects
+
 -- a line for each row that no record can hold
 abbrev pub unread_lines : List Unread → List ℕ
 unread_lines unread = flat_map (λ (u : Unread). audit_line (unread_line u)) unread
@@ -41,17 +49,19 @@ unread_text (first ∷ later) = unread_lines (first ∷ later)
 abbrev pub journal_text : BrokenJournal → List ℕ
 journal_text broken = audit_line (journal_line broken)
 
--- what an audit prints with this last line: of a sound institution its sums and the line, else lines that begin with
--- `audit:`
+-- what an audit prints with this last line: of a sound institution its sums, the line, and a line for each suspect
+-- entry, else lines that begin with `audit:`
 abbrev pub text_ending : List ℕ → Audit → List ℕ
 text_ending last NoTables = audit_line (codes "the database has no tables")
 text_ending last OtherTables = audit_line (codes "the database has other tables than this program makes")
-text_ending last (Sound version sums) = sums_text (number_of version) sums.items last
+text_ending last (Sound version tables sums suspects) =
+    sums_text (number_of version) sums.items last ++ suspects_text tables suspects.items
 text_ending last (Unsound version tables findings) = findings_text tables findings.items
 text_ending last (Unreadable version unread) = unread_text unread.items
 text_ending last (audit.BrokenJournal broken) = journal_text broken
 
--- what an audit prints where no journal was played: of a sound institution its sums and the word `sound`
+-- what an audit prints where no journal was played: of a sound institution its sums, the word `sound`, and a line for
+-- each suspect entry
 abbrev pub audit_text : Audit → List ℕ
 audit_text = text_ending (codes "sound")
 

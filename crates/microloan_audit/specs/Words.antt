@@ -5,6 +5,7 @@ use Rattle.std.specs.Ordering.{int_eq}
 use Rattle.std.specs.Fmt.{signed_decimal}
 use Rattle.mf_model.specs.Institution.{item_numbered}
 use Rattle.mf_office.specs.Keys.{child_key}
+use Rattle.mf_store_schema.specs.declared.entries.EntryRow.{EntryRow}
 use Rattle.mf_store_schema.specs.declared.loans.LoanRow.{LoanRow}
 use Rattle.mf_store_schema.specs.declared.offices.OfficeRow.{OfficeRow}
 use Rattle.mf_store_schema.specs.declared.products.ProductRow.{ProductRow}
@@ -22,6 +23,8 @@ use Rattle.mf_store_audit.specs.declared.finding.ClientFlaw.{ClientFlaw}
 use Rattle.mf_store_audit.specs.declared.finding.ClientFlaw.TheVariants as client
 use Rattle.mf_store_audit.specs.declared.finding.LoanFlaw.{LoanFlaw}
 use Rattle.mf_store_audit.specs.declared.finding.LoanFlaw.TheVariants as loan
+use Rattle.mf_store_audit.specs.declared.finding.Doubt.{Doubt}
+use Rattle.mf_store_audit.specs.declared.finding.Doubt.TheVariants as doubt
 use Rattle.mf_store_audit.specs.declared.finding.EntryFlaw.{EntryFlaw}
 use Rattle.mf_store_audit.specs.declared.finding.EntryFlaw.TheVariants as entry
 use Rattle.mf_store_audit.specs.declared.finding.ReceiptFlaw.{ReceiptFlaw}
@@ -197,6 +200,11 @@ entry_words entry.Receipt = codes "its receipt is not the text of one"
 entry_words entry.Seal = codes "a write-off or refund that stands, and another standing entry comes after it"
 entry_words entry.Staff = codes "the member of staff who entered it is not there"
 entry_words entry.Unlisted = codes "its receipt is not among the receipts as this entry's"
+
+-- of a row of a suspect entry
+abbrev pub doubt_words : Doubt → EntryRow → List ℕ
+doubt_words doubt.Office row = row.staff ++ codes ", who entered it, can't see the loan"
+doubt_words doubt.Role row = row.staff ++ codes ", who entered it, may not enter this kind by their role"
 
 -- of a row of a receipt
 abbrev pub receipt_words : ReceiptFlaw → List ℕ

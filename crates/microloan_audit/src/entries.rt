@@ -1,10 +1,13 @@
 //! What is said of rows of entries and of receipts.
 
-ghost use Rattle.std.specs.Prelude.{◌≡◌};
+ghost use Rattle.std.specs.Prelude.{◌≡◌, string_bytes, IfOk, IsOkUnless};
 ghost use Rattle.microloan_audit.specs.Words as spec;
 
 use crate::catalogue::{NOT_NEXT, OUT_OF_ORDER};
-use mf_store_audit::{EntryFlaw, ReceiptFlaw};
+use mf_base::Fault;
+use mf_store_audit::{Doubt, EntryFlaw, ReceiptFlaw};
+use mf_store_schema::EntryRow;
+use std::alloc::Global;
 
 /// What is said of rows that replaying the entries does not give.
 pub(crate) const NOT_REPLAYED: &str = "not what replaying the entries gives";
@@ -33,6 +36,20 @@ pub(crate) fn words_of_entry(flaw: EntryFlaw) -> &'static str
             "a write-off or refund that stands, and another standing entry comes after it",
         EntryFlaw::Staff => "the member of staff who entered it is not there",
         EntryFlaw::Unlisted => "its receipt is not among the receipts as this entry's",
+    }
+}
+
+/// What is said of a row of a suspect entry.
+pub(crate) fn words_of_doubt(alloc: Global, row: &EntryRow, doubt: Doubt) -> Result<String, Fault>
+    ensures text { IfOk result (λ text. string_bytes text ≡ spec.doubt_words doubt row.now) }
+    ensures only { IsOkUnless result Fault.F20 }
+{
+    let staff = row.staff.as_str();
+    match doubt {
+        Doubt::Office => Ok(format!(in alloc; "{staff}, who entered it, can't see the loan")?),
+        Doubt::Role => Ok(format!(in alloc;
+            "{staff}, who entered it, may not enter this kind by their role"
+        )?),
     }
 }
 

@@ -7,14 +7,14 @@ ghost use Rattle.microloan_audit.specs.Quoted.{quoted};
 ghost use Rattle.microloan_audit.specs.Words as words;
 
 use crate::catalogue::{words_of_charge, words_of_meta, words_of_product};
-use crate::entries::{NOT_REPLAYED, words_of_entry, words_of_receipt};
+use crate::entries::{NOT_REPLAYED, words_of_doubt, words_of_entry, words_of_receipt};
 use crate::loans::words_of_loan;
 use crate::offices::{words_of_client, words_of_office, words_of_staff};
 use crate::quoted::quoted;
 use mf_base::Fault;
 use mf_store_audit::{
-    ChargeFlaw, ClientFlaw, EntryFlaw, Finding, LoanFlaw, OfficeFlaw, ProductFlaw, ReceiptFlaw,
-    RowKey, StaffFlaw,
+    ChargeFlaw, ClientFlaw, Doubt, EntryFlaw, Finding, LoanFlaw, OfficeFlaw, ProductFlaw,
+    ReceiptFlaw, RowKey, StaffFlaw,
 };
 use mf_store_sound::Tables;
 use std::alloc::Global;
@@ -47,6 +47,7 @@ pub(crate) fn finding_line(
         Finding::Receipt { place, flaw } => receipt_line(alloc, tables, place, flaw),
         Finding::Instalment { key } => instalment_line(alloc, key),
         Finding::Share { key } => share_line(alloc, key),
+        Finding::Suspect { place, doubt } => suspect_line(alloc, tables, place, doubt),
         Finding::Unsound => Ok(format!(in alloc; "no sound institution has these rows")?),
     }
 }
@@ -239,6 +240,21 @@ fn entry_line(
         Some(row) => {
             let key = entry_key(alloc, row.office, row.loan, row.seq)?;
             say(alloc, "entries", key.as_str(), words_of_entry(flaw))
+        }
+        None => no_row(alloc, "entries", place),
+    }
+}
+
+fn suspect_line(alloc: Global, tables: &Tables, place: usize, doubt: Doubt) -> Result<String, Fault>
+    ensures text { IfOk result (λ text. string_bytes text
+        ≡ spec.entry_line (words.doubt_words doubt) place (slice_get tables.now.entries place)) }
+    ensures only { IsOkUnless result Fault.F20 }
+{
+    match tables.entries.get(place) {
+        Some(row) => {
+            let key = entry_key(alloc, row.office, row.loan, row.seq)?;
+            let words = words_of_doubt(alloc, row, doubt)?;
+            say(alloc, "entries", key.as_str(), words.as_str())
         }
         None => no_row(alloc, "entries", place),
     }

@@ -18,8 +18,8 @@ use mf_store_sound::Tables;
 use mf_store_verdict::Verdict;
 use std::alloc::Global;
 
-/// What an audit prints where no journal was played: of a sound institution its sums and the word `sound`, else lines
-/// that begin with `audit:`. The error is F20: out of memory, or sums that are too great in all.
+/// What an audit prints where no journal was played: of a sound institution its sums, the word `sound` and a line for each
+/// suspect entry, else lines that begin with `audit:`. The error is F20: out of memory, or sums that are too great in all.
 pub fn audit_text(alloc: Global, audit: &Audit) -> Result<String, Fault>
     ensures text { IfOk result (λ text. string_bytes text ≡ spec.audit_text audit.now) }
     ensures only { IsOkUnless result Fault.F20 }
@@ -27,8 +27,8 @@ pub fn audit_text(alloc: Global, audit: &Audit) -> Result<String, Fault>
     text_ending(alloc, audit, "sound")
 }
 
-/// What a verdict prints: of a sound institution its sums and a last line, which says what the play of its journal
-/// says, else lines that begin with `audit:`. The error is F20: out of memory, or sums that are too great in all.
+/// What a verdict prints: of a sound institution its sums, a line that says what the play of its journal says, and a line
+/// for each suspect entry, else lines that begin with `audit:`. The error is F20: out of memory, or sums that are too great in all.
 pub fn verdict_text(alloc: Global, verdict: &Verdict) -> Result<String, Fault>
     ensures text { IfOk result (λ text. string_bytes text ≡ spec.verdict_text verdict.now) }
     ensures only { IsOkUnless result Fault.F20 }
@@ -83,7 +83,16 @@ fn text_ending(alloc: Global, audit: &Audit, last: &str) -> Result<String, Fault
             alloc,
             "the database has other tables than this program makes",
         ),
-        Audit::Sound { version, sums } => sums_text(alloc, version.number(), sums, last),
+        Audit::Sound {
+            version,
+            tables,
+            sums,
+            suspects,
+        } => {
+            let mut text = sums_text(alloc, version.number(), sums, last)?;
+            push_suspects(alloc, &mut text, tables, suspects)?;
+            Ok(text)
+        }
         Audit::Unsound {
             tables,
             findings,
@@ -101,6 +110,33 @@ fn audit_line(alloc: Global, words: &str) -> Result<String, Fault>
     ensures only { IsOkUnless result Fault.F20 }
 {
     Ok(format!(in alloc; "audit: {words}\n")?)
+}
+
+/// A line of a suspect entry.
+#[tactic(auto, unfolding(crate::specs::Text::suspect_line))]
+fn suspect_line(alloc: Global, words: &str) -> Result<String, Fault>
+    ensures text { IfOk result (λ text. string_bytes text ≡ spec.suspect_line words.now) }
+    ensures only { IsOkUnless result Fault.F20 }
+{
+    Ok(format!(in alloc; "suspect: {words}\n")?)
+}
+
+/// Writes a line for each suspect entry.
+fn push_suspects(
+    alloc: Global,
+    text: &mut String,
+    tables: &Tables,
+    suspects: &[Finding],
+) -> Result<(), Fault>
+    ensures text { OnOk result (string_bytes text.new
+        ≡ string_bytes text.old ++ spec.suspects_text tables.now suspects.now) }
+    ensures only { IsOkUnless result Fault.F20 }
+{
+    for suspect in suspects {
+        let line = finding_line(alloc, tables, *suspect)?;
+        text.push_str(suspect_line(alloc, line.as_str())?.as_str())?;
+    }
+    Ok(())
 }
 
 /// A line for each row that no record can hold; or that there is one, where none is named.

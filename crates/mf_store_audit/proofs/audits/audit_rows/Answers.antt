@@ -1,6 +1,8 @@
-use Rattle.std.proofs.Common.{◌≡◌, ◌∙◌, [], refl, sym, rules, true≢false}
+use Rattle.std.proofs.Common.{◌≡◌, ◌∙◌, [], refl, sym, subst, rules, true≢false}
 use Rattle.mf_store_schema.specs.Versions.{number_of}
+use Rattle.mf_store_sound.specs.Held.{DoRise}
 use Rattle.mf_store_sound.specs.Sound.{AreOfSoundAt}
+use Rattle.mf_store_sound.proofs.JudgedLemmas.{do_rise}
 use Rattle.mf_store_sound.proofs.WholeLemmas.{bare_of}
 use Rattle.mf_store_audit.proofs.audits.audit_rows.Goals as goal
 
@@ -8,7 +10,9 @@ pub returns-clause-exact : goal.returns-clause-exact
 returns-clause-exact c =
     let empty : c.in_ok-found.found.items ≡ [] = search rules in
     let one : AreOfSoundAt c.args.version c.args.tables = c.in_ok-found.ensures.none.0 empty in
-    let bare = bare_of c.args.version c.args.tables one.institution one.rows_are in (
+    let bare = bare_of c.args.version c.args.tables one.institution one.rows_are in
+    let rise : DoRise c.args.tables =
+    subst DoRise one.rows_are (do_rise c.args.version one.institution one.sound) in (
       refl,
       record {
         institution = one.institution;
@@ -16,6 +20,8 @@ returns-clause-exact c =
         has = one.rows_are;
         sums_are = sym (c.in_ok-sums.ensures.sums (number_of c.args.version) one.institution one.sound bare);
       },
+      refl,
+      ?,
     )
 
 pub returns-then-not-are_none-clause-every : goal.returns-then-not-are_none-clause-every

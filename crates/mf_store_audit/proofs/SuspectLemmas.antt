@@ -1,0 +1,90 @@
+-- The staff who entered entries: the steps up from an office, and who may enter what.
+use Rattle.std.proofs.Common.{◌≡◌, ◌≢◌, ◌∙◌, ◌+◌, ◌-◌, ◌<◌, ◌==◌, ℕ, zero, suc, Bool, true, false, List, refl, sym, ap}
+use Rattle.std.proofs.Common.{subst, arith, inl, inr, Bor, Less, None, Option, Some, true≢false}
+use Rattle.std.specs.Prelude.{◌||◌}
+use Rattle.std.specs.List.{Contains, list_any}
+use Rattle.std.specs.Option.{IfSome, IsNone, option_copied}
+use Rattle.std.proofs.lemmas.Bool.{ne_eqb}
+use Rattle.std.proofs.lemmas.Bool.Decides.{eqb_tells, nat_tests}
+use Rattle.std.proofs.lemmas.List.Folds.{list_any_at}
+use Rattle.mf_office.specs.Tree.{is_within, option_any}
+use Rattle.mf_office.specs.declared.caller.Caller.{Caller}
+use Rattle.mf_store_schema.specs.Rows.{by_staff}
+use Rattle.mf_store_schema.specs.declared.staff.StaffRow.{StaffRow}
+use Rattle.mf_store_sound.specs.Held.{Rises}
+use Rattle.mf_store_audit.specs.Keys.{is_at}
+use Rattle.mf_store_audit.specs.Suspects.{is_named}
+use Rattle.mf_store_audit.proofs.DifferenceLemmas.{one_there}
+
+-- ---- steps up from an office
+
+either_true : (a b : Bool) → a ≡ true → (a || b) ≡ true
+either_true true b is = refl
+either_true false b is = absurd (cc is)
+
+or_rest : (a b : Bool) → a ≡ false → (a || b) ≡ b
+or_rest true b is = absurd (cc is)
+or_rest false b is = refl
+
+are_equal : (x y : ℕ) → x ≡ y → (x == y) ≡ true
+are_equal x y same = elim (eqb_tells x y) [
+  | inl is ↦ is.0
+  | inr not ↦ absurd (not.1 same)
+]
+
+module _ (parents : ℕ → Option ℕ) (x y : ℕ) where
+  -- an office is within any number of steps of itself
+  pub within_itself : (n : ℕ) → x ≡ y → is_within n parents x y ≡ true
+  unfolding is_within
+  within_itself zero same = are_equal x y same
+  within_itself (suc n) same = either_true (x == y) (option_any (parents x) (λ p. is_within n parents p y))
+      (are_equal x y same)
+
+  -- one without a parent is within steps of itself alone
+  pub within_alone : (n : ℕ) → (x ≡ y → ⊥) → parents x ≡ None → is_within n parents x y ≡ false
+  unfolding is_within
+  within_alone zero apart none = ne_eqb x y apart
+  within_alone (suc n) apart none = or_rest (x == y) (option_any (parents x) (λ p. is_within n parents p y))
+      (ne_eqb x y apart) ∙ ap (λ o. option_any o (λ p. is_within n parents p y)) none
+
+  next_within : (n p : ℕ) → (x ≡ y → ⊥) → parents x ≡ Some p
+      → is_within (suc n) parents x y ≡ is_within n parents p y
+  unfolding is_within
+  next_within n p apart up = or_rest (x == y) (option_any (parents x) (λ p. is_within n parents p y))
+      (ne_eqb x y apart) ∙ ap (λ o. option_any o (λ p. is_within n parents p y)) up
+
+  -- another is within what is left of five steps where its parent is within one step fewer
+  pub within_next : (i p : ℕ) → i < 5 → (x ≡ y → ⊥) → parents x ≡ Some p
+      → is_within (5 - i) parents x y ≡ is_within (5 - (i + 1)) parents p y
+  within_next i p left apart up =
+      let one : 5 - i ≡ suc (5 - (i + 1)) = omega (arith, left) in
+      ap (λ n. is_within n parents x y) one ∙ next_within (5 - (i + 1)) p apart up
+
+-- ---- a member of staff by their office and number
+
+module _ (c : Caller) where
+  -- the row at their key
+  abbrev pub is_theirs : StaffRow → Bool
+  is_theirs = is_at (λ (s : StaffRow). (s.office, 0, s.number)) (c.office, 0, c.staff)
+
+  not_before : (a b : StaffRow) → is_theirs a ≡ true → is_named (Some c) b ≡ true → by_staff a b ≢ Less
+  not_before a b at own less = absurd (grind (arith, nat_tests))
+
+  not_after : (a b : StaffRow) → is_theirs a ≡ true → is_named (Some c) b ≡ true → by_staff b a ≢ Less
+  not_after a b at own less = absurd (grind (arith, nat_tests))
+
+  pub named_by_key : (s : StaffRow) → is_theirs s ≡ true → is_named (Some c) s ≡ true
+  named_by_key s at = grind (arith, nat_tests)
+
+  -- a look-up by their key finds their one row, where rows rise
+  pub one_member : (staff : List StaffRow) (found : Option (Bor StaffRow)) (s : StaffRow)
+      → IfSome found (λ l. Contains staff l.now × (is_theirs l.now ≡ true))
+      → (IsNone found → list_any is_theirs staff ≡ false) → Rises by_staff staff → Contains staff s
+      → is_named (Some c) s ≡ true → option_copied found ≡ Some s
+  one_member staff (Some l) s its none up there own =
+      ap Some (one_there by_staff staff l.now s up its.0 there (not_before l.now s its.1 own)
+      (not_after l.now s its.1 own))
+  one_member staff None s its none up there own =
+      let is : is_theirs s ≡ true = grind (arith, nat_tests) in
+      absurd (true≢false (sym (list_any_at is_theirs staff there.0 s there.1 (ap is_theirs there.2 ∙ is))
+      ∙ none refl))
