@@ -1,19 +1,31 @@
 -- The staff who entered entries: the steps up from an office, and who may enter what.
 use Rattle.std.proofs.Common.{◌≡◌, ◌≢◌, ◌∙◌, ◌+◌, ◌-◌, ◌<◌, ◌==◌, ℕ, zero, suc, Bool, true, false, List, refl, sym, ap}
-use Rattle.std.proofs.Common.{subst, arith, inl, inr, Bor, Less, None, Option, Some, true≢false}
-use Rattle.std.specs.Prelude.{◌||◌}
+use Rattle.std.proofs.Common.{◌↔◌, subst, arith, inl, inr, Bor, Less, None, Option, Some, true≢false}
+use Rattle.std.specs.Prelude.{◌||◌, IsTrue, not}
 use Rattle.std.specs.List.{Contains, list_any}
 use Rattle.std.specs.Option.{IfSome, IsNone, option_copied}
 use Rattle.std.proofs.lemmas.Bool.{ne_eqb}
 use Rattle.std.proofs.lemmas.Bool.Decides.{eqb_tells, nat_tests}
 use Rattle.std.proofs.lemmas.List.Folds.{list_any_at}
+use Rattle.mf_account.specs.declared.entry.Kind.{Kind}
+use Rattle.mf_account.specs.declared.entry.Kind.TheVariants as kind
+use Rattle.mf_model.specs.Desk.{is_manager, is_officer, loan_need, meets}
+use Rattle.mf_model.specs.declared.request.LoanRequest.{LoanRequest}
+use Rattle.mf_model.specs.declared.request.LoanRequest.TheVariants.{Show, ShowInstalments, ShowEntries, Take, Repay}
+use Rattle.mf_model.specs.declared.request.LoanRequest.TheVariants.{ChargeFee, Post, Reverse}
+use Rattle.mf_model.specs.declared.request.Posting.TheVariants.{Penalty, Waiver, WriteOff, Refund}
+use Rattle.mf_model.specs.declared.waivable.Waivable.TheVariants as waivable
+use Rattle.mf_office.specs.Roles.{role_number}
 use Rattle.mf_office.specs.Tree.{is_within, option_any}
 use Rattle.mf_office.specs.declared.caller.Caller.{Caller}
+use Rattle.mf_office.specs.declared.staff.Role.{Role}
 use Rattle.mf_store_schema.specs.Rows.{by_staff}
+use Rattle.mf_store_schema.specs.declared.entries.EntryRow.{EntryRow}
 use Rattle.mf_store_schema.specs.declared.staff.StaffRow.{StaffRow}
 use Rattle.mf_store_sound.specs.Held.{Rises}
+use Rattle.mf_store_values.specs.Flat.{entry_kind_number}
 use Rattle.mf_store_audit.specs.Keys.{is_at}
-use Rattle.mf_store_audit.specs.Suspects.{is_named}
+use Rattle.mf_store_audit.specs.Suspects.{IsBeyondRole, is_named, kind_entered, may_enter, MayNotEnter}
 use Rattle.mf_store_audit.proofs.DifferenceLemmas.{one_there}
 
 -- ---- steps up from an office
@@ -88,3 +100,69 @@ module _ (c : Caller) where
       let is : is_theirs s ≡ true = grind (arith, nat_tests) in
       absurd (true≢false (sym (list_any_at is_theirs staff there.0 s there.1 (ap is_theirs there.2 ∙ is))
       ∙ none refl))
+
+-- ---- who may enter what
+
+module _ (role : Role) (office : ℕ) where
+  -- whether an entry that a request makes, if it makes one, is one of those
+  may_make : Option Kind → Bool
+  may_make None = true
+  may_make (Some kind) = may_enter kind role
+
+  none_may : (asked : LoanRequest) → may_make (kind_entered asked) ≡ false → meets (loan_need asked) role office ≡ false
+  unfolding may_make
+  none_may Show no_ = absurd (true≢false no_)
+  none_may ShowInstalments no_ = absurd (true≢false no_)
+  none_may ShowEntries no_ = absurd (true≢false no_)
+  none_may (Take step) no_ = absurd (true≢false no_)
+  none_may (Repay repayment) no_ = no_
+  none_may (ChargeFee charge due) no_ = no_
+  none_may (Post (Penalty instalment)) no_ = no_
+  none_may (Post (Waiver instalment portion)) no_ = no_
+  none_may (Post WriteOff) no_ = no_
+  none_may (Post Refund) no_ = no_
+  none_may (Reverse entry) no_ = absurd (true≢false no_)
+
+  never : (kind : Kind) → MayNotEnter kind role office → may_enter kind role ≡ false
+  never kind.Repay none = none (Repay (record { amount = 0; day = 0; receipt = None })) refl
+  never kind.Fee none = none (ChargeFee 0 0) refl
+  never kind.Penalty none = none (Post (Penalty 0)) refl
+  never kind.Waive none = none (Post (Waiver 0 waivable.Interest)) refl
+  never kind.WriteOff none = none (Post WriteOff) refl
+  never kind.Refund none = none (Post Refund) refl
+
+  -- a kind that a role may not enter is one that no request makes which it may send
+  pub may_not : (kind : Kind) (may : Bool) → may ≡ may_enter kind role → (may ≡ false) ↔ MayNotEnter kind role office
+  unfolding may_make
+  may_not kind may is = (
+    λ no_ asked makes. none_may asked (ap may_make makes ∙ sym is ∙ no_),
+    λ none. is ∙ never kind none,
+  )
+
+-- whether a member of staff may not enter an entry of a row's kind, by what the numbers stand for
+pub beyond_role : (row : EntryRow) (s : StaffRow) (kind : Kind) (role : Role) (read_kind : Option Kind)
+    (read_role : Option Role) (may : Bool) → read_kind ≡ Some kind → read_role ≡ Some role
+    → row.kind ≡ entry_kind_number kind → s.role ≡ role_number role
+    → ((k : Kind) → row.kind ≡ entry_kind_number k → read_kind ≡ Some k)
+    → ((r : Role) → s.role ≡ role_number r → read_role ≡ Some r) → may ≡ may_enter kind role
+    → IsTrue (not may) ↔ IsBeyondRole row s
+beyond_role row s kind role read_kind read_role may is_kind is_role kind_is role_is every_kind every_role is = (
+  λ no_. record {
+    kind = kind;
+    kind_is = sym kind_is;
+    role = role;
+    role_is = sym role_is;
+    beyond = (may_not role s.office kind may is).0 (fails may no_);
+  },
+  λ b.
+      let of_kind : Some b.kind ≡ Some kind = sym (every_kind b.kind (sym b.kind_is)) ∙ is_kind in
+      let of_role : Some b.role ≡ Some role = sym (every_role b.role (sym b.role_is)) ∙ is_role in
+      let same_kind : b.kind ≡ kind = cc in
+      let same_role : b.role ≡ role = cc in
+      ap not ((may_not role s.office kind may is).1 (subst (λ k. MayNotEnter k role s.office) same_kind
+      (subst (λ r. MayNotEnter b.kind r s.office) same_role b.beyond))),
+)
+  where
+    fails : (b : Bool) → IsTrue (not b) → b ≡ false
+    fails true no_ = absurd (cc no_)
+    fails false no_ = refl

@@ -8,7 +8,7 @@ use Rattle.mf_office.specs.Texts.{caller_of}
 use Rattle.mf_office.specs.Tree.{is_at_or_below}
 use Rattle.mf_office.specs.declared.caller.Caller.{Caller}
 use Rattle.mf_office.specs.declared.staff.Role.{Role}
-use Rattle.mf_model.specs.Desk.{loan_need, meets}
+use Rattle.mf_model.specs.Desk.{is_manager, is_officer, loan_need, meets}
 use Rattle.mf_model.specs.declared.request.LoanRequest.{LoanRequest}
 use Rattle.mf_model.specs.declared.request.LoanRequest.TheVariants.{Show, ShowInstalments, ShowEntries, Take, Repay}
 use Rattle.mf_model.specs.declared.request.LoanRequest.TheVariants.{ChargeFee, Post, Reverse}
@@ -64,6 +64,15 @@ kind_entered (Reverse entry) = None
 abbrev pub MayNotEnter : Kind → Role → ℕ → Type 0
 MayNotEnter kind role office =
     (asked : LoanRequest) → kind_entered asked ≡ Some kind → meets (loan_need asked) role office ≡ false
+
+-- the same by kinds and roles alone
+abbrev pub may_enter : Kind → Role → Bool
+may_enter kind.Repay role = true
+may_enter kind.Fee role = is_officer role
+may_enter kind.Penalty role = is_officer role
+may_enter kind.Waive role = is_manager role
+may_enter kind.WriteOff role = is_manager role
+may_enter kind.Refund role = is_manager role
 
 -- a member of staff may not enter an entry of the row's kind
 pub record IsBeyondRole (row : EntryRow) (s : StaffRow) : Type 0 where

@@ -1,6 +1,6 @@
 //! Entries that are suspect, though the rows are sound: by staff who can't see the loan, or who may not enter that kind.
 
-ghost use Rattle.std.specs.Prelude.{◌≡◌, ◌↔◌, ℕ, Some, true, false, Option, option_and_then, option_copied};
+ghost use Rattle.std.specs.Prelude.{◌≡◌, ◌↔◌, Some, true, false, option_copied};
 ghost use Rattle.std.specs.Prelude.{IsTrue, IfSome, IfOk, IfErr};
 ghost use Rattle.std.specs.List.{Contains};
 ghost use Rattle.mf_base.specs.declared.fault.Fault.TheVariants.{F20};
@@ -8,8 +8,8 @@ ghost use Rattle.mf_office.specs.Texts.{caller_of};
 ghost use Rattle.mf_office.specs.Tree.{is_at_or_below};
 ghost use Rattle.mf_store_schema.specs.Rows.{by_staff};
 ghost use Rattle.mf_store_schema.specs.declared.staff.StaffRow.{StaffRow};
-ghost use Rattle.mf_store_sound.specs.Held.{DoRise, Rises};
-ghost use Rattle.mf_store_audit.specs.Suspects.{AreSuspects, IsBeyondRole, IsSuspect, MayNotEnter, is_named};
+ghost use Rattle.mf_store_sound.specs.Held.{Rises};
+ghost use Rattle.mf_store_audit.specs.Suspects.{AreSuspects, IsBeyondRole, IsSuspect, is_named, may_enter};
 ghost use Rattle.mf_store_audit.specs.Suspects.{parent_in};
 
 use crate::finding::{Doubt, Finding};
@@ -61,15 +61,17 @@ fn member_of<'a>(staff: &'a [StaffRow], row: &EntryRow) -> Option<&'a StaffRow>
     row_at(staff, (caller.office.get(), 0, caller.staff.get()))
 }
 
-/// Whether some request that makes an entry of this kind may be sent by somebody with this role.
+/// Whether somebody with this role may send requests that make entries of this kind.
 fn may_enter(kind: Kind, role: Role) -> bool
-    ensures no_ { (office : ℕ) → result ≡ false → MayNotEnter kind role office }
-    ensures yes { (office : ℕ) → MayNotEnter kind role office → result ≡ false }
+    ensures { result ≡ may_enter kind role }
 {
     match kind {
         Kind::Repay => true,
-        Kind::Fee | Kind::Penalty => role != Role::Teller,
-        Kind::Waive | Kind::WriteOff | Kind::Refund => role == Role::Manager,
+        Kind::Fee => role != Role::Teller,
+        Kind::Penalty => role != Role::Teller,
+        Kind::Waive => role == Role::Manager,
+        Kind::WriteOff => role == Role::Manager,
+        Kind::Refund => role == Role::Manager,
     }
 }
 
@@ -117,7 +119,7 @@ impl<'a> Row<&'a DoubtSetting<'a>> for EntryRow {
 /// The entries of sound rows that are suspect: all, in order, each with the first that makes it so. The error is F20,
 /// out of memory.
 pub(crate) fn suspects(alloc: Global, tables: &Tables) -> Result<Vec<Finding>, Fault>
-    ensures every { DoRise tables.now → IfOk result (λ found. AreSuspects tables.now found.items) }
+    ensures every { Rises by_staff tables.now.staff → IfOk result (λ found. AreSuspects tables.now found.items) }
     ensures gives_up { IfErr result (λ fault. fault ≡ F20) }
 {
     let mut found = Vec::new(alloc);

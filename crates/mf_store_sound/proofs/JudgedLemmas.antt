@@ -49,7 +49,7 @@ can_be_held Third i sound = record {
       tt;
 }
 
-pub do_rise : (v : Version) (i : Institution) → IsSound i → DoRise (tables_at v i)
+do_rise : (v : Version) (i : Institution) → IsSound i → DoRise (tables_at v i)
 do_rise First i sound = record {
   all = meta_rises i sound also offices_rise i sound also staff_rise i sound also clients_rise i sound
       also charges_rise i sound also products_rise i sound also loans_rise i sound also entries_rise i sound

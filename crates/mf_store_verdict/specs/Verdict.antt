@@ -10,7 +10,7 @@ use Rattle.sqlite_wal.specs.Recovery.{Image}
 use Rattle.mf_model.specs.Institution.{Institution}
 use Rattle.mf_store.specs.Stands.{StandsFor}
 use Rattle.mf_store_schema.specs.declared.versions.Version.TheVariants.{Third}
-use Rattle.mf_store_audit.specs.Audits.{FindsNoSuspect, IsAuditOf, TellsAll}
+use Rattle.mf_store_audit.specs.Audits.{FindsNoSuspect, FindsSound, IsAuditOf, TellsAll}
 use Rattle.mf_store_audit.specs.declared.audits.Audit.{Audit}
 use Rattle.mf_store_audit.specs.declared.audits.Audit.TheVariants.{NoTables, OtherTables, Sound, Unsound, Unreadable}
 use Rattle.mf_store_audit.specs.declared.audits.Audit.TheVariants as audit
@@ -78,9 +78,13 @@ IsPassed (Some (Differs difference)) = ⊥
 IsPassed (Some (OtherCopy head)) = ⊥
 IsPassed (Some (Lacks gap)) = ⊥
 
--- the tables hold a sound institution without a suspect entry, and its journal leads there, where it is played
+-- the tables hold a sound institution, and its journal leads there, where it is played
+abbrev pub HoldsUp : Verdict → Type 0
+HoldsUp v = FindsSound v.audit × IsPassed v.played
+
+-- the same, and no entry is suspect
 abbrev pub Passes : Verdict → Type 0
-Passes v = FindsNoSuspect v.audit × IsPassed v.played
+Passes v = HoldsUp v × FindsNoSuspect v.audit
 
 -- the verdict is that of the database that a file held
 pub record IsFileVerdictBy (IsRight : Trees → Played → Type 0) (image : Image) (v : Verdict) : Type 0 where

@@ -13,4 +13,6 @@ pub use archives::{archive_in_bytes, audit_over_archives, audit_over_archives_wi
 pub use files::{Unaudited, audit_file, audit_file_with, audit_from_copy, audit_from_copy_with};
 pub use folders::{Unopened, read_archives};
 pub use heads::{head_of_file, head_of_file_with};
-pub use verdict::{Verdict, audit_and_play, audit_and_play_from, audit_and_play_over, passes};
+pub use verdict::{
+    Verdict, audit_and_play, audit_and_play_from, audit_and_play_over, holds_up, passes,
+};

@@ -9,9 +9,9 @@ ghost use Rattle.sqlite.specs.State.{HasCleanDisk};
 ghost use Rattle.mf_model.specs.Institution.{Institution};
 ghost use Rattle.mf_store_schema.specs.Schemas.{IsUnchangedUnder};
 ghost use Rattle.mf_store_sound.specs.Told.{IsAny, HaveOwnRowids};
-ghost use Rattle.mf_store_audit.specs.Audits.{FindsNoSuspect, IsAuditOf, TellsAll};
+ghost use Rattle.mf_store_audit.specs.Audits.{FindsNoSuspect, FindsSound, IsAuditOf, TellsAll};
 ghost use Rattle.mf_store.specs.Stands.{StandsFor};
-ghost use Rattle.mf_store_verdict.specs.Verdict.{FindsJournal, IsPassed, IsRightBy, Passes, Shows};
+ghost use Rattle.mf_store_verdict.specs.Verdict.{FindsJournal, HoldsUp, IsPassed, IsRightBy, Passes, Shows};
 ghost use Rattle.mf_store_verdict.specs.Verdict.{IsVerdictBy, IsVerdictFrom, IsVerdictOf, IsVerdictOver};
 ghost use Rattle.mf_store_archived.specs.Joining.{AreArchives};
 
@@ -31,6 +31,16 @@ use std::alloc::Global;
 pub struct Verdict {
     pub audit: Audit,
     pub played: Option<Played>,
+}
+
+/// Whether an audit found a sound institution.
+fn finds_sound(audit: &Audit) -> bool
+    ensures { IsTrue result ↔ FindsSound audit.now }
+{
+    match audit {
+        Audit::Sound { .. } => true,
+        _ => false,
+    }
 }
 
 /// Whether an audit found a sound institution without a suspect entry.
@@ -65,12 +75,18 @@ fn is_passed(played: &Option<Played>) -> bool
     }
 }
 
-/// Whether the tables pass: they hold a sound institution without a suspect entry, and its journal leads there, where it
-/// is played.
+/// Whether the tables hold a sound institution, and its journal leads there, where it is played.
+pub fn holds_up(verdict: &Verdict) -> bool
+    ensures { IsTrue result ↔ HoldsUp verdict.now }
+{
+    finds_sound(&verdict.audit) && is_passed(&verdict.played)
+}
+
+/// Whether the tables pass: they hold up, and no entry is suspect.
 pub fn passes(verdict: &Verdict) -> bool
     ensures { IsTrue result ↔ Passes verdict.now }
 {
-    finds_no_suspect(&verdict.audit) && is_passed(&verdict.played)
+    holds_up(verdict) && finds_no_suspect(&verdict.audit)
 }
 
 /// The verdict by an audit that found a journal, and by what its play says.

@@ -15,8 +15,8 @@ use mf_base::Fault;
 use mf_store_archived::Unread;
 use mf_store_audit::Audit;
 use mf_store_verdict::{
-    Unaudited, Unopened, Verdict, audit_file, audit_from_copy, audit_over_archives, passes,
-    read_archives,
+    Unaudited, Unopened, Verdict, audit_file, audit_from_copy, audit_over_archives, holds_up,
+    passes, read_archives,
 };
 use microloan_audit::{unread_archive_text, verdict_text};
 use std::rt::HostRuntime;
@@ -172,7 +172,7 @@ fn say(rt: &HostRuntime, file: &str, verdict: &Verdict) -> u8
 fn note_checksums(rt: &HostRuntime, file: &str, verdict: &Verdict) -> u8
     ensures { IsPrintStatus result }
 {
-    if !passes(verdict) || has_checksums(rt, file) {
+    if !holds_up(verdict) || has_checksums(rt, file) {
         return 0;
     }
     print_line(rt, format_args!("audit: {WITHOUT_CHECKSUMS}"))

@@ -1,8 +1,10 @@
-use Rattle.std.proofs.Common.{◌≡◌, ◌∙◌, [], refl, sym, subst, rules, true≢false}
+use Rattle.std.proofs.Common.{◌≡◌, ◌∙◌, List, [], refl, sym, ap, subst, rules, true≢false}
 use Rattle.mf_store_schema.specs.Versions.{number_of}
-use Rattle.mf_store_sound.specs.Held.{DoRise}
+use Rattle.mf_store_schema.specs.Rows.{Lists, by_staff}
+use Rattle.mf_store_schema.specs.declared.staff.StaffRow.{StaffRow}
+use Rattle.mf_store_sound.specs.Held.{Rises}
 use Rattle.mf_store_sound.specs.Sound.{AreOfSoundAt}
-use Rattle.mf_store_sound.proofs.JudgedLemmas.{do_rise}
+use Rattle.mf_store_sound.proofs.RiseLemmas.{staff_rise}
 use Rattle.mf_store_sound.proofs.WholeLemmas.{bare_of}
 use Rattle.mf_store_audit.proofs.audits.audit_rows.Goals as goal
 
@@ -11,8 +13,9 @@ returns-clause-exact c =
     let empty : c.in_ok-found.found.items ≡ [] = search rules in
     let one : AreOfSoundAt c.args.version c.args.tables = c.in_ok-found.ensures.none.0 empty in
     let bare = bare_of c.args.version c.args.tables one.institution one.rows_are in
-    let rise : DoRise c.args.tables =
-    subst DoRise one.rows_are (do_rise c.args.version one.institution one.sound) in (
+    let rise : Rises by_staff c.args.tables.staff =
+    subst (λ (l : List StaffRow). Rises by_staff l) (ap (λ (l : Lists). l.staff) bare)
+    (staff_rise one.institution one.sound) in (
       refl,
       record {
         institution = one.institution;
