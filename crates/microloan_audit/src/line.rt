@@ -16,6 +16,7 @@ use mf_store_audit::{
     ChargeFlaw, ClientFlaw, Doubt, EntryFlaw, Finding, LoanFlaw, OfficeFlaw, ProductFlaw,
     ReceiptFlaw, RowKey, StaffFlaw,
 };
+use mf_store_schema::EntryRow;
 use mf_store_sound::Tables;
 use std::alloc::Global;
 
@@ -113,6 +114,15 @@ pub(crate) fn entry_key(alloc: Global, office: u32, loan: u32, seq: u32) -> Resu
     let loan = account_text(alloc, office, loan)?;
     let loan = loan.as_str();
     Ok(format!(in alloc; "{loan} entry {seq}")?)
+}
+
+/// The key of a row of an entry.
+fn key_of_entry(alloc: Global, row: &EntryRow) -> Result<String, Fault>
+    ensures text { IfOk result (λ text. string_bytes text
+        ≡ spec.entry_key row.now.office row.now.loan row.now.seq) }
+    ensures only { IsOkUnless result Fault.F20 }
+{
+    entry_key(alloc, row.office, row.loan, row.seq)
 }
 
 fn charge_line(
@@ -238,7 +248,7 @@ fn entry_line(
 {
     match tables.entries.get(place) {
         Some(row) => {
-            let key = entry_key(alloc, row.office, row.loan, row.seq)?;
+            let key = key_of_entry(alloc, row)?;
             say(alloc, "entries", key.as_str(), words_of_entry(flaw))
         }
         None => no_row(alloc, "entries", place),
@@ -252,7 +262,7 @@ fn suspect_line(alloc: Global, tables: &Tables, place: usize, doubt: Doubt) -> R
 {
     match tables.entries.get(place) {
         Some(row) => {
-            let key = entry_key(alloc, row.office, row.loan, row.seq)?;
+            let key = key_of_entry(alloc, row)?;
             let words = words_of_doubt(alloc, row, doubt)?;
             say(alloc, "entries", key.as_str(), words.as_str())
         }
