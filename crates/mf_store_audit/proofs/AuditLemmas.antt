@@ -1,22 +1,31 @@
 -- From what is said of the rows that were read to what is said of the tables.
-use Rattle.std.proofs.Common.{◌≡◌, inl, inr, List, Option, refl, sym, ◌∙◌, subst}
+use Rattle.std.proofs.Common.{◌≡◌, inl, inr, List, Option, refl, sym, ap, ◌∙◌, subst}
 use Rattle.sqlite.specs.Effect.{Database}
 use Rattle.mf_model.specs.Institution.{Institution, JournalLine}
-use Rattle.mf_store_schema.specs.Rows.{Lists}
+use Rattle.mf_store_schema.specs.Rows.{Lists, by_staff}
 use Rattle.mf_store_schema.specs.Versions.{IsOfVersion}
 use Rattle.mf_store_schema.specs.Writes.{HoldsAt}
+use Rattle.mf_store_schema.specs.declared.staff.StaffRow.{StaffRow}
 use Rattle.mf_store_schema.specs.declared.versions.Version.{Version}
 use Rattle.mf_store_schema.specs.declared.versions.Version.TheVariants.{First, Second, Third}
 use Rattle.mf_store_sound.specs.Schemas.{lists_at, tables_at}
 use Rattle.mf_store_audit.specs.Findings.{AllBreak, AreOfNone}
 use Rattle.mf_store_told.specs.Told.{TellsRequests}
-use Rattle.mf_store_sound.specs.Held.{CanBeHeld, DoRise, KeepsJournalAt}
+use Rattle.mf_store_sound.specs.Held.{CanBeHeld, DoRise, KeepsJournalAt, Rises}
+use Rattle.mf_store_sound.specs.Sound.{AreOfSoundAt}
 use Rattle.mf_store_sound.proofs.JudgedLemmas.{can_be_held, holds_sound, rows_are}
+use Rattle.mf_store_sound.proofs.RiseLemmas.{staff_rise}
 use Rattle.mf_store_sound.proofs.SchemaLemmas.{one_version}
+use Rattle.mf_store_sound.proofs.WholeLemmas.{bare_of}
 use Rattle.mf_store_audit.specs.Audits.{AreSuspectsOf, FindsSound, IsAuditOfRows, IsAuditOf, IsWithJournal, HoldsInAt, HoldsNone}
 use Rattle.mf_store_audit.specs.declared.audits.Audit.{Audit}
 use Rattle.mf_store_audit.specs.declared.audits.Audit.TheVariants.{NoTables, OtherTables, Sound, Unsound, Unreadable}
 use Rattle.mf_store_audit.specs.declared.audits.Audit.TheVariants as audit
+
+-- the staff of sound rows rise by their keys
+pub staff_rises : (v : Version) (t : Lists) → AreOfSoundAt v t → Rises by_staff t.staff
+staff_rises v t one = subst (λ (l : List StaffRow). Rises by_staff l)
+    (ap (λ (l : Lists). l.staff) (bare_of v t one.institution one.rows_are)) (staff_rise one.institution one.sound)
 
 -- the journal doesn't show in the other tables
 other_tables : (v : Version) (i : Institution) (journal : Option (List JournalLine))

@@ -74,19 +74,16 @@ module _ (parents : ℕ → Option ℕ) (x y : ℕ) where
 
 -- ---- a member of staff by their office and number
 
-module _ (c : Caller) where
+module _ (c : Caller) (office number : ℕ) (office_is : office ≡ c.office) (number_is : number ≡ c.staff) where
   -- the row at their key
   abbrev pub is_theirs : StaffRow → Bool
-  is_theirs = is_at (λ (s : StaffRow). (s.office, 0, s.number)) (c.office, 0, c.staff)
+  is_theirs = is_at (λ (s : StaffRow). (s.office, 0, s.number)) (office, 0, number)
 
   not_before : (a b : StaffRow) → is_theirs a ≡ true → is_named (Some c) b ≡ true → by_staff a b ≢ Less
   not_before a b at own less = absurd (grind (arith, nat_tests))
 
   not_after : (a b : StaffRow) → is_theirs a ≡ true → is_named (Some c) b ≡ true → by_staff b a ≢ Less
   not_after a b at own less = absurd (grind (arith, nat_tests))
-
-  pub named_by_key : (s : StaffRow) → is_theirs s ≡ true → is_named (Some c) s ≡ true
-  named_by_key s at = grind (arith, nat_tests)
 
   -- a look-up by their key finds their one row, where rows rise
   pub one_member : (staff : List StaffRow) (found : Option (Bor StaffRow)) (s : StaffRow)
