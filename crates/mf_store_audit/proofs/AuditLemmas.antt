@@ -17,7 +17,8 @@ use Rattle.mf_store_sound.proofs.JudgedLemmas.{can_be_held, holds_sound, rows_ar
 use Rattle.mf_store_sound.proofs.RiseLemmas.{staff_rise}
 use Rattle.mf_store_sound.proofs.SchemaLemmas.{one_version}
 use Rattle.mf_store_sound.proofs.WholeLemmas.{bare_of}
-use Rattle.mf_store_audit.specs.Audits.{AreSuspectsOf, FindsSound, IsAuditOfRows, IsAuditOf, IsWithJournal, HoldsInAt, HoldsNone}
+use Rattle.mf_store_audit.specs.Audits.{AreSuspectsOf, FindsSound, IsAuditOfRows, IsAuditOf, IsWithJournal}
+use Rattle.mf_store_audit.specs.Audits.{HoldsInAt, HoldsNone}
 use Rattle.mf_store_audit.specs.declared.audits.Audit.{Audit}
 use Rattle.mf_store_audit.specs.declared.audits.Audit.TheVariants.{NoTables, OtherTables, Sound, Unsound, Unreadable}
 use Rattle.mf_store_audit.specs.declared.audits.Audit.TheVariants as audit

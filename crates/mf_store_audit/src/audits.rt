@@ -115,8 +115,8 @@ fn audit_known<S: Alter, P: Progress>(
 }
 
 /// Audits the tables of a connection, whatever tables and rows stand there: tells each row that breaks a condition, or
-/// is suspect where none does, or the first alone; and where there are rows that no record can hold, these in their place. It changes nothing. The
-/// error is F20, out of memory or a failure of the disk.
+/// is suspect where none does, or the first alone; and where there are rows that no record can hold, these in their
+/// place. It changes nothing. The error is F20, out of memory or a failure of the disk.
 pub fn audit_tables<S: Alter, P: Progress>(
     alloc: Global,
     connection: &mut Connection<S>,

@@ -1,4 +1,4 @@
-//! Entries that are suspect, though the rows are sound: by staff who can't see the loan, or who may not enter that kind.
+//! Entries that are suspect, though the rows are sound: by staff who can't see the loan, or may not enter that kind.
 
 ghost use Rattle.std.specs.Prelude.{◌≡◌, ◌↔◌, Some, true, false, option_copied};
 ghost use Rattle.std.specs.Prelude.{IsTrue, IfSome, IfOk, IfErr};

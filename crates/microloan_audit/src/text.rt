@@ -18,8 +18,9 @@ use mf_store_sound::Tables;
 use mf_store_verdict::Verdict;
 use std::alloc::Global;
 
-/// What an audit prints where no journal was played: of a sound institution its sums, the word `sound` and a line for each
-/// suspect entry, else lines that begin with `audit:`. The error is F20: out of memory, or sums that are too great in all.
+/// What an audit prints where no journal was played: of a sound institution its sums, the word `sound` and a line for
+/// each suspect entry, else lines that begin with `audit:`. The error is F20: out of memory, or sums that are too great
+/// in all.
 pub fn audit_text(alloc: Global, audit: &Audit) -> Result<String, Fault>
     ensures text { IfOk result (λ text. string_bytes text ≡ spec.audit_text audit.now) }
     ensures only { IsOkUnless result Fault.F20 }
@@ -27,8 +28,9 @@ pub fn audit_text(alloc: Global, audit: &Audit) -> Result<String, Fault>
     text_ending(alloc, audit, "sound")
 }
 
-/// What a verdict prints: of a sound institution its sums, a line that says what the play of its journal says, and a line
-/// for each suspect entry, else lines that begin with `audit:`. The error is F20: out of memory, or sums that are too great in all.
+/// What a verdict prints: of a sound institution its sums, a line that says what the play of its journal says, and a
+/// line for each suspect entry, else lines that begin with `audit:`. The error is F20: out of memory, or sums that are
+/// too great in all.
 pub fn verdict_text(alloc: Global, verdict: &Verdict) -> Result<String, Fault>
     ensures text { IfOk result (λ text. string_bytes text ≡ spec.verdict_text verdict.now) }
     ensures only { IsOkUnless result Fault.F20 }

@@ -61,7 +61,8 @@ returns-clause-added c = on_ok_weaker c.add_found-3.result (λ last v.
     (Unit {0}) start first (c.in_ok-add_found.ensures {u = tt}).added (λ place flaw at. at) (λ up. tt) in
     let of_entries = adds_found Is All InOrder entry_flaws (BreaksEntry today loans staff receipts entries)
     finding.Entry entries (Rises by_loan loans × Rises by_entry entries) first second
-    (c.in_ok-add_found-2.ensures {u = tt}).added (λ place flaw at. at) (λ up. (up.all.1.1.1.1.1.1.0, up.all.1.1.1.1.1.1.1.0)) in
+    (c.in_ok-add_found-2.ensures {u = tt}).added (λ place flaw at. at)
+    (λ up. (up.all.1.1.1.1.1.1.0, up.all.1.1.1.1.1.1.1.0)) in
     let of_receipts = adds_found Is All InOrder receipt_flaws (BreaksReceipt entries) finding.Receipt receipts
     (Unit {0}) second third last (λ place flaw at. at) (λ up. tt) in
     let lent : Parts = AreFoundIn loan_flaws (BreaksLoan today offices clients products) finding.Loan loans ∷ [] in

@@ -28,4 +28,5 @@ returns-clause-every c up =
     added.3 refl (subst (λ (l : List StaffRow). Rises by_staff l) (sym staff_are) up) in
     let all : c.add_found.new.findings.items ≡ added.0 =
     added.1 ∙ ap (λ (l : List Finding). l ++ added.0) c.new-found.ensures.items in
-    subst (λ (l : List Finding). AreSuspects lists l) (sym all) (subst (λ (l : Lists). AreSuspects l added.0) same found)
+    subst (λ (l : List Finding). AreSuspects lists l) (sym all)
+    (subst (λ (l : Lists). AreSuspects l added.0) same found)
