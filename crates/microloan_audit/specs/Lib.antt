@@ -7,3 +7,4 @@ pub mod SumsText
 pub mod Text
 pub mod Unread
 pub mod Words
+pub mod Reading

@@ -5,6 +5,7 @@ mod archives;
 mod catalogue;
 mod entries;
 mod journal;
+pub mod laws;
 mod line;
 mod loans;
 mod names;
