@@ -19,6 +19,7 @@ ENTERED = ["client entered", "loan submitted, approved and paid out", "repayment
 NOTED = """## Figures that were noted
 
 These were measured once, beside other work, and noted by hand. They tell the order of size.
+[speed-shares.md](speed-shares.md) has the instructions of a request, by whose code they are.
 
 | What | Figure |
 |---|---|
