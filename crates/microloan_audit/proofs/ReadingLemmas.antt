@@ -20,7 +20,7 @@ use Rattle.microloan_audit.specs.Journal.{journal_line}
 use Rattle.microloan_audit.specs.Lines.{finding_line}
 use Rattle.microloan_audit.specs.Played.{difference_line, leads_line, other_copy_line, stop_line, unplayed_line}
 use Rattle.microloan_audit.specs.Reading.{BeginsWith}
-use Rattle.microloan_audit.specs.SumsText.{sums_text, table_text}
+use Rattle.microloan_audit.specs.SumsText.{heading, sums_text, table_text}
 use Rattle.microloan_audit.specs.Text.{audit_line, findings_text, suspects_text, text_ending, text_played, unread_text}
 use Rattle.microloan_audit.specs.Unread.{unread_line}
 
@@ -49,7 +49,7 @@ of_unread (u ∷ us) begins =
 
 of_sums : (schema : ℕ) (sums : List OfficeSums) (last more : List ℕ)
     → BeginsWith (codes "schema ") (sums_text schema sums last ++ more)
-unfolding sums_text table_text
+unfolding heading sums_text table_text
 of_sums schema sums last more = (drop 7 (sums_text schema sums last ++ more), refl)
 
 of_audit : (last : List ℕ) (a : Audit) → BeginsWith (codes "schema ") (text_ending last a) ↔ FindsSound a
