@@ -9,6 +9,7 @@ GROUP = 100  # lines of one transaction: etcd takes 128 puts
 PATIENCE, PASSWORD_PATIENCE = 1, 5  # seconds that one node is waited for; a password takes it longer
 WRITER, LOG, KEPT, LAST = "microloan/writer", "microloan/log/", "microloan/kept/", "~"
 INSTITUTION, ANSWERED_BY, HEAD = "microloan/institution", "microloan/program", "microloan/head/"
+EVERY_LINE = "microloan/every-line"
 
 
 class Lost(Exception):

@@ -15,7 +15,8 @@ class Message:
 
     def __init__(self, line, sender):
         self.line, self.sender, self.came_at = line, sender, time.monotonic()
-        self.seen, self.remark = sender.seen, sender.remark
+        self.seen, self.remark, self.every = sender.seen, sender.remark, sender.every
+        self.last_every = None  # the number of the last line for every desk that stands, where the sender asked
         self.reply = concurrent.futures.Future()
 
     def is_reading(self):
@@ -43,7 +44,8 @@ class Intake:
                 return GIVEN_UP, []
             self.waiting.put(message)
         number, told = message.reply.result()
-        return told, [("Log-Number", number)]
+        more = [("Every-Line", message.last_every)] if message.last_every is not None else []
+        return told, [("Log-Number", number), *more]
 
     def ask_reading(self, line, sender):
         return self.ask(line, sender) if Message(line, sender).is_reading() else (GIVEN_UP, [])

@@ -1,8 +1,9 @@
 """The log of request lines in etcd, and the institution whose log it is."""
 import secrets
+import typing
 
 from desk import DESK, Place, Refused, sum_of, sum_of_rows
-from etcd import ANSWERED_BY, GROUP, INSTITUTION, LAST, LOG, WRITER, Full, key_of
+from etcd import ANSWERED_BY, EVERY_LINE, GROUP, INSTITUTION, LAST, LOG, WRITER, Full, key_of
 from journal import Founding, Useless
 from told import Told
 
@@ -154,16 +155,17 @@ class Log:
             raise Refused(f"the log has no line {number}: copy a newer kept folder of another replica")
         return sum_of(found[0][1])
 
-    def append(self, revision, first, values):
+    def append(self, revision, first, values, every=None):
         """Puts values at the end of the log, which must be that of this institution and this program, end before
-        `first`, and have the writer whose key was made at `revision`. It tells whether they stand there; NoAnswer where
-        that isn't known."""
+        `first`, and have the writer whose key was made at `revision`; and with them the last line for every desk, where
+        they have one. It tells whether they stand there; NoAnswer where that isn't known."""
         puts = [(key_of(number), value) for number, value in enumerate(values, first)]
         asked = [(WRITER, revision), (INSTITUTION, self.revision), (key_of(first), 0)]
         there = [key_of(first - 1)] if first > 1 else []
         same, is_full = [(ANSWERED_BY, self.answered_by), (INSTITUTION, self.named)], None
         try:
-            if self.etcd.put_where(asked, puts, there=there, values=same, within=self.patience):
+            more = [(EVERY_LINE, every.as_value())] if every else []
+            if self.etcd.put_where(asked, puts + more, there=there, values=same, within=self.patience):
                 return True
         except Full as why:
             is_full = why  # of the put that fills it etcd says so too, and carries it out
@@ -172,6 +174,23 @@ class Log:
         if is_full and not found:
             raise is_full
         return [(key, value) for key, value, _ in found] == puts
+
+
+class EveryLine(typing.NamedTuple):
+    """The last line of the log that scale/regions sent to every desk: the number that it has there, and its reply."""
+
+    number: int = 0
+    reply: bytes = b""
+
+    def as_value(self):
+        return b"%d %s" % self
+
+    @staticmethod
+    def of(etcd):
+        """The one that stands in etcd."""
+        found = etcd.found(EVERY_LINE)
+        number, _, reply = found[0][1].partition(b" ") if found else (b"0", b"", b"")
+        return EveryLine(int(number), reply)
 
 
 def program_in(value):

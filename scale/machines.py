@@ -19,6 +19,8 @@ from etcd import Access
 HERE = os.path.dirname(os.path.abspath(__file__))
 NAMES = {"a": "10.0.0.1", "b": "10.0.0.2", "c": "10.0.0.3"}
 FRONT = "10.0.0.9"
+SLOWER = int(os.environ.get("SLOWER", "1"))  # deadlines of trials are so many times as long: on a busy machine
+MORE = {"d": "10.0.0.4", "e": "10.0.0.5"}  # machines that have something else
 ETCD = ",".join(f"{address}:2379" for address in NAMES.values())
 
 
@@ -34,10 +36,10 @@ def ip(*words):
     subprocess.run(["ip", *words], check=True)
 
 
-def run_inside(script):
+def run_inside(script, names=NAMES):
     """Makes the namespaces and runs a script once more, in that of the front. Its status."""
     before = f"loan{os.getpid()}"
-    spaces = {name: f"{before}-{name}" for name in ["front", *NAMES]}
+    spaces = {name: f"{before}-{name}" for name in ["front", *names]}
     signal.signal(signal.SIGTERM, lambda *_: sys.exit("told to end"))
     try:
         for space in spaces.values():
@@ -47,7 +49,7 @@ def run_inside(script):
         ip("-n", front, "link", "add", "bridge", "type", "bridge")
         ip("-n", front, "address", "add", f"{FRONT}/24", "dev", "bridge")
         ip("-n", front, "link", "set", "bridge", "up")
-        for name, address in NAMES.items():
+        for name, address in names.items():
             ip("-n", front, "link", "add", f"to-{name}", "type", "veth", "peer", "name", "eth", "netns", spaces[name])
             ip("-n", front, "link", "set", f"to-{name}", "master", "bridge", "up")
             ip("-n", spaces[name], "address", "add", f"{address}/24", "dev", "eth")
@@ -69,7 +71,7 @@ class Machine:
     """A node of etcd and a replica, each with a folder, in a namespace."""
 
     def __init__(self, name, folder, *more):
-        self.name, self.address, self.folder = name, NAMES[name], folder
+        self.name, self.address, self.folder = name, (NAMES | MORE)[name], folder
         self.space = f"{os.environ['LOAN_MACHINES']}-{name}"
         self.more, self.etcd, self.replica, self.is_watched = more, None, None, True
         self.log = open(os.path.join(folder, "log"), "ab")

@@ -25,12 +25,15 @@ def line_of(staff, method, target, body):
 
 class Sender:
     """Who sent a message. `seen` is the number of the log's line that it has seen the effect of, None where it doesn't
-    say; `remark` what a journal is to note, None where that is malformed."""
+    say; `remark` what a journal is to note, None where that is malformed; `every` the number of a line for every desk,
+    that scale/regions gave it, 0 where it asks for the last one, None where it is no such line."""
 
     def __init__(self, connection, fields):
         self.connection = connection
         seen, remarks = fields.get("Log-Number", ""), fields.get_all("X-Told", [""])
         self.seen = int(seen) if re.fullmatch("[0-9]{1,15}", seen) else None
+        every = fields.get("Every-Line", "")
+        self.every = int(every) if re.fullmatch("[0-9]{1,15}", every) else None
         is_well = len(remarks) == 1 and re.fullmatch(REMARK, remarks[0])
         self.remark = remarks[0].encode() if is_well else None
 
@@ -71,6 +74,8 @@ class Handler(http.server.BaseHTTPRequestHandler):
         line, sender = self.message(), Sender(self.connection, self.headers)
         if not self.server.with_remarks:
             sender.remark = b""
+        if not self.server.with_every:
+            sender.every = None
         is_well = line is not None and sender.remark is not None
         told, more = self.server.answer(line, sender) if is_well else (MALFORMED, [])
         if told is not None:
@@ -107,11 +112,12 @@ class Server(http.server.ThreadingHTTPServer):
         """A client that went away is no fault of the server's."""
 
 
-def serve(address, port, answer, health=None, with_remarks=False):
+def serve(address, port, answer, health=None, with_remarks=False, with_every=False):
     """Listens on an address and a port. `answer` gives the reply to a line and its sender, or None for no response, and
-    further fields of the response; many threads call it. Only `with_remarks` the message's field X-Told counts.
+    further fields of the response; many threads call it. Only `with_remarks` the message's field X-Told counts,
+    and only `with_every` its field Every-Line.
     `health` gives the reply to a path that is no request of the program's, or None where it is one."""
     server = Server((address, port), Handler)
-    server.answer, server.health, server.with_remarks = answer, health, with_remarks
+    server.answer, server.health, server.with_remarks, server.with_every = answer, health, with_remarks, with_every
     threading.Thread(target=server.serve_forever, args=(0.05,), daemon=True).start()
     return server
