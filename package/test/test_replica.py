@@ -147,6 +147,18 @@ class Replica(unittest.TestCase):
         told = self.root.run(f"sqlite3 -readonly {file} 'select told from journal order by number'").split()
         self.assertEqual([word.partition("/")[2] for word in told], ["000000000001", "000000000002"])
 
+    def test_a_backup_and_an_audit_end_it_and_start_it_again(self):
+        self.enter("Before the backup")
+        for unit, word in ((f"{UNIT}-backup", "/var/backups/microloan/desk-"), (f"{UNIT}-audit", "sound")):
+            self.root.run(f"systemctl start {unit}")
+            self.assertIn(word, self.root.run(f"journalctl --no-pager -u {unit}"))
+            self.assertEqual(self.shown("ActiveState"), "active")
+            self.wait_until(self.is_writer)
+        made = self.root.run("ls /var/backups/microloan").split()
+        self.assertEqual(len([name for name in made if name.endswith(".tar.age")]), 1, made)
+        self.assertNotIn("backup", self.kept())
+        self.enter("After the backup")
+
     def test_it_may_do_little(self):
         told = self.root.run(f"systemd-analyze security --no-pager {UNIT} | tail -n 1")
         self.assertLessEqual(float(told.split(":")[1].split()[0]), MOST_EXPOSED, told)
