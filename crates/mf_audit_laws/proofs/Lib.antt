@@ -1,0 +1,14 @@
+pub mod WalkLemmas
+pub mod FoundLemmas
+pub mod BlockLemmas
+pub mod NextLemmas
+pub mod MemberLemmas
+pub mod CatalogueLemmas
+pub mod OfficeLemmas
+pub mod LoanLemmas
+pub mod EntryLemmas
+pub mod ReceiptLemmas
+pub mod PartLemmas
+pub mod RowLemmas
+pub mod AccountLemmas
+pub mod NeverLemmas
