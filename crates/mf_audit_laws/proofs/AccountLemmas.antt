@@ -1,7 +1,7 @@
 -- Rows of accounts that differ in nothing from those that replaying gives.
-use Rattle.std.proofs.Common.{◌≡◌, ◌∙◌, ◌++◌, ℕ, List, [], ◌∷◌, map, refl, sym, subst, ap, Ordering, Less, inl, inr}
+use Rattle.std.proofs.Common.{◌≡◌, ◌∙◌, ℕ, List, [], ◌∷◌, map, refl, subst, ap, Ordering, Less, inl, inr}
 use Rattle.std.specs.Cmp.{IsTotalOrder}
-use Rattle.std.specs.List.{AllByRecursion, Contains}
+use Rattle.std.specs.List.{Contains}
 use Rattle.sqlite_trees.specs.Tree.{IsAscending}
 use Rattle.mf_store_schema.specs.Rows.{Lists, by_instalment, by_share}
 use Rattle.mf_store_schema.specs.Versions.{number_of}

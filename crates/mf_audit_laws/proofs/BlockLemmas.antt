@@ -4,7 +4,7 @@ use Rattle.std.proofs.Common.{refl, sym, subst, ap, arith, inl, inr, take, drop}
 use Rattle.std.specs.List.{AllByRecursion, prefix_len}
 use Rattle.std.proofs.lemmas.Bool.Decides.{nat_tests}
 use Rattle.sqlite_keyed.proofs.ListLemmas.{all_weaker}
-use Rattle.mf_store_values.specs.Parts.{own_count, own, later}
+use Rattle.mf_store_values.specs.Parts.{own, later}
 use Rattle.mf_store_sound.specs.Stored.{AllFrom}
 use Rattle.mf_audit_laws.proofs.WalkLemmas.{Walk}
 

@@ -1,12 +1,12 @@
 -- Rows of meta, of charges and of products that keep all conditions.
-use Rattle.std.proofs.Common.{◌≡◌, ◌≢◌, ◌<◌, ◌≤◌, ◌+◌, ◌==◌, ◌∙◌, ◌&&◌, ℕ, suc, pos, Bool, true, false, List, [], ◌∷◌}
-use Rattle.std.proofs.Common.{length, Option, Some, None, refl, sym, subst, ap, arith}
+use Rattle.std.proofs.Common.{◌≡◌, ◌<◌, ◌≤◌, ◌==◌, ◌∙◌, ◌&&◌, ℕ, pos, true, false, List, [], ◌∷◌}
+use Rattle.std.proofs.Common.{length, Option, Some, None, refl, sym, subst, arith}
 use Rattle.std.specs.Prelude.{nat_le, nat_lt, ◌<ℤ◌, if◌then◌else◌}
 use Rattle.std.specs.List.{AllByRecursion}
 use Rattle.std.proofs.lemmas.Bool.{eq-eqb}
 use Rattle.std.proofs.lemmas.Bool.Decides.{nat_tests}
 use Rattle.std.proofs.lemmas.Int.{ints}
-use Rattle.mf_base.specs.DayText.{last_entered_day, day_text}
+use Rattle.mf_base.specs.DayText.{last_entered_day}
 use Rattle.mf_base.specs.declared.day.Freq.{Freq}
 use Rattle.mf_catalog.specs.declared.charge.ChargeKind.{ChargeKind}
 use Rattle.mf_catalog.specs.declared.charge.ChargeKind.TheVariants.{Disbursement, Instalment, Overdue}
@@ -15,7 +15,7 @@ use Rattle.mf_catalog.specs.declared.terms.Method.{Method}
 use Rattle.mf_catalog.specs.declared.terms.StrategyName.{StrategyName}
 use Rattle.mf_catalog.specs.Limits.{greatest_rate, most_grace}
 use Rattle.mf_catalog.specs.Names.{kind_number}
-use Rattle.mf_catalog.specs.Product.{is_of_kind, limits_agree, is_consistent}
+use Rattle.mf_catalog.specs.Product.{is_of_kind, limits_agree}
 use Rattle.mf_model.specs.Institution.{Catalogue, ListedProduct, charge_in}
 use Rattle.mf_model.specs.Sound.{AreMembers, IsSoundCharge, IsSoundOffer}
 use Rattle.mf_store_schema.specs.declared.charges.ChargeRow.{ChargeRow}
@@ -25,7 +25,7 @@ use Rattle.mf_store_values.specs.Flat.{charge_as, product_as, numbered_from}
 use Rattle.mf_store_sound.specs.Charges.{HasRowOfKind}
 use Rattle.mf_store_sound.specs.Schemas.{meta_under}
 use Rattle.mf_store_sound.specs.Stored.{IsRowOf, AllFrom}
-use Rattle.mf_store_sound.proofs.ProductLemmas.{is_kind, named_charge}
+use Rattle.mf_store_sound.proofs.ProductLemmas.{named_charge}
 use Rattle.mf_store_audit.specs.Catalogue.{BreaksMeta, BreaksCharge, BreaksProduct}
 use Rattle.mf_store_audit.specs.Findings.{IsToday, told_of_meta}
 use Rattle.mf_store_audit.specs.Kinds.{charge_flaws, meta_flaws, product_flaws}

@@ -1,14 +1,12 @@
 -- Rows of entries that keep all conditions.
-use Rattle.std.proofs.Common.{◌≡◌, ◌≢◌, ◌<◌, ◌≤◌, ◌+◌, ◌==◌, ◌∙◌, ◌&&◌, ◌^◌, ℕ, suc, pos, Bool, true, false, List, []}
-use Rattle.std.proofs.Common.{◌∷◌, length, Option, Some, None, refl, sym, subst, ap, arith, Ordering, Less, true≢false}
+use Rattle.std.proofs.Common.{◌≡◌, ◌≢◌, ◌<◌, ◌≤◌, ◌^◌, ℕ, true, List, []}
+use Rattle.std.proofs.Common.{◌∷◌, Option, Some, None, refl, sym, arith, Ordering, Less, true≢false}
 use Rattle.std.specs.Prelude.{IfSome}
 use Rattle.std.specs.Cmp.{IsTotalOrder}
-use Rattle.std.specs.List.{AllByRecursion, Contains, list_any}
+use Rattle.std.specs.List.{AllByRecursion, list_any}
 use Rattle.sqlite_keyed.proofs.ListLemmas.{all_weaker}
 use Rattle.sqlite_trees.specs.Tree.{IsAscending}
-use Rattle.mf_base.specs.DayText.{last_entered_day, day_text}
 use Rattle.mf_office.specs.Texts.{IsCaller, caller_of}
-use Rattle.mf_office.specs.Written.{caller_text}
 use Rattle.mf_office.specs.declared.caller.Caller.{Caller}
 use Rattle.mf_office.proofs.ReadLemmas.{caller_exact}
 use Rattle.mf_alloc.specs.declared.row.Portion.{Portion}

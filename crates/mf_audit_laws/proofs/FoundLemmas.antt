@@ -1,7 +1,7 @@
 -- What it means that nothing is found.
 use Rattle.std.proofs.Common.{◌≡◌, ℕ, ◌+◌, List, [], ◌∷◌, ◌++◌, Option, Some, None, refl, sym, subst, inl, inr}
 use Rattle.std.specs.List.{AllByRecursion}
-use Rattle.mf_store_audit.specs.Places.{AreFound, AreFoundIn, AreInTurn, IsFirst, told_at}
+use Rattle.mf_store_audit.specs.Places.{AreFound, AreInTurn, IsFirst, told_at}
 use Rattle.mf_audit_laws.proofs.WalkLemmas.{Walk}
 
 -- both parts of an empty list are

@@ -1,13 +1,12 @@
 -- Rows of loans that keep all conditions.
-use Rattle.std.proofs.Common.{◌≡◌, ◌≢◌, ◌<◌, ◌≤◌, ◌+◌, ◌==◌, ◌∙◌, ◌&&◌, ℕ, ℤ, suc, pos, Bool, true, false, List, []}
-use Rattle.std.proofs.Common.{◌∷◌, length, Option, Some, None, refl, sym, subst, ap, arith}
+use Rattle.std.proofs.Common.{◌≡◌, ◌≤◌, ◌==◌, ◌&&◌, ℕ, ℤ, pos, Bool, true, false, List}
+use Rattle.std.proofs.Common.{Option, Some, None, refl, sym, subst, ap, arith}
 use Rattle.std.specs.Prelude.{◌-◌, cond, negsuc, nat_le, slice_get, ◌≤ℤ◌}
 use Rattle.std.specs.List.{AllByRecursion}
 use Rattle.std.proofs.lemmas.Bool.Decides.{nat_tests}
 use Rattle.std.proofs.lemmas.Int.{ints}
 use Rattle.sqlite_keyed.proofs.ListLemmas.{all-slice_get}
 use Rattle.mf_catalog.specs.Product.{allows}
-use Rattle.mf_catalog.specs.declared.product.ProductMembers.{ProductMembers}
 use Rattle.mf_model.specs.Institution.{Catalogue, ListedProduct, item_numbered, product_in}
 use Rattle.mf_model.specs.Sound.{IsStageBy, lends}
 use Rattle.mf_model.specs.declared.loan.Loan.{Loan}
@@ -24,7 +23,6 @@ use Rattle.mf_store_audit.specs.Loans.{is_client, BreaksLoan}
 use Rattle.mf_store_audit.specs.Offices.{is_office}
 use Rattle.mf_audit_laws.proofs.CatalogueLemmas.{AreOffers, IsOfferRow}
 use Rattle.mf_audit_laws.proofs.FoundLemmas.{Keeps}
-use Rattle.mf_audit_laws.proofs.MemberLemmas.{each_at}
 use Rattle.mf_audit_laws.proofs.NextLemmas.{AreStarted, IsNumbered, is_after, pairs_start}
 use Rattle.mf_audit_laws.proofs.WalkLemmas.{Walk, all_stand, found_once, no_greater, passes, same_number, walk_each, walk_weaker}
 

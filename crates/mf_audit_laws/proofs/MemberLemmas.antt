@@ -1,6 +1,6 @@
 -- Rows that stand in a list, and lists that rise and have the same rows.
-use Rattle.std.proofs.Common.{◌≡◌, ◌≢◌, ◌<◌, ◌≤◌, ◌+◌, ◌∙◌, ◌⊎◌, ℕ, zero, suc, Bool, true, false, List, [], ◌∷◌, length}
-use Rattle.std.proofs.Common.{◌||◌, ◌&&◌, ◌==◌, cond, eqb-true, Some, get_or, refl, sym, subst, ap, arith, inl, inr, Ordering, Less, Equal, Greater, true≢false}
+use Rattle.std.proofs.Common.{◌≡◌, ◌<◌, ◌∙◌, ◌⊎◌, ℕ, zero, suc, Bool, true, false, List, [], ◌∷◌, length}
+use Rattle.std.proofs.Common.{◌||◌, ◌&&◌, ◌==◌, cond, eqb-true, Some, refl, sym, subst, ap, arith, inl, inr, Ordering, Less, Equal, Greater, true≢false}
 use Rattle.std.specs.Cmp.{IsTotalOrder}
 use Rattle.std.specs.List.{AllByRecursion, Contains, list_any}
 use Rattle.std.specs.Option.{is_some}
@@ -94,10 +94,10 @@ module _ {X : Type 0} (cmp : X → X → Ordering) (total : IsTotalOrder cmp) wh
   same_rising (x ∷ xs) (y ∷ ys) up over there here =
       let same : x ≡ y = heads (contains_cases y x ys there.0) (contains_cases x y xs here.0) in
       λ t. same t ∷ same_rising xs ys up.1 over.1
-          (each_within xs ys (λ z at. tail ys y z (subst (λ a. cmp a z ≡ Less) same
-          (each_at (λ a. cmp x a ≡ Less) xs z up.0 at)) (each_at (λ a. Contains (y ∷ ys) a) xs z there.1 at)))
-          (each_within ys xs (λ z at. tail xs x z (subst (λ a. cmp a z ≡ Less) (sym same)
-          (each_at (λ a. cmp y a ≡ Less) ys z over.0 at)) (each_at (λ a. Contains (x ∷ xs) a) ys z here.1 at))) t
+      (each_within xs ys (λ z at. tail ys y z (subst (λ a. cmp a z ≡ Less) same
+      (each_at (λ a. cmp x a ≡ Less) xs z up.0 at)) (each_at (λ a. Contains (y ∷ ys) a) xs z there.1 at)))
+      (each_within ys xs (λ z at. tail xs x z (subst (λ a. cmp a z ≡ Less) (sym same)
+      (each_at (λ a. cmp y a ≡ Less) ys z over.0 at)) (each_at (λ a. Contains (x ∷ xs) a) ys z here.1 at))) t
     where
       heads : (y ≡ x) ⊎ Contains ys x → (x ≡ y) ⊎ Contains xs y → x ≡ y
       heads (inl same) other = sym same
@@ -123,14 +123,14 @@ module _ {X : Type 0} (cmp : X → X → Ordering) (total : IsTotalOrder cmp) wh
           | inr later ↦ absurd (
               let low : cmp a b ≡ Less = subst (λ q. cmp q b ≡ Less) same (each_at (λ q. cmp x q ≡ Less) xs b up.0 later) in
               let both : Less ≡ Equal = sym low ∙ tied in cc
-          )
+              )
         ]
         | inr later ↦ elim (contains_cases x b xs there) [
           | inl other ↦ absurd (
               let low : cmp b a ≡ Less = subst (λ q. cmp q a ≡ Less) other (each_at (λ q. cmp x q ≡ Less) xs a up.0 later) in
               let back : cmp b a ≡ Equal = total.antisymm b a ∙ ap ordering_reverse tied in
               let both : Less ≡ Equal = sym low ∙ back in cc
-          )
+              )
           | inr further ↦ one_of_key xs a b up.1 later further tied
         ]
       ]

@@ -1,10 +1,10 @@
 -- Findings name rows: none says only that no sound institution has them.
-use Rattle.std.proofs.Common.{◌≡◌, ◌≢◌, ◌≤◌, ◌==◌, ◌++◌, ◌+◌, ℕ, Bool, true, false, List, [], ◌∷◌, map, length, Option}
+use Rattle.std.proofs.Common.{◌≡◌, ◌≢◌, ◌==◌, ◌+◌, ℕ, Bool, true, false, List, [], ◌∷◌, map, length, Option}
 use Rattle.std.proofs.Common.{Some, None, refl, sym, subst, ap, ◌∙◌}
 use Rattle.std.specs.Prelude.{if◌then◌else◌}
 use Rattle.std.specs.List.{AllByRecursion, Contains}
 use Rattle.sqlite_keyed.proofs.ListLemmas.{all-append}
-use Rattle.mf_base.specs.DayText.{last_entered_day, day_text}
+use Rattle.mf_base.specs.DayText.{last_entered_day}
 use Rattle.mf_base.proofs.DayTextLemmas.{day_text-injective}
 use Rattle.mf_store_schema.specs.Rows.{Lists}
 use Rattle.mf_store_schema.specs.Versions.{number_of}
@@ -139,16 +139,22 @@ accounts_named Third t found are = differing_named Third t found are
 
 -- there is always one by which rows are judged
 some_today : (schema : ℕ) (rows : List MetaRow) → ¬ ¬ ((today : ℕ) × IsToday schema rows today)
-some_today schema rows fails = fails (last_entered_day, record {
-  told = λ day entered are. absurd (fails (day, record {
-    told = λ other within also.
-        let same : meta_under schema day ∷ [] ≡ meta_under schema other ∷ [] = are ∙ sym also in
-        let rows_same : meta_under schema day ≡ meta_under schema other = cc in
-        day_text-injective day other (ap (λ (r : MetaRow). r.day) rows_same);
-    untold = λ none. absurd (none day entered are);
-  }));
-  untold = λ none. refl;
-})
+some_today schema rows fails = fails (
+  last_entered_day,
+  record {
+    told = λ day entered are. absurd (fails (
+      day,
+      record {
+        told = λ other within also.
+            let same : meta_under schema day ∷ [] ≡ meta_under schema other ∷ [] = are ∙ sym also in
+            let rows_same : meta_under schema day ≡ meta_under schema other = cc in
+            day_text-injective day other (ap (λ (r : MetaRow). r.day) rows_same);
+        untold = λ none. absurd (none day entered are);
+      },
+    ));
+    untold = λ none. refl;
+  },
+)
 
 -- ---- a broken file names a row
 

@@ -1,23 +1,19 @@
 -- Rows of offices, of staff and of clients that keep all conditions.
-use Rattle.std.proofs.Common.{◌≡◌, ◌≢◌, ◌<◌, ◌≤◌, ◌+◌, ◌==◌, ◌∙◌, ◌&&◌, ℕ, suc, Bool, true, false, List, [], ◌∷◌, map}
-use Rattle.std.proofs.Common.{length, Option, Some, None, refl, sym, subst, ap, arith, Less, nat_cmp}
+use Rattle.std.proofs.Common.{◌≡◌, ◌<◌, ◌≤◌, ◌==◌, ◌∙◌, true, List, [], ◌∷◌}
+use Rattle.std.proofs.Common.{Option, Some, None, refl, sym, arith, Less}
 use Rattle.std.specs.List.{AllByRecursion}
 use Rattle.std.specs.Prelude.{if◌then◌else◌}
-use Rattle.std.specs.Option.{is_some}
 use Rattle.std.proofs.lemmas.Bool.Decides.{nat_tests}
-use Rattle.sqlite_keyed.proofs.ListLemmas.{all_weaker}
 use Rattle.mf_model.specs.Institution.{Staff}
 use Rattle.mf_model.specs.Sound.{IsName}
 use Rattle.mf_office.specs.Keys.{key_depth}
-use Rattle.mf_office.specs.Roles.{role_number}
 use Rattle.mf_store_schema.specs.Rows.{by_office, by_staff, by_client}
 use Rattle.mf_store_schema.specs.declared.clients.ClientRow.{ClientRow}
 use Rattle.mf_store_schema.specs.declared.offices.OfficeRow.{OfficeRow}
 use Rattle.mf_store_schema.specs.declared.staff.StaffRow.{StaffRow}
 use Rattle.mf_store_values.specs.Flat.{staff_in, client_in}
-use Rattle.mf_store_sound.specs.Offices.{AreOffices, AreOfficeRows, AscendFrom, IsOfficeRow, office_row_in}
+use Rattle.mf_store_sound.specs.Offices.{AreOfficeRows, AscendFrom, IsOfficeRow}
 use Rattle.mf_store_sound.specs.Stored.{IsRowOf}
-use Rattle.mf_store_sound.proofs.OfficeTreeLemmas.{KeysLaw, offices_from_rows}
 use Rattle.mf_store_audit.specs.Findings.{told_of_head}
 use Rattle.mf_store_audit.specs.Kinds.{client_flaws, office_flaws, staff_flaws}
 use Rattle.mf_store_audit.specs.Offices.{is_office, BreaksOffice, BreaksStaff, BreaksClient}

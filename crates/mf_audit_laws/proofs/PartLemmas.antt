@@ -1,6 +1,6 @@
 -- Rows of staff, clients, loans and entries that keep all conditions, office by office and loan by loan.
-use Rattle.std.proofs.Common.{◌≡◌, ◌≢◌, ◌↔◌, ◌<◌, ◌≤◌, ◌+◌, ◌-◌, ◌==◌, ◌∙◌, ◌&&◌, ◌||◌, ◌++◌, ℕ, zero, suc, Bool, true}
-use Rattle.std.proofs.Common.{false, cond, List, [], ◌∷◌, map, length, get_or, Option, Some, None, refl, sym, subst, ap}
+use Rattle.std.proofs.Common.{◌≡◌, ◌≢◌, ◌<◌, ◌≤◌, ◌+◌, ◌-◌, ◌==◌, ◌∙◌, ◌&&◌, ◌||◌, ℕ, zero, suc, Bool, true}
+use Rattle.std.proofs.Common.{false, cond, List, [], ◌∷◌, map, length, Option, Some, None, refl, sym, subst, ap}
 use Rattle.std.proofs.Common.{arith, eqb-true, true≢false}
 use Rattle.std.specs.Prelude.{option_map, slice_get}
 use Rattle.std.specs.List.{AllByRecursion, Contains, list_any}
@@ -14,11 +14,10 @@ use Rattle.std.proofs.lemmas.Option.{slice_get-get_or}
 use Rattle.sqlite_keyed.proofs.ListLemmas.{all_both, all_weaker, any_from_none}
 use Rattle.sqlite_trees.proofs.ListLemmas.{all-get_or}
 use Rattle.mf_base.specs.DayText.{last_entered_day, day_text}
-use Rattle.mf_account.specs.Kinds.{is_seal}
-use Rattle.mf_account.specs.Loan.{HasColumns, IsEntry, SealIsLast}
+use Rattle.mf_account.specs.Loan.{IsEntry, SealIsLast}
 use Rattle.mf_account.specs.Standing.{entry_at, is_before}
 use Rattle.mf_account.specs.declared.entry.Entry.{Entry}
-use Rattle.mf_model.specs.Institution.{Catalogue, Office, Staff, item_numbered}
+use Rattle.mf_model.specs.Institution.{Catalogue, Staff, item_numbered}
 use Rattle.mf_model.specs.Sound.{IsName, IsStageBy}
 use Rattle.mf_model.specs.Stages.{disbursed_on}
 use Rattle.mf_model.specs.Tree.{Above, Ascending}
@@ -33,24 +32,24 @@ use Rattle.mf_store_schema.specs.declared.products.ProductRow.{ProductRow}
 use Rattle.mf_store_schema.specs.declared.receipts.ReceiptRow.{ReceiptRow}
 use Rattle.mf_store_schema.specs.declared.staff.StaffRow.{StaffRow}
 use Rattle.mf_store_values.specs.Flat.{client_in, entry_in, loan_in, numbered_from, product_as, staff_in}
-use Rattle.mf_store_values.specs.Ledgers.{IsEnteredBy, IsOwnLoan, IsReadable}
+use Rattle.mf_store_values.specs.Ledgers.{IsEnteredBy, IsOwnLoan}
 use Rattle.mf_store_values.specs.Parts.{office_of, own, own_count, later}
 use Rattle.mf_store_sound.specs.Entries.{AreLoanEntries}
-use Rattle.mf_store_sound.specs.Sound.{AreLoanParts, AreOfficeParts, IsLoanPart}
+use Rattle.mf_store_sound.specs.Sound.{AreLoanParts, AreOfficeParts}
 use Rattle.mf_store_sound.specs.Stages.{AreEntriesOf}
 use Rattle.mf_store_sound.specs.Stored.{IsRowOf, AllFrom}
 use Rattle.mf_store_sound.proofs.LoanPartLemmas as loan_parts
 use Rattle.mf_store_sound.proofs.OfficePartLemmas as office_parts
 use Rattle.mf_store_sound.proofs.StoredLemmas.{AreRowsOf, all_parts, values_of}
-use Rattle.mf_store_audit.specs.Entries.{is_own_loan, HasWrongColumns, IsEarly, IsNotLast, OnLoan}
+use Rattle.mf_store_audit.specs.Entries.{is_own_loan, IsNotLast}
 use Rattle.mf_store_audit.specs.Loans.{is_client}
 use Rattle.mf_store_audit.specs.Offices.{is_office}
 use Rattle.mf_audit_laws.proofs.BlockLemmas.{Block, Chain, Starts, chain_from, later_above, later_starts, own_block}
 use Rattle.mf_audit_laws.proofs.EntryLemmas.{IsEntered, columns_stand}
-use Rattle.mf_audit_laws.proofs.LoanLemmas.{IsLent, IsLoanRow, lends_under}
+use Rattle.mf_audit_laws.proofs.LoanLemmas.{IsLent, lends_under}
 use Rattle.mf_audit_laws.proofs.MemberLemmas.{any_there, both_equal, each_at}
-use Rattle.mf_audit_laws.proofs.NextLemmas.{AreBlock, AreChained, AreStarted, IsFirstRow, IsNext, block_chain}
-use Rattle.mf_audit_laws.proofs.NextLemmas.{AreStartedThere, IsNextThere, block_numbers, chain_starts, first_next}
+use Rattle.mf_audit_laws.proofs.NextLemmas.{AreBlock, AreStarted, IsFirstRow, IsNext, block_chain}
+use Rattle.mf_audit_laws.proofs.NextLemmas.{IsNextThere, block_numbers, chain_starts, first_next}
 use Rattle.mf_audit_laws.proofs.NextLemmas.{first_there, place_of}
 use Rattle.mf_audit_laws.proofs.OfficeLemmas.{IsClientRow, IsStaffRow}
 use Rattle.mf_audit_laws.proofs.WalkLemmas.{few, from_both, from_weaker, less_one, no_greater, some_limit}
@@ -431,7 +430,7 @@ module _ (today : ℕ) (loans : List LoanRow) (staff : List StaffRow) (receipts 
             let a = eq-eqb row.office e.office (office ∙ sym each.0.office) in
             let b = eq-eqb row.number e.loan (number ∙ sym numbers.0.0) in
             λ t. a t && b t
-        );
+            );
         holds = undisbursed;
       }))
 
@@ -758,8 +757,12 @@ module _ (today : ℕ) (offices : List OfficeRow) (products : List ProductRow) (
           (block_chain entry_owner entry_loan entry_seq o.number 0 0 (own entry_owner o.number e) entries_block).1
           (split_each (λ (row : EntryRow). list_any (is_own_loan row) l ≡ true) entry_owner o.number e h.lent).0)
 
-      part : office_parts.IsPart k o.number (own staff_owner o.number s, own client_owner o.number c,
-          own loan_owner o.number l, own entry_owner o.number e)
+      part : office_parts.IsPart k o.number (
+        own staff_owner o.number s,
+        own client_owner o.number c,
+        own loan_owner o.number l,
+        own entry_owner o.number e,
+      )
       part = (office_parts.office_part k o.number (own staff_owner o.number s) (own client_owner o.number c)
           (own loan_owner o.number l) (own entry_owner o.number e) (Unit {0}) own_staff own_clients
           (λ names count. (
@@ -792,9 +795,12 @@ module _ (today : ℕ) (offices : List OfficeRow) (products : List ProductRow) (
     )
     parts_left (o ∷ os) s c l e up h =
         (office_parts.first_and_others k (o ∷ os) 0 o (some_first (length os)) refl up (s, c, l, e)
-        (own staff_owner o.number s, own client_owner o.number c, own loan_owner o.number l, own entry_owner o.number e)
-        (later staff_owner o.number s, later client_owner o.number c, later loan_owner o.number l,
-        later entry_owner o.number e) (refl, refl, refl, refl) (refl, refl, refl, refl)).1 (
+        (own staff_owner o.number s, own client_owner o.number c, own loan_owner o.number l, own entry_owner o.number e) (
+          later staff_owner o.number s,
+          later client_owner o.number c,
+          later loan_owner o.number l,
+          later entry_owner o.number e,
+        ) (refl, refl, refl, refl) (refl, refl, refl, refl)).1 (
           part o os up.0 s c l e h k day_is entered_day products_are,
           parts_left os (later staff_owner o.number s) (later client_owner o.number c) (later loan_owner o.number l)
               (later entry_owner o.number e) up.1 (others_left o os up.0 s c l e h),

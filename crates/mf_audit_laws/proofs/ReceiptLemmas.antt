@@ -1,6 +1,6 @@
 -- Rows of receipts that keep all conditions, beside rows of entries that do.
-use Rattle.std.proofs.Common.{◌≡◌, ◌≢◌, ◌∙◌, ◌++◌, ℕ, Bool, true, false, List, [], ◌∷◌, Option, Some, None, refl, sym, inl, inr}
-use Rattle.std.proofs.Common.{subst, ap, arith, Ordering, Less, Equal, Greater, nat_cmp, is_eq, is_lt, IsPermutation}
+use Rattle.std.proofs.Common.{◌≡◌, ◌++◌, ℕ, false, List, [], ◌∷◌, Option, Some, None, refl, sym, inl, inr}
+use Rattle.std.proofs.Common.{subst, ap, arith, Ordering, Less, Equal, Greater, nat_cmp, is_eq, is_lt}
 use Rattle.std.specs.List.{AllByRecursion, Contains}
 use Rattle.std.specs.Ordering.{ordering_then}
 use Rattle.std.proofs.lemmas.Bool.Decides.{nat_tests}
@@ -11,7 +11,7 @@ use Rattle.sqlite_keyed.proofs.SortLemmas.{IsPermutation-sort_by}
 use Rattle.sqlite_keyed.specs.Lists.{sort_by}
 use Rattle.sqlite_trees.specs.Tree.{IsAscending}
 use Rattle.sqlite_trees.proofs.ListLemmas.{all-permutation}
-use Rattle.mf_store_schema.specs.Rows.{by_entry, by_receipt, AreReceiptsInOrder}
+use Rattle.mf_store_schema.specs.Rows.{by_entry, by_receipt}
 use Rattle.mf_store_schema.specs.declared.entries.EntryRow.{EntryRow}
 use Rattle.mf_store_schema.specs.declared.receipts.ReceiptRow.{ReceiptRow}
 use Rattle.mf_store_schema.proofs.OrderLemmas.{by_receipt_total}
@@ -22,7 +22,7 @@ use Rattle.mf_store_audit.specs.Kinds.{receipt_flaws}
 use Rattle.mf_store_audit.specs.Places.{IsAfter}
 use Rattle.mf_audit_laws.proofs.EntryLemmas.{rise}
 use Rattle.mf_audit_laws.proofs.FoundLemmas.{Keeps}
-use Rattle.mf_audit_laws.proofs.MemberLemmas.{contains_first, contains_later, contains_none, contains_cases, each_at}
+use Rattle.mf_audit_laws.proofs.MemberLemmas.{contains_first, contains_none, contains_cases}
 use Rattle.mf_audit_laws.proofs.MemberLemmas.{each_within, one_of_key, same_rising}
 use Rattle.mf_audit_laws.proofs.NextLemmas.{is_after}
 use Rattle.mf_audit_laws.proofs.WalkLemmas.{Walk, all_stand, walk_each, walk_weaker}

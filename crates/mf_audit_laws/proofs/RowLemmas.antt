@@ -1,8 +1,8 @@
 -- Tables in whose rows nothing is found are those of a sound institution, but for the rows of accounts.
-use Rattle.std.proofs.Common.{◌≡◌, ◌≢◌, ◌<◌, ◌≤◌, ◌+◌, ◌==◌, ◌∙◌, ◌&&◌, ℕ, Bool, true, false, List, [], ◌∷◌, map}
-use Rattle.std.proofs.Common.{length, get_or, Option, Some, None, Ok, refl, sym, subst, ap, arith, inl, inr, nat_cmp}
-use Rattle.std.proofs.Common.{eqb-true, true≢false, Equal}
-use Rattle.std.specs.List.{AllByRecursion, Contains, list_all, list_any}
+use Rattle.std.proofs.Common.{◌≡◌, ◌≤◌, ◌+◌, ◌==◌, ◌∙◌, ◌&&◌, ℕ, true, List, [], ◌∷◌}
+use Rattle.std.proofs.Common.{length, Some, None, sym, subst, ap, arith, inl, inr, nat_cmp}
+use Rattle.std.proofs.Common.{eqb-true, Equal}
+use Rattle.std.specs.List.{AllByRecursion, Contains, list_all}
 use Rattle.std.specs.Ordering.{ordering_then}
 use Rattle.std.proofs.lemmas.Bool.Decides.{nat_tests}
 use Rattle.std.proofs.lemmas.List.{get_or_default}
@@ -14,10 +14,9 @@ use Rattle.mf_office.specs.declared.caller.Caller.{Caller}
 use Rattle.mf_model.specs.Institution.{Office}
 use Rattle.mf_model.specs.Sound.{IsSoundCharge, is_staff}
 use Rattle.mf_model.specs.Tree.{Ascending}
-use Rattle.mf_store_schema.specs.Rows.{Lists, by_entry}
+use Rattle.mf_store_schema.specs.Rows.{Lists}
 use Rattle.mf_store_schema.specs.Versions.{number_of}
 use Rattle.mf_store_schema.specs.declared.entries.EntryRow.{EntryRow}
-use Rattle.mf_store_schema.specs.declared.loans.LoanRow.{LoanRow}
 use Rattle.mf_store_schema.specs.declared.offices.OfficeRow.{OfficeRow}
 use Rattle.mf_store_schema.specs.declared.staff.StaffRow.{StaffRow}
 use Rattle.mf_store_schema.specs.declared.versions.Version.{Version}
@@ -37,11 +36,10 @@ use Rattle.mf_store_audit.specs.Entries.{is_own_loan, is_staff_named, AreListed,
 use Rattle.mf_store_audit.specs.Findings.{IsToday, found_in_rows}
 use Rattle.mf_store_audit.specs.Kinds.{charge_flaws, client_flaws, entry_flaws, loan_flaws, meta_flaws, office_flaws}
 use Rattle.mf_store_audit.specs.Kinds.{product_flaws, receipt_flaws, staff_flaws}
-use Rattle.mf_store_audit.specs.Loans.{is_client, BreaksLoan}
+use Rattle.mf_store_audit.specs.Loans.{BreaksLoan}
 use Rattle.mf_store_audit.specs.Offices.{is_office, BreaksClient, BreaksOffice, BreaksStaff}
 use Rattle.mf_store_audit.specs.Places.{AreInTurn}
 use Rattle.mf_store_audit.specs.declared.finding.Finding.TheVariants as finding
-use Rattle.mf_audit_laws.proofs.BlockLemmas.{Chain, Link}
 use Rattle.mf_audit_laws.proofs.CatalogueLemmas.{AreOffers, charges_are, meta_is, offers_under, products_are}
 use Rattle.mf_audit_laws.proofs.EntryLemmas.{AreEntryRows, IsEntered, entries_are}
 use Rattle.mf_audit_laws.proofs.FoundLemmas.{none_found, none_of_each}
