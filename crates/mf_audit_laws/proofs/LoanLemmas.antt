@@ -24,7 +24,8 @@ use Rattle.mf_store_audit.specs.Offices.{is_office}
 use Rattle.mf_audit_laws.proofs.CatalogueLemmas.{AreOffers, IsOfferRow}
 use Rattle.mf_audit_laws.proofs.FoundLemmas.{Keeps}
 use Rattle.mf_audit_laws.proofs.NextLemmas.{AreStarted, IsNumbered, is_after, pairs_start}
-use Rattle.mf_audit_laws.proofs.WalkLemmas.{Walk, all_stand, found_once, no_greater, passes, same_number, walk_each, walk_weaker}
+use Rattle.mf_audit_laws.proofs.WalkLemmas.{Walk, all_stand, found_once, no_greater}
+use Rattle.mf_audit_laws.proofs.WalkLemmas.{passes, same_number, walk_each, walk_weaker}
 
 -- the row is that of a loan at a stage that it can have reached, whose product's row allows it
 pub record IsLent (today : ℕ) (products : List ProductRow) (row : LoanRow) : Type 0 where

@@ -1,6 +1,7 @@
 -- Rows that stand in a list, and lists that rise and have the same rows.
 use Rattle.std.proofs.Common.{◌≡◌, ◌<◌, ◌∙◌, ◌⊎◌, ℕ, zero, suc, Bool, true, false, List, [], ◌∷◌, length}
-use Rattle.std.proofs.Common.{◌||◌, ◌&&◌, ◌==◌, cond, eqb-true, Some, refl, sym, subst, ap, arith, inl, inr, Ordering, Less, Equal, Greater, true≢false}
+use Rattle.std.proofs.Common.{◌||◌, ◌&&◌, ◌==◌, cond, eqb-true, Some, refl, sym, subst}
+use Rattle.std.proofs.Common.{ap, arith, inl, inr, Ordering, Less, Equal, Greater, true≢false}
 use Rattle.std.specs.Cmp.{IsTotalOrder}
 use Rattle.std.specs.List.{AllByRecursion, Contains, list_any}
 use Rattle.std.specs.Option.{is_some}
@@ -121,13 +122,15 @@ module _ {X : Type 0} (cmp : X → X → Ordering) (total : IsTotalOrder cmp) wh
         | inl same ↦ elim (contains_cases x b xs there) [
           | inl other ↦ sym same ∙ other
           | inr later ↦ absurd (
-              let low : cmp a b ≡ Less = subst (λ q. cmp q b ≡ Less) same (each_at (λ q. cmp x q ≡ Less) xs b up.0 later) in
+              let low : cmp a b ≡ Less =
+              subst (λ q. cmp q b ≡ Less) same (each_at (λ q. cmp x q ≡ Less) xs b up.0 later) in
               let both : Less ≡ Equal = sym low ∙ tied in cc
               )
         ]
         | inr later ↦ elim (contains_cases x b xs there) [
           | inl other ↦ absurd (
-              let low : cmp b a ≡ Less = subst (λ q. cmp q a ≡ Less) other (each_at (λ q. cmp x q ≡ Less) xs a up.0 later) in
+              let low : cmp b a ≡ Less =
+              subst (λ q. cmp q a ≡ Less) other (each_at (λ q. cmp x q ≡ Less) xs a up.0 later) in
               let back : cmp b a ≡ Equal = total.antisymm b a ∙ ap ordering_reverse tied in
               let both : Less ≡ Equal = sym low ∙ back in cc
               )

@@ -88,7 +88,10 @@ module _ {R : Type 0} (owner number : R → ℕ) where
       )
       go false e =
           let less : by_pair b r ≡ Less = h.0 in
-          inr ((let low : owner b < owner r = grind (arith, nat_tests) in low), h.1 ∙ ap (λ c. cond c (number b + 1) 1) e)
+          inr (
+            (let low : owner b < owner r = grind (arith, nat_tests) in low),
+            h.1 ∙ ap (λ c. cond c (number b + 1) 1) e,
+          )
 
   -- rows that owe nothing start owner by owner
   pub pairs_start : (rows : List R) → Walk IsNumbered None rows → AreStarted rows

@@ -238,7 +238,8 @@ module _ (today : ℕ) (loans : List LoanRow) (staff : List StaffRow) (receipts 
     entered : IsEntered today loans staff receipts entries row
     there : Contains entries row
 
-  module _ (n : ℕ) (r : LoanRow) (there : Contains loans r) (office_is : r.office ≡ x) (number_is : r.number ≡ n) (day : ℕ)
+  module _ (n : ℕ) (r : LoanRow) (there : Contains loans r) (office_is : r.office ≡ x) (number_is : r.number ≡ n)
+      (day : ℕ)
       (entered_day : day ≤ last_entered_day) (disbursed : r.disbursed ≡ Some (day_text day)) where
     -- what is told of an entry of the loan beside its number
     record IsGot (e : Entry) : Type 0 where
@@ -443,7 +444,8 @@ module _ (today : ℕ) (loans : List LoanRow) (staff : List StaffRow) (receipts 
           subst (λ d. AreLoanEntries d day l.periods x n rows) (sym day_is)
           (subst (λ p. AreLoanEntries today day p x n rows) periods
           (entries_of today loans staff receipts entries x n row there office number day
-          (day_within day k.day today last_entered_day low day_is entered_day) disbursed own_loans rows (few_entries own_loans n rows numbers each)
+          (day_within day k.day today last_entered_day low day_is entered_day) disbursed own_loans rows
+          (few_entries own_loans n rows numbers each)
           numbers each))
 
   loans_parts : (n : ℕ) (own_loans : List LoanRow) (rows : List EntryRow)
@@ -794,8 +796,12 @@ module _ (today : ℕ) (offices : List OfficeRow) (products : List ProductRow) (
           h.entries_left,
     )
     parts_left (o ∷ os) s c l e up h =
-        (office_parts.first_and_others k (o ∷ os) 0 o (some_first (length os)) refl up (s, c, l, e)
-        (own staff_owner o.number s, own client_owner o.number c, own loan_owner o.number l, own entry_owner o.number e) (
+        (office_parts.first_and_others k (o ∷ os) 0 o (some_first (length os)) refl up (s, c, l, e) (
+          own staff_owner o.number s,
+          own client_owner o.number c,
+          own loan_owner o.number l,
+          own entry_owner o.number e,
+        ) (
           later staff_owner o.number s,
           later client_owner o.number c,
           later loan_owner o.number l,

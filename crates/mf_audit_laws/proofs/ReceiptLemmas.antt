@@ -133,7 +133,8 @@ pub receipts_of : (receipts : List ReceiptRow) (entries : List EntryRow)
     → AllByRecursion (λ r. Contains (carried_by entries) r) receipts → AreReceiptsOf receipts entries
 receipts_of receipts entries rises listed up carried =
     let all = carried_by entries in
-    let sorted = IsPermutation-sym (sort_by by_receipt all) all (IsPermutation-sort_by by_receipt by_receipt_total all) in
+    let sorted = IsPermutation-sym (sort_by by_receipt all) all
+    (IsPermutation-sort_by by_receipt by_receipt_total all) in
     record {
       in_order = ascending_weaker (λ a b. by_receipt a b ≡ Less) _ (λ a b less. ap is_lt less) receipts up;
       rows_are = same_rising by_receipt by_receipt_total (sort_by by_receipt all) receipts

@@ -1,4 +1,5 @@
-//! What the list of conditions promises: a file that no sound institution has breaks a condition in a row that it names.
+//! What the list of conditions promises: rows that no sound institution has break a condition, each in a row that is
+//! named.
 #![tactic(auto)]
 
 pub mod laws;
