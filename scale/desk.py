@@ -72,6 +72,17 @@ class Place:
         os.replace(path + ".new", path)
 
 
+def audited(path):
+    """What the program's audit says of the file of a folder, of which a copy is read, and whether that is sound. It may
+    have suspect entries, which the desk takes."""
+    with tempfile.TemporaryDirectory() as scratch:
+        for name in set(os.listdir(path)) & FILES - {PLACE}:
+            shutil.copy(os.path.join(path, name), scratch)
+        words = [PROGRAM, "audit", "--file", os.path.join(scratch, FILE)]
+        said = subprocess.run(words, stdout=subprocess.PIPE, check=False).stdout.decode().strip()
+    return said, any(line.startswith("sound") for line in said.splitlines())
+
+
 def sum_of(value):
     """The sum by which a line of the log is known again; None for no line."""
     return None if value is None else hashlib.sha256(value).hexdigest()
